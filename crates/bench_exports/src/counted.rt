@@ -1,6 +1,6 @@
 //! A flash that counts what is read of it.
 
-use flash_model::{Flash, FlashError};
+use flash_model::{Flash, Result};
 
 /// A flash that tells how many bytes were read of it. The count stops at 2^64 - 1.
 #[derive(Drop)]
@@ -33,7 +33,7 @@ impl<F: Flash> Flash for Counted<F> {
         self.flash.sectors()
     }
 
-    fn read(&mut self, at: u32, out: &mut [u8]) -> Result<(), FlashError>
+    fn read(&mut self, at: u32, out: &mut [u8]) -> Result<()>
         requires { at + length out.old ≤ size_of (F.chip self.old.flash) }
         ensures same { F.chip self.new.flash ≡ F.chip self.old.flash }
         ensures ok { OnOk result (Reads (F.chip self.old.flash) at out.new) }
@@ -48,11 +48,11 @@ impl<F: Flash> Flash for Counted<F> {
         self.flash.read(at, out)
     }
 
-    fn program(&mut self, at: u32, bytes: &[u8]) -> Result<(), FlashError> {
+    fn program(&mut self, at: u32, bytes: &[u8]) -> Result<()> {
         self.flash.program(at, bytes)
     }
 
-    fn erase(&mut self, sector: u32) -> Result<(), FlashError> {
+    fn erase(&mut self, sector: u32) -> Result<()> {
         self.flash.erase(sector)
     }
 

@@ -6,8 +6,8 @@ use Rattle.std.proofs.lemmas.Bool.Decides.{leb_tells}
 use Rattle.flash_model.specs.Chip.{Chip}
 use Rattle.sector_map.specs.declared.layout.SectorMap.{SectorMap}
 use Rattle.set_log.specs.declared.state.State.{State}
-use Rattle.set_log.specs.declared.state.Kind.{Kind}
-use Rattle.set_log.specs.declared.state.Kind.TheVariants.{Trial}
+use Rattle.set_log.specs.declared.state.RecordKind.{RecordKind}
+use Rattle.set_log.specs.declared.state.RecordKind.TheVariants.{Trial}
 use Rattle.set_log.specs.Record.{fits}
 use Rattle.set_log.specs.Log.{state_of}
 use Rattle.boot_core.proofs.Records.{fits_next, kind_of_read}
@@ -29,5 +29,5 @@ fits_again map chip s left read is less =
     let parts = and_parts (not (s.mask == 0)) (nat_le s.left 6) asked in
     let few : s.left ≤ 6 = le_of_yes s.left 6 parts.1 in
     let small : left ≤ 6 = omega (arith, less, few) in
-    subst (λ (k : Kind). fits map.images (record s { kind = k; left = left }) ≡ true) (sym is)
+    subst (λ (k : RecordKind). fits map.images (record s { kind = k; left = left }) ≡ true) (sym is)
     (fits_next map chip s Trial left read (and_from (not (s.mask == 0)) _ parts.0 (le_yes left 6 small)))

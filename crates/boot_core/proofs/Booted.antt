@@ -4,8 +4,8 @@ use Rattle.std.proofs.lemmas.Result.{IfOk-weaker}
 use Rattle.flash_model.specs.Chip.{Chip, Ends}
 use Rattle.flash_model.specs.declared.error.FlashError.{FlashError}
 use Rattle.sector_map.specs.declared.layout.SectorMap.{SectorMap}
-use Rattle.set_log.specs.declared.state.Kind.{Kind}
-use Rattle.set_log.specs.declared.state.Kind.TheVariants as log
+use Rattle.set_log.specs.declared.state.RecordKind.{RecordKind}
+use Rattle.set_log.specs.declared.state.RecordKind.TheVariants as log
 use Rattle.set_log.specs.declared.state.State.{State}
 use Rattle.set_log.specs.Log.{state_of}
 use Rattle.upload.specs.Device.{DeviceState, Trial}
@@ -94,7 +94,7 @@ boot_after first before so more boot =
 -- ---- a boot from a record, by its kind
 
 -- why it stops in an upgrade
-abbrev pub StopsAs : SectorMap → Kind → ℕ → List ℕ → Chip → Chip → Finding → Type 0
+abbrev pub StopsAs : SectorMap → RecordKind → ℕ → List ℕ → Chip → Chip → Finding → Type 0
 StopsAs map log.Swap mask floors old new finding =
     IsToldAgain (view map new) mask floors finding × IsSwapAloneFor map mask old new finding
 StopsAs map log.Settle mask floors old new finding =
@@ -102,7 +102,7 @@ StopsAs map log.Settle mask floors old new finding =
 StopsAs map other mask floors old new finding = Unit {0}
 
 -- .. and what it writes where it takes nothing
-abbrev pub IdlesAs : SectorMap → Kind → State → Chip → Chip → Type 0
+abbrev pub IdlesAs : SectorMap → RecordKind → State → Chip → Chip → Type 0
 IdlesAs map log.Steady state old new = new ≡ old
 IdlesAs map log.Trial state old new = IsOverAlone map state old new
 IdlesAs map other state old new = Unit {0}
@@ -111,7 +111,7 @@ all_replies : (P : Reply → Type 0) (result : Result Reply FlashError) → ((re
 all_replies P (Ok reply) all = all reply
 all_replies P (Err error) all = tt
 
-module _ (map : SectorMap) (state : State) (left : ℕ) (old new : Chip) (result : Result Reply FlashError) (kind : Kind)
+module _ (map : SectorMap) (state : State) (left : ℕ) (old new : Chip) (result : Result Reply FlashError) (kind : RecordKind)
     (is : state.kind ≡ kind)
     (boot : BootEnds map (left + 1) (Stands map old)
     (λ reply. (s : DeviceState) → Stands map old s → IsWorn map kind state.mask old new reply) old new result) where

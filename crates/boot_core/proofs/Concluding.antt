@@ -6,7 +6,7 @@ use Rattle.flash_model.specs.declared.error.FlashError.{FlashError}
 use Rattle.sector_map.specs.declared.layout.SectorMap.{SectorMap}
 use Rattle.sector_map.specs.Part.{trailers_in}
 use Rattle.sector_map.specs.Map.{IsLaidOut, Keeps}
-use Rattle.set_log.specs.declared.state.Kind.TheVariants as log
+use Rattle.set_log.specs.declared.state.RecordKind.TheVariants as log
 use Rattle.set_log.specs.declared.state.State.{State}
 use Rattle.certificate.specs.declared.table.Table.{Table}
 use Rattle.upload.specs.View.{view}

@@ -5,7 +5,7 @@ use Rattle.flash_model.specs.Chip.{Chip}
 use Rattle.flash_model.specs.declared.error.FlashError.TheVariants as flash
 use Rattle.sector_map.specs.declared.layout.SectorMap.{SectorMap}
 use Rattle.set_log.specs.declared.state.State.{State}
-use Rattle.set_log.specs.declared.state.Kind.TheVariants as log
+use Rattle.set_log.specs.declared.state.RecordKind.TheVariants as log
 use Rattle.manifest.specs.declared.identity.Identity.{Identity}
 use Rattle.manifest.specs.declared.manifest.Manifest as given
 use Rattle.upload.specs.View.{view}

@@ -10,8 +10,8 @@ use Rattle.sector_map.specs.Map.{IsWithin, Keeps}
 use Rattle.sector_map.specs.Part.{Part, Log}
 use Rattle.sector_map.proofs.Masks.{below_shift}
 use Rattle.set_log.specs.declared.state.State.{State}
-use Rattle.set_log.specs.declared.state.Kind.{Kind}
-use Rattle.set_log.specs.declared.state.Kind.TheVariants.{Steady, Swap, Settle, Trial, Back}
+use Rattle.set_log.specs.declared.state.RecordKind.{RecordKind}
+use Rattle.set_log.specs.declared.state.RecordKind.TheVariants.{Steady, Swap, Settle, Trial, Back}
 use Rattle.set_log.specs.Record.{fits, kind_fits}
 use Rattle.set_log.specs.Log.{record_of, state_of, state_said}
 use Rattle.set_log.proofs.Spelled.{spells_of}
@@ -45,7 +45,7 @@ pub has_state : (map : SectorMap) (chip : Chip) (s : State) → state_of map chi
 has_state map chip s read = subst (λ state. IsSome state) (sym read) refl
 
 -- the same set and floors, in the midst of something else
-pub fits_next : (map : SectorMap) (chip : Chip) (s : State) (kind : Kind) (left : ℕ)
+pub fits_next : (map : SectorMap) (chip : Chip) (s : State) (kind : RecordKind) (left : ℕ)
     → state_of map chip ≡ Some s → kind_fits kind s.mask s.permanent left ≡ true
     → fits map.images (record s { kind = kind; left = left }) ≡ true
 fits_next map chip s kind left read asked =
@@ -55,7 +55,7 @@ fits_next map chip s kind left read asked =
     (and_from (kind_fits kind s.mask s.permanent left) _ asked floors)
 
 -- what the kind that stands asks for
-pub kind_of_read : (map : SectorMap) (chip : Chip) (s : State) (kind : Kind) → state_of map chip ≡ Some s
+pub kind_of_read : (map : SectorMap) (chip : Chip) (s : State) (kind : RecordKind) → state_of map chip ≡ Some s
     → s.kind ≡ kind → kind_fits kind s.mask s.permanent s.left ≡ true
 kind_of_read map chip s kind read is =
     let was = and_parts (nat_lt s.mask (2 ^ map.images)) _ (stands_fits map chip s read) in

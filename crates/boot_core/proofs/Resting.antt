@@ -13,8 +13,8 @@ use Rattle.trailer.specs.declared.kinds.Kind as request
 use Rattle.set_log.specs.Log.{state_of}
 use Rattle.set_log.specs.Record.{kind_fits}
 use Rattle.set_log.specs.declared.state.State.{State}
-use Rattle.set_log.specs.declared.state.Kind.{Kind}
-use Rattle.set_log.specs.declared.state.Kind.TheVariants as log
+use Rattle.set_log.specs.declared.state.RecordKind.{RecordKind}
+use Rattle.set_log.specs.declared.state.RecordKind.TheVariants as log
 use Rattle.common.specs.Bytes.{Starts}
 use Rattle.image_reading.specs.declared.desc.Desc.{Desc}
 use Rattle.image_reading.specs.Image.{IsIntact}
@@ -80,7 +80,7 @@ steady_parts mask left false fits =
 
 at_rest : (state : State) → state.kind ≡ log.Steady → state.mask ≡ 0 → state.permanent ≡ false → state.left ≡ 0
     → state ≡ record state { kind = log.Steady; mask = 0; permanent = false; left = 0 }
-at_rest state is none test over = ap (λ (k : Kind). record state { kind = k }) is
+at_rest state is none test over = ap (λ (k : RecordKind). record state { kind = k }) is
     ∙ ap (λ (m : ℕ). record state { kind = log.Steady; mask = m }) none
     ∙ ap (λ (p : Bool). record state { kind = log.Steady; mask = 0; permanent = p }) test
     ∙ ap (λ (l : ℕ). record state { kind = log.Steady; mask = 0; permanent = false; left = l }) over

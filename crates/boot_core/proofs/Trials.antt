@@ -22,7 +22,7 @@ use Rattle.boot_core.specs.Taking.{StepsHere}
 use Rattle.boot_core.proofs.NotReady.{not_down}
 use Rattle.set_log.specs.Log.{state_of}
 use Rattle.set_log.specs.declared.state.State.{State}
-use Rattle.set_log.specs.declared.state.Kind.TheVariants as log
+use Rattle.set_log.specs.declared.state.RecordKind.TheVariants as log
 use Rattle.machine.specs.declared.error.Fault.{Fault}
 use Rattle.machine.specs.declared.error.Fault.TheVariants as no
 use Rattle.boot_core.specs.Confirming.{AnswersTrial, IsOfSet}

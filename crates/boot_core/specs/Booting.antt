@@ -9,7 +9,7 @@ use Rattle.flash_model.specs.declared.error.FlashError.TheVariants.{Off}
 use Rattle.sector_map.specs.declared.layout.SectorMap.{SectorMap}
 use Rattle.manifest.specs.declared.identity.Identity.{Identity}
 use Rattle.set_log.specs.Log.{state_of}
-use Rattle.set_log.specs.declared.state.Kind.TheVariants as log
+use Rattle.set_log.specs.declared.state.RecordKind.TheVariants as log
 use Rattle.set_log.specs.declared.state.State.{State}
 use Rattle.upload.specs.Device.{DeviceState}
 use Rattle.upload.specs.Sessions.{AllClosed, AllOpenAt}

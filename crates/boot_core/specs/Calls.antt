@@ -14,7 +14,7 @@ use Rattle.manifest.specs.declared.manifest.Manifest as given
 use Rattle.manifest.specs.Fault.{IsManifest}
 use Rattle.manifest.specs.Manifest.{NamesImages}
 use Rattle.set_log.specs.Log.{state_of}
-use Rattle.set_log.specs.declared.state.Kind.{Kind}
+use Rattle.set_log.specs.declared.state.RecordKind.{RecordKind}
 use Rattle.set_log.specs.declared.state.State.{State}
 use Rattle.upload.specs.Device.{DeviceState, Machine}
 use Rattle.upload.specs.Accepted.{accepted_parts}
@@ -90,12 +90,12 @@ pub record BootsDevice (old new : Whole) (result : Result Reply Fault) : Type 0 
   pub outside : Keeps old.setup.map any_part old.here.flash new.here.flash
   -- On any flash a boot that was at rest and takes nothing, or is refused, writes nothing.
   pub idle : (state : State) → state_of old.setup.map old.here.flash ≡ Some state
-      → state.kind ≡ Kind.Steady → DoesNothing (reply_of_boot result)
+      → state.kind ≡ RecordKind.Steady → DoesNothing (reply_of_boot result)
       → new.here.flash ≡ old.here.flash
   -- On any flash such a boot from a trial found each image of its set confirmed, and writes the
   -- record that the trial is over, and nothing else.
   pub over : old.here.flash.is_on ≡ true → (state : State)
-      → state_of old.setup.map old.here.flash ≡ Some state → state.kind ≡ Kind.Trial
+      → state_of old.setup.map old.here.flash ≡ Some state → state.kind ≡ RecordKind.Trial
       → DoesNothing (reply_of_boot result)
       → IsOverAlone old.setup.map state old.here.flash new.here.flash
   -- Where the flash is off, that is the answer, and the flash is as it was.

@@ -8,7 +8,7 @@ use Rattle.sector_map.specs.Part.{is_member, swap_of}
 use Rattle.certificate.specs.declared.table.Table.{Table}
 use Rattle.certificate.specs.Combination.{IsGreatest, IsValid, running_set}
 use Rattle.set_log.specs.declared.state.State.{State}
-use Rattle.set_log.specs.declared.state.Kind.TheVariants as log
+use Rattle.set_log.specs.declared.state.RecordKind.TheVariants as log
 use Rattle.upload.specs.View.{View, view}
 use Rattle.upload.specs.Device.{DeviceState}
 use Rattle.machine.specs.Boots.{IsTableOf}

@@ -11,7 +11,7 @@ use Rattle.certificate.specs.declared.table.Table.{Table}
 use Rattle.trailer.specs.Settled.{is_confirmed}
 use Rattle.trailer.specs.declared.kinds.Settling.{Settling}
 use Rattle.set_log.specs.Log.{state_of}
-use Rattle.set_log.specs.declared.state.Kind.TheVariants as log
+use Rattle.set_log.specs.declared.state.RecordKind.TheVariants as log
 use Rattle.set_log.specs.declared.state.State.{State}
 use Rattle.swap_scratch.specs.Swap.{share}
 use Rattle.upload.specs.Device.{DeviceState}

@@ -6,7 +6,7 @@ use Rattle.sector_map.specs.declared.layout.SectorMap.{SectorMap}
 use Rattle.sector_map.specs.declared.layout.Side.TheVariants.{Primary}
 use Rattle.certificate.specs.declared.table.Table.{Table}
 use Rattle.set_log.specs.Log.{state_of}
-use Rattle.set_log.specs.declared.state.Kind.TheVariants as log
+use Rattle.set_log.specs.declared.state.RecordKind.TheVariants as log
 use Rattle.set_log.specs.declared.state.State.{State}
 use Rattle.swap_scratch.specs.Swap.{steps_done, steps_in_all}
 use Rattle.upload.specs.Device.{DeviceState}

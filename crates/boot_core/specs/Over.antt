@@ -3,7 +3,7 @@ use Rattle.std.specs.Prelude.{◌≡◌, ℕ, ◌≤◌, true, false, List, Ok, 
 use Rattle.flash_model.specs.Chip.{Chip}
 use Rattle.sector_map.specs.declared.layout.SectorMap.{SectorMap}
 use Rattle.set_log.specs.States.{Appends}
-use Rattle.set_log.specs.declared.state.Kind.TheVariants.{Steady}
+use Rattle.set_log.specs.declared.state.RecordKind.TheVariants.{Steady}
 use Rattle.set_log.specs.declared.state.State.{State}
 use Rattle.upload.specs.Device.{DeviceState}
 use Rattle.upload.specs.View.{view}

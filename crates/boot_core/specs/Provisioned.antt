@@ -10,7 +10,7 @@ use Rattle.sector_map.specs.Part.{Part, Slot, TrailerOf, Scratch, Log}
 use Rattle.flash_model.specs.Units.{are_erased}
 use Rattle.trailer.specs.Fields.{erased_fields, fields_at, trailer_bytes}
 use Rattle.set_log.specs.Log.{state_of}
-use Rattle.set_log.specs.declared.state.Kind.TheVariants.{Steady}
+use Rattle.set_log.specs.declared.state.RecordKind.TheVariants.{Steady}
 use Rattle.set_log.specs.declared.state.State.{State}
 use Rattle.image_reading.specs.declared.desc.Desc.{Desc}
 use Rattle.image_reading.specs.Image.{BeginsIntact, IsIntact}

@@ -5,7 +5,7 @@ use Rattle.flash_model.specs.declared.error.FlashError.{FlashError}
 use Rattle.sector_map.specs.declared.layout.SectorMap.{SectorMap}
 use Rattle.sector_map.specs.Map.{IsLaidOut, IsWithin, Keeps}
 use Rattle.sector_map.specs.Part.{Log, only}
-use Rattle.set_log.specs.declared.state.Kind.{Kind}
+use Rattle.set_log.specs.declared.state.RecordKind.{RecordKind}
 use Rattle.set_log.specs.declared.state.State.{State}
 use Rattle.set_log.specs.Log.{state_of}
 use Rattle.set_log.specs.States.{Appends}
@@ -16,7 +16,7 @@ pub record HasRecord (map : SectorMap) (state : State) (chip : Chip) : Type 0 wh
   pub read : state_of map chip ≡ Some state
 
 -- So it is, and the state is of this kind.
-pub record HasRecordOf (map : SectorMap) (which : Kind) (state : State) (chip : Chip) : Type 0 where
+pub record HasRecordOf (map : SectorMap) (which : RecordKind) (state : State) (chip : Chip) : Type 0 where
   pub laid_out : IsLaidOut map chip
   pub read : state_of map chip ≡ Some state
   pub kind : state.kind ≡ which

@@ -6,8 +6,8 @@ use Rattle.sector_map.specs.declared.layout.Side.{Side}
 use Rattle.sector_map.specs.declared.layout.Side.TheVariants.{Primary, Secondary}
 use Rattle.sector_map.specs.Map.{slot_sectors}
 use Rattle.sector_map.specs.Part.{is_member}
-use Rattle.set_log.specs.declared.state.Kind.{Kind}
-use Rattle.set_log.specs.declared.state.Kind.TheVariants as log
+use Rattle.set_log.specs.declared.state.RecordKind.{RecordKind}
+use Rattle.set_log.specs.declared.state.RecordKind.TheVariants as log
 use Rattle.swap_scratch.specs.Used.{sectors_for}
 use Rattle.swap_scratch.specs.Swap.{sum_over}
 use Rattle.upload.specs.View.{View, view}
@@ -55,7 +55,7 @@ DoesNothing (Refused fault) = Unit {0}
 DoesNothing other = ⊥
 
 -- The wear of a boot that isn't cut, by the record that stood.
-abbrev pub IsWorn : SectorMap → Kind → ℕ → Chip → Chip → Reply → Type 0
+abbrev pub IsWorn : SectorMap → RecordKind → ℕ → Chip → Chip → Reply → Type 0
 IsWorn map log.Steady mask old new reply = IsAfresh map old new 3 reply
 IsWorn map log.Swap mask old new reply =
     IsResumed map old new Primary mask × IsSetOf mask reply

@@ -4,43 +4,39 @@
 
 ghost use Rattle.boot_core.specs.FromBack.{BootsFromBack, BootsFromBackSettle, FinishesBack, RecordsReturned, SettlesAndReturns, SwapsBack};
 ghost use Rattle.boot_core.specs.Recorded.{HasRecord, HasRecordOf};
-ghost use Rattle.set_log.specs.declared.state.Kind.{Kind};
+ghost use Rattle.set_log.specs.declared.state.RecordKind.{RecordKind};
 
 use crate::recording::append_state;
 use crate::settle::settle_set;
-use flash_model::{Flash, FlashError};
+use flash_model::{Flash, Result};
 use machine::Reply;
 use sector_map::{SectorMap, Side};
-use set_log::{Kind, State, append};
+use set_log::{RecordKind, State, append};
 use swap_scratch::swap_set;
 use trailer::Settling;
 
 /// From Back to BackSettle: the set is swapped back, from wherever the swap stands, and this is
 /// recorded.
-fn swap_back<F: Flash>(flash: &mut F, map: &SectorMap, state: &State) -> Result<State, FlashError>
-    requires { HasRecordOf map.now Kind.Back state.now (F.chip flash.old) }
+fn swap_back<F: Flash>(flash: &mut F, map: &SectorMap, state: &State) -> Result<State>
+    requires { HasRecordOf map.now RecordKind.Back state.now (F.chip flash.old) }
     ensures { SwapsBack map.now state.now (F.chip flash.old) (F.chip flash.new) result }
 {
     let mask = state.mask;
     swap_set(flash, map, mask, Side::Secondary)?;
     let settle = State {
-        kind: Kind::BackSettle,
+        kind: RecordKind::BackSettle,
         ..*state
     };
     append_state(flash, map, settle)
 }
 
 /// At the end of settling: the old images run.
-fn record_returned<F: Flash>(
-    flash: &mut F,
-    map: &SectorMap,
-    state: &State,
-) -> Result<(), FlashError>
+fn record_returned<F: Flash>(flash: &mut F, map: &SectorMap, state: &State) -> Result<()>
     requires { HasRecord map.now state.now (F.chip flash.old) }
     ensures { RecordsReturned map.now (F.chip flash.old) (F.chip flash.new) result }
 {
     let steady = State {
-        kind: Kind::Steady,
+        kind: RecordKind::Steady,
         mask: 0,
         permanent: false,
         left: 0,
@@ -50,11 +46,7 @@ fn record_returned<F: Flash>(
 }
 
 /// From BackSettle to Steady: the trailers are settled, and the old images run.
-fn settle_and_return<F: Flash>(
-    flash: &mut F,
-    map: &SectorMap,
-    state: &State,
-) -> Result<(), FlashError>
+fn settle_and_return<F: Flash>(flash: &mut F, map: &SectorMap, state: &State) -> Result<()>
     requires { HasRecord map.now state.now (F.chip flash.old) }
     ensures { SettlesAndReturns map.now state.now (F.chip flash.old) (F.chip flash.new) result }
 {
@@ -63,8 +55,8 @@ fn settle_and_return<F: Flash>(
 }
 
 /// From Back on: the set is swapped back, from wherever the swap stands, and the old images run.
-fn finish_back<F: Flash>(flash: &mut F, map: &SectorMap, state: &State) -> Result<(), FlashError>
-    requires { HasRecordOf map.now Kind.Back state.now (F.chip flash.old) }
+fn finish_back<F: Flash>(flash: &mut F, map: &SectorMap, state: &State) -> Result<()>
+    requires { HasRecordOf map.now RecordKind.Back state.now (F.chip flash.old) }
     ensures { FinishesBack map.now state.now (F.chip flash.old) (F.chip flash.new) result }
 {
     let settle = swap_back(flash, map, state)?;
@@ -76,8 +68,8 @@ pub(crate) fn boot_from_back<F: Flash>(
     flash: &mut F,
     map: &SectorMap,
     state: &State,
-) -> Result<Reply, FlashError>
-    requires { HasRecordOf map.now Kind.Back state.now (F.chip flash.old) }
+) -> Result<Reply>
+    requires { HasRecordOf map.now RecordKind.Back state.now (F.chip flash.old) }
     ensures { BootsFromBack map.now state.now (F.chip flash.old) (F.chip flash.new) result }
 {
     finish_back(flash, map, state)?;
@@ -89,8 +81,8 @@ pub(crate) fn boot_from_back_settle<F: Flash>(
     flash: &mut F,
     map: &SectorMap,
     state: &State,
-) -> Result<Reply, FlashError>
-    requires { HasRecordOf map.now Kind.BackSettle state.now (F.chip flash.old) }
+) -> Result<Reply>
+    requires { HasRecordOf map.now RecordKind.BackSettle state.now (F.chip flash.old) }
     ensures { BootsFromBackSettle map.now state.now (F.chip flash.old) (F.chip flash.new) result }
 {
     settle_and_return(flash, map, state)?;

@@ -14,36 +14,31 @@ use crate::settle::boot_from_settle;
 use crate::steady::boot_from_steady;
 use crate::swap::boot_from_swap;
 use crate::trial::boot_from_trial;
-use flash_model::{Flash, FlashError};
+use flash_model::{Flash, Result};
 use machine::{Fault, Reply};
 use sector_map::SectorMap;
-use set_log::{Kind, LogError, State, read_state};
+use set_log::{LogError, RecordKind, State, read_state};
 use upload::Uploads;
 
 /// A boot from the record that stands.
-fn boot_from<F: Flash>(
-    flash: &mut F,
-    map: &SectorMap,
-    state: &State,
-    left: u8,
-) -> Result<Reply, FlashError>
+fn boot_from<F: Flash>(flash: &mut F, map: &SectorMap, state: &State, left: u8) -> Result<Reply>
     requires recorded { HasRecord map.now state.now (F.chip flash.old) }
     requires few { left ≤ MOST_BOOTS_LEFT }
     ensures { BootsFrom map.now state.now left (F.chip flash.old) (F.chip flash.new) result }
 {
     match state.kind {
-        Kind::Steady => boot_from_steady(flash, map, state, left),
-        Kind::Swap => boot_from_swap(flash, map, state, left),
-        Kind::Settle => boot_from_settle(flash, map, state, left),
-        Kind::Trial => boot_from_trial(flash, map, state, left),
-        Kind::Back => boot_from_back(flash, map, state),
-        Kind::BackSettle => boot_from_back_settle(flash, map, state),
+        RecordKind::Steady => boot_from_steady(flash, map, state, left),
+        RecordKind::Swap => boot_from_swap(flash, map, state, left),
+        RecordKind::Settle => boot_from_settle(flash, map, state, left),
+        RecordKind::Trial => boot_from_trial(flash, map, state, left),
+        RecordKind::Back => boot_from_back(flash, map, state),
+        RecordKind::BackSettle => boot_from_back_settle(flash, map, state),
     }
 }
 
 /// Boots: what was interrupted is finished, or the images that run are decided. A trial that begins
 /// has so many boots after this one.
-fn boot<F: Flash>(flash: &mut F, map: &SectorMap, left: u8) -> Result<Reply, FlashError>
+fn boot<F: Flash>(flash: &mut F, map: &SectorMap, left: u8) -> Result<Reply>
     requires laid_out { IsLaidOut map.now (F.chip flash.old) }
     requires few { left ≤ MOST_BOOTS_LEFT }
     ensures { BootsFromAny map.now left (F.chip flash.old) (F.chip flash.new) result }

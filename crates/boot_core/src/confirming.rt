@@ -6,25 +6,20 @@ ghost use Rattle.boot_core.specs.Device.{seen};
 ghost use Rattle.boot_core.specs.Taking.{ConfirmsHere};
 ghost use Rattle.sector_map.specs.Map.{IsLaidOut};
 ghost use Rattle.set_log.specs.Log.{state_of};
-ghost use Rattle.set_log.specs.declared.state.Kind.{Kind};
+ghost use Rattle.set_log.specs.declared.state.RecordKind.{RecordKind};
 ghost use Rattle.upload.specs.Sessions.{AllOpenAt};
 ghost use Rattle.upload.specs.View.{view};
 
 use crate::intake::stop;
-use flash_model::{Flash, FlashError};
+use flash_model::{Flash, Result};
 use machine::Fault;
 use sector_map::{SectorMap, is_member};
-use set_log::{Kind, LogError, State, read_state};
+use set_log::{LogError, RecordKind, State, read_state};
 use trailer::set_ok;
 use upload::Uploads;
 
 /// In Trial: an image of the set is confirmed; whether it is one.
-fn confirm_image<F: Flash>(
-    flash: &mut F,
-    map: &SectorMap,
-    state: &State,
-    image: u8,
-) -> Result<bool, FlashError>
+fn confirm_image<F: Flash>(flash: &mut F, map: &SectorMap, state: &State, image: u8) -> Result<bool>
     requires laid_out { IsLaidOut map.now (F.chip flash.old) }
     requires read { state_of map.now (F.chip flash.old) ≡ Some state.now }
     ensures { ConfirmsImage map.now state.now.mask image
@@ -41,19 +36,15 @@ fn confirm_image<F: Flash>(
 }
 
 /// Whether a record is that of a trial.
-pub(crate) fn is_trial(kind: Kind) -> bool
-    ensures yes { result ≡ true → kind ≡ Kind.Trial }
-    ensures other { result ≡ false → kind ≡ Kind.Trial → ⊥ }
+pub(crate) fn is_trial(kind: RecordKind) -> bool
+    ensures yes { result ≡ true → kind ≡ RecordKind.Trial }
+    ensures other { result ≡ false → kind ≡ RecordKind.Trial → ⊥ }
 {
-    matches!(kind, Kind::Trial)
+    matches!(kind, RecordKind::Trial)
 }
 
 /// An image is confirmed, where it is on trial; whether it is.
-pub(crate) fn confirm<F: Flash>(
-    flash: &mut F,
-    map: &SectorMap,
-    image: u8,
-) -> Result<bool, FlashError>
+pub(crate) fn confirm<F: Flash>(flash: &mut F, map: &SectorMap, image: u8) -> Result<bool>
     requires laid_out { IsLaidOut map.now (F.chip flash.old) }
     ensures { Confirms map.now image (F.chip flash.old) (F.chip flash.new) result }
 {

@@ -14,7 +14,7 @@ use arrayvec::ArrayVec;
 use certificate::{Image, Report, Request, Table};
 use common::limits::MOST_IMAGES;
 use decision::find;
-use flash_model::{Flash, FlashError};
+use flash_model::{Flash, Result};
 use machine::{Fault, Finding, Reply};
 use sector_map::{SectorMap, is_member, mask_of};
 use trailer::{Kind, standing};
@@ -46,7 +46,7 @@ pub(crate) fn find_again<F: Flash>(
     map: &SectorMap,
     mask: u8,
     floors: &[u32; MOST_IMAGES],
-) -> Result<Finding, FlashError>
+) -> Result<Finding>
     requires laid_out { IsLaidOut map.now (F.chip flash.old) }
     ensures { FindsAgain map.now mask floors.now (F.chip flash.old) (F.chip flash.new) result }
 {
@@ -98,7 +98,7 @@ pub(crate) fn raised_floors(
 }
 
 /// Whether a request that asks to be permanent stands for an image.
-fn is_for_good<F: Flash>(flash: &mut F, map: &SectorMap, image: u8) -> Result<bool, FlashError>
+fn is_for_good<F: Flash>(flash: &mut F, map: &SectorMap, image: u8) -> Result<bool>
     requires { HasImage map.now image (F.chip flash.old) }
     ensures { Tells (IsForGoodIn map.now image) (F.chip flash.old) (F.chip flash.new) result }
 {
@@ -110,11 +110,7 @@ fn is_for_good<F: Flash>(flash: &mut F, map: &SectorMap, image: u8) -> Result<bo
 ///
 /// # Errors
 /// `Off` where the flash was off. Nothing changes in any case.
-pub(crate) fn asks_for_good<F: Flash>(
-    flash: &mut F,
-    map: &SectorMap,
-    mask: u8,
-) -> Result<bool, FlashError>
+pub(crate) fn asks_for_good<F: Flash>(flash: &mut F, map: &SectorMap, mask: u8) -> Result<bool>
     requires laid_out { IsLaidOut map.now (F.chip flash.old) }
     ensures { Tells (AreForGoodIn map.now mask) (F.chip flash.old) (F.chip flash.new) result }
 {

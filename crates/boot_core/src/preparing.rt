@@ -5,19 +5,14 @@ ghost use Rattle.sector_map.specs.Map.{HasImage, IsLaidOut};
 ghost use Rattle.boot_core.specs.Preparing.{IsSizeIn, IsSwapSizeIn, IsUsedIn};
 ghost use Rattle.boot_core.specs.Preparing.{Prepares, PreparesImage, PreparesMember};
 
-use flash_model::{Flash, FlashError};
+use flash_model::{Flash, Result};
 use image_reading::intact_image;
 use sector_map::{SectorMap, Side, is_member};
 use trailer::{clear, write_size};
 
 /// How many bytes of a slot a swap has to move: those of the image that it begins with, or all of
 /// them where it begins with none.
-fn used_length<F: Flash>(
-    flash: &mut F,
-    map: &SectorMap,
-    image: u8,
-    side: Side,
-) -> Result<u32, FlashError>
+fn used_length<F: Flash>(flash: &mut F, map: &SectorMap, image: u8, side: Side) -> Result<u32>
     requires { HasImage map.now image (F.chip flash.old) }
     ensures { Tells (IsSizeIn map.now image (IsUsedIn map.now image side))
         (F.chip flash.old) (F.chip flash.new) result }
@@ -29,7 +24,7 @@ fn used_length<F: Flash>(
 }
 
 /// How many bytes of each slot of an image a swap has to move.
-fn swap_length<F: Flash>(flash: &mut F, map: &SectorMap, image: u8) -> Result<u32, FlashError>
+fn swap_length<F: Flash>(flash: &mut F, map: &SectorMap, image: u8) -> Result<u32>
     requires { HasImage map.now image (F.chip flash.old) }
     ensures { Tells (IsSizeIn map.now image (IsSwapSizeIn map.now image))
         (F.chip flash.old) (F.chip flash.new) result }
@@ -41,12 +36,7 @@ fn swap_length<F: Flash>(flash: &mut F, map: &SectorMap, image: u8) -> Result<u3
 
 /// Makes a trailer ready to keep the progress of a swap: erases it, and writes the size of the
 /// swap.
-fn prepare_image<F: Flash>(
-    flash: &mut F,
-    map: &SectorMap,
-    image: u8,
-    side: Side,
-) -> Result<(), FlashError>
+fn prepare_image<F: Flash>(flash: &mut F, map: &SectorMap, image: u8, side: Side) -> Result<()>
     requires { HasImage map.now image (F.chip flash.old) }
     ensures { PreparesImage map.now image side (F.chip flash.old) (F.chip flash.new) result }
 {
@@ -62,7 +52,7 @@ fn prepare_member<F: Flash>(
     mask: u8,
     side: Side,
     image: u8,
-) -> Result<(), FlashError>
+) -> Result<()>
     requires { HasImage map.now image (F.chip flash.old) }
     ensures { PreparesMember map.now mask side image (F.chip flash.old) (F.chip flash.new) result }
 {
@@ -83,7 +73,7 @@ pub(crate) fn prepare_set<F: Flash>(
     map: &SectorMap,
     mask: u8,
     side: Side,
-) -> Result<(), FlashError>
+) -> Result<()>
     requires laid_out { IsLaidOut map.now (F.chip flash.old) }
     ensures { Prepares map.now mask side (F.chip flash.old) (F.chip flash.new) result }
 {

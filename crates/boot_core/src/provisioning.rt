@@ -15,11 +15,11 @@ use arrayvec::ArrayVec;
 use certificate::{Image, Request, Table, is_valid};
 use common::limits::MOST_IMAGES;
 use decision::entry_of;
-use flash_model::{Flash, FlashError};
+use flash_model::{Flash, Result};
 use image_reading::{Desc, intact_image};
 use machine::{Fault, Reading};
 use sector_map::{SectorMap, Side};
-use set_log::{Kind, State, start};
+use set_log::{RecordKind, State, start};
 use trailer::clear;
 
 /// The row of an image that runs, by its description: nothing is requested, and its own counter is
@@ -36,11 +36,7 @@ fn running_image(description: Desc) -> Image
 }
 
 /// The row of the image that a primary slot begins with, if that is intact.
-fn read_row<F: Flash>(
-    flash: &mut F,
-    map: &SectorMap,
-    image: u8,
-) -> Result<Option<Image>, FlashError>
+fn read_row<F: Flash>(flash: &mut F, map: &SectorMap, image: u8) -> Result<Option<Image>>
     requires { HasImage map.now image (F.chip flash.old) }
     ensures { TellsUnlessOff (IsRowIn map.now image) (F.chip flash.old) (F.chip flash.new) result }
 {
@@ -51,7 +47,7 @@ fn read_row<F: Flash>(
 }
 
 /// The table of what the primary slots begin with, or the lowest image that isn't intact.
-fn read_running<F: Flash>(flash: &mut F, map: &SectorMap) -> Result<Reading, FlashError>
+fn read_running<F: Flash>(flash: &mut F, map: &SectorMap) -> Result<Reading>
     requires laid_out { IsLaidOut map.now (F.chip flash.old) }
     ensures { TellsUnlessOff (IsReadThere map.now) (F.chip flash.old) (F.chip flash.new) result }
 {
@@ -89,7 +85,7 @@ fn judge<F: Flash>(flash: &mut F, map: &SectorMap) -> Result<[u32; MOST_IMAGES],
 }
 
 /// Erases both trailers of an image.
-fn clear_image<F: Flash>(flash: &mut F, map: &SectorMap, image: u8) -> Result<(), FlashError>
+fn clear_image<F: Flash>(flash: &mut F, map: &SectorMap, image: u8) -> Result<()>
     requires { HasImage map.now image (F.chip flash.old) }
     ensures { Leaves map.now (trailers_of image) (IsClearedIn map.now image)
         (F.chip flash.old) (F.chip flash.new) result }
@@ -99,7 +95,7 @@ fn clear_image<F: Flash>(flash: &mut F, map: &SectorMap, image: u8) -> Result<()
 }
 
 /// Erases the trailers of all images.
-fn clear_all<F: Flash>(flash: &mut F, map: &SectorMap) -> Result<(), FlashError>
+fn clear_all<F: Flash>(flash: &mut F, map: &SectorMap) -> Result<()>
     requires laid_out { IsLaidOut map.now (F.chip flash.old) }
     ensures { Leaves map.now any_trailer (AreClearedIn map.now)
         (F.chip flash.old) (F.chip flash.new) result }
@@ -112,11 +108,7 @@ fn clear_all<F: Flash>(flash: &mut F, map: &SectorMap) -> Result<(), FlashError>
 }
 
 /// Erases the trailers of all images, and begins the log at rest, with these floors.
-fn begin_afresh<F: Flash>(
-    flash: &mut F,
-    map: &SectorMap,
-    floors: &[u32; MOST_IMAGES],
-) -> Result<(), FlashError>
+fn begin_afresh<F: Flash>(flash: &mut F, map: &SectorMap, floors: &[u32; MOST_IMAGES]) -> Result<()>
     requires laid_out { IsLaidOut map.now (F.chip flash.old) }
     requires rest { (i : ℕ) → map.now.images ≤ i → slice_index floors.now i ≡ 0 }
     ensures { BeginsAfresh map.now floors.now
@@ -124,7 +116,7 @@ fn begin_afresh<F: Flash>(
 {
     clear_all(flash, map)?;
     let state = State {
-        kind: Kind::Steady,
+        kind: RecordKind::Steady,
         mask: 0,
         permanent: false,
         sequence: 0,

@@ -8,15 +8,15 @@ ghost use Rattle.common.specs.Limits.{MOST_BOOTS_LEFT};
 ghost use Rattle.boot_core.specs.FromSettle.{BootsFromSettle, CanSettle, FinishesSettle, RecordsTaken, SettlesAndRecords, SettlesFound, SettlesMember, SettlesSet};
 ghost use Rattle.boot_core.specs.Recorded.{HasRecord, HasRecordOf};
 ghost use Rattle.sector_map.specs.Map.{HasImage, IsLaidOut};
-ghost use Rattle.set_log.specs.declared.state.Kind.{Kind};
+ghost use Rattle.set_log.specs.declared.state.RecordKind.{RecordKind};
 ghost use Rattle.trailer.specs.Settled.{is_confirmed};
 
 use crate::deciding::{find_again, raised_floors, reply_to};
 use common::limits::MOST_IMAGES;
-use flash_model::{Flash, FlashError};
+use flash_model::{Flash, Result};
 use machine::{Finding, Reply};
 use sector_map::{SectorMap, is_member};
-use set_log::{Kind, State, append};
+use set_log::{RecordKind, State, append};
 use trailer::{Settling, settle};
 
 /// What a set is settled for: to stay, or to be tried.
@@ -37,7 +37,7 @@ fn settle_member<F: Flash>(
     mask: u8,
     image: u8,
     settling: Settling,
-) -> Result<(), FlashError>
+) -> Result<()>
     requires { HasImage map.now image (F.chip flash.old) }
     ensures { SettlesMember map.now mask image settling
         (F.chip flash.old) (F.chip flash.new) result }
@@ -54,7 +54,7 @@ pub(crate) fn settle_set<F: Flash>(
     map: &SectorMap,
     mask: u8,
     settling: Settling,
-) -> Result<(), FlashError>
+) -> Result<()>
     requires { IsLaidOut map.now (F.chip flash.old) }
     ensures { SettlesSet map.now mask settling (F.chip flash.old) (F.chip flash.new) result }
 {
@@ -65,19 +65,14 @@ pub(crate) fn settle_set<F: Flash>(
 }
 
 /// From Settle to Trial: the set is on trial, of so many boots more.
-fn record_trial<F: Flash>(
-    flash: &mut F,
-    map: &SectorMap,
-    state: &State,
-    left: u8,
-) -> Result<(), FlashError>
-    requires recorded { HasRecordOf map.now Kind.Settle state.now (F.chip flash.old) }
+fn record_trial<F: Flash>(flash: &mut F, map: &SectorMap, state: &State, left: u8) -> Result<()>
+    requires recorded { HasRecordOf map.now RecordKind.Settle state.now (F.chip flash.old) }
     requires few { left ≤ MOST_BOOTS_LEFT }
     ensures { (floors : List ℕ)
         → RecordsTaken map.now false left floors (F.chip flash.old) (F.chip flash.new) result }
 {
     let trial = State {
-        kind: Kind::Trial,
+        kind: RecordKind::Trial,
         left,
         ..*state
     };
@@ -91,7 +86,7 @@ fn record_taken<F: Flash>(
     map: &SectorMap,
     state: &State,
     floors: [u32; MOST_IMAGES],
-) -> Result<(), FlashError>
+) -> Result<()>
     requires recorded { HasRecord map.now state.now (F.chip flash.old) }
     requires rest { (i : ℕ) → map.now.images ≤ i
         → slice_index floors i ≡ slice_index state.now.floors i }
@@ -99,7 +94,7 @@ fn record_taken<F: Flash>(
         → RecordsTaken map.now true left floors (F.chip flash.old) (F.chip flash.new) result }
 {
     let steady = State {
-        kind: Kind::Steady,
+        kind: RecordKind::Steady,
         mask: 0,
         permanent: false,
         left: 0,
@@ -116,8 +111,8 @@ pub(crate) fn settle_and_record<F: Flash>(
     state: &State,
     left: u8,
     floors: [u32; MOST_IMAGES],
-) -> Result<(), FlashError>
-    requires recorded { HasRecordOf map.now Kind.Settle state.now (F.chip flash.old) }
+) -> Result<()>
+    requires recorded { HasRecordOf map.now RecordKind.Settle state.now (F.chip flash.old) }
     requires few { left ≤ MOST_BOOTS_LEFT }
     requires rest { (i : ℕ) → map.now.images ≤ i
         → slice_index floors i ≡ slice_index state.now.floors i }
@@ -140,7 +135,7 @@ pub(crate) fn settle_found<F: Flash>(
     state: &State,
     left: u8,
     finding: Finding,
-) -> Result<Finding, FlashError>
+) -> Result<Finding>
     requires { CanSettle map.now state.now left finding (F.chip flash.old) }
     ensures { SettlesFound map.now state.now left finding
         (F.chip flash.old) (F.chip flash.new) result }
@@ -162,8 +157,8 @@ fn finish_settle<F: Flash>(
     map: &SectorMap,
     state: &State,
     left: u8,
-) -> Result<Finding, FlashError>
-    requires recorded { HasRecordOf map.now Kind.Settle state.now (F.chip flash.old) }
+) -> Result<Finding>
+    requires recorded { HasRecordOf map.now RecordKind.Settle state.now (F.chip flash.old) }
     requires few { left ≤ MOST_BOOTS_LEFT }
     ensures { FinishesSettle map.now state.now left (F.chip flash.old) (F.chip flash.new) result }
 {
@@ -177,8 +172,8 @@ pub(crate) fn boot_from_settle<F: Flash>(
     map: &SectorMap,
     state: &State,
     left: u8,
-) -> Result<Reply, FlashError>
-    requires recorded { HasRecordOf map.now Kind.Settle state.now (F.chip flash.old) }
+) -> Result<Reply>
+    requires recorded { HasRecordOf map.now RecordKind.Settle state.now (F.chip flash.old) }
     requires few { left ≤ MOST_BOOTS_LEFT }
     ensures { BootsFromSettle map.now state.now left (F.chip flash.old) (F.chip flash.new) result }
 {

@@ -12,10 +12,10 @@ use crate::preparing::prepare_set;
 use crate::recording::append_state;
 use crate::swap::finish_swap;
 use decision::find;
-use flash_model::{Flash, FlashError};
+use flash_model::{Flash, Result};
 use machine::{Fault, Finding, Reply};
 use sector_map::{SectorMap, Side};
-use set_log::{Kind, State};
+use set_log::{RecordKind, State};
 
 /// From Steady to Swap: the trailers of the set are made ready to count the swap, and then the
 /// decision is recorded, so that no swap begins that no record tells of.
@@ -25,14 +25,14 @@ fn begin_swap<F: Flash>(
     state: &State,
     mask: u8,
     permanent: bool,
-) -> Result<State, FlashError>
+) -> Result<State>
     requires { CanTake map.now state.now mask (F.chip flash.old) }
     ensures { BeginsSwap map.now state.now mask permanent
         (F.chip flash.old) (F.chip flash.new) result }
 {
     prepare_set(flash, map, mask, Side::Primary)?;
     let swap = State {
-        kind: Kind::Swap,
+        kind: RecordKind::Swap,
         mask,
         permanent,
         left: 0,
@@ -48,7 +48,7 @@ fn upgrade<F: Flash>(
     state: &State,
     mask: u8,
     left: u8,
-) -> Result<Reply, FlashError>
+) -> Result<Reply>
     requires chosen { CanTake map.now state.now mask (F.chip flash.old) }
     requires few { left ≤ MOST_BOOTS_LEFT }
     ensures { Upgrades map.now mask left (F.chip flash.old) (F.chip flash.new) result }
@@ -65,7 +65,7 @@ pub(crate) fn boot_from_steady<F: Flash>(
     map: &SectorMap,
     state: &State,
     left: u8,
-) -> Result<Reply, FlashError>
+) -> Result<Reply>
     requires recorded { HasRecord map.now state.now (F.chip flash.old) }
     requires few { left ≤ MOST_BOOTS_LEFT }
     ensures { BootsFromSteady map.now left (F.chip flash.old) (F.chip flash.new) result }

@@ -6,25 +6,21 @@ ghost use Rattle.std.specs.Prelude.{◌≤◌};
 ghost use Rattle.common.specs.Limits.{MOST_BOOTS_LEFT};
 ghost use Rattle.boot_core.specs.FromSwap.{BootsFromSwap, FinishesSwap, SwapsForth};
 ghost use Rattle.boot_core.specs.Recorded.{HasRecordOf};
-ghost use Rattle.set_log.specs.declared.state.Kind.{Kind};
+ghost use Rattle.set_log.specs.declared.state.RecordKind.{RecordKind};
 
 use crate::deciding::{find_again, reply_to};
 use crate::recording::append_state;
 use crate::settle::settle_found;
-use flash_model::{Flash, FlashError};
+use flash_model::{Flash, Result};
 use machine::{Finding, Reply};
 use sector_map::{SectorMap, Side};
-use set_log::{Kind, State};
+use set_log::{RecordKind, State};
 use swap_scratch::swap_set;
 
 /// From Swap to Settle: the swap is done, from wherever it stands, the decision is found again, and
 /// this is recorded. Where it isn't found nothing but the swap is written.
-fn swap_forth<F: Flash>(
-    flash: &mut F,
-    map: &SectorMap,
-    state: &State,
-) -> Result<Finding, FlashError>
-    requires { HasRecordOf map.now Kind.Swap state.now (F.chip flash.old) }
+fn swap_forth<F: Flash>(flash: &mut F, map: &SectorMap, state: &State) -> Result<Finding>
+    requires { HasRecordOf map.now RecordKind.Swap state.now (F.chip flash.old) }
     ensures { SwapsForth map.now state.now (F.chip flash.old) (F.chip flash.new) result }
 {
     let mask = state.mask;
@@ -32,7 +28,7 @@ fn swap_forth<F: Flash>(
     match find_again(flash, map, mask, &state.floors)? {
         Finding::Decided { table, report } => {
             let settle = State {
-                kind: Kind::Settle,
+                kind: RecordKind::Settle,
                 ..*state
             };
             append_state(flash, map, settle)?;
@@ -50,15 +46,15 @@ pub(crate) fn finish_swap<F: Flash>(
     map: &SectorMap,
     state: &State,
     left: u8,
-) -> Result<Finding, FlashError>
-    requires recorded { HasRecordOf map.now Kind.Swap state.now (F.chip flash.old) }
+) -> Result<Finding>
+    requires recorded { HasRecordOf map.now RecordKind.Swap state.now (F.chip flash.old) }
     requires few { left ≤ MOST_BOOTS_LEFT }
     ensures { FinishesSwap map.now state.now left (F.chip flash.old) (F.chip flash.new) result }
 {
     match swap_forth(flash, map, state)? {
         Finding::Decided { table, report } => {
             let settle = State {
-                kind: Kind::Settle,
+                kind: RecordKind::Settle,
                 ..*state
             };
             settle_found(
@@ -79,8 +75,8 @@ pub(crate) fn boot_from_swap<F: Flash>(
     map: &SectorMap,
     state: &State,
     left: u8,
-) -> Result<Reply, FlashError>
-    requires recorded { HasRecordOf map.now Kind.Swap state.now (F.chip flash.old) }
+) -> Result<Reply>
+    requires recorded { HasRecordOf map.now RecordKind.Swap state.now (F.chip flash.old) }
     requires few { left ≤ MOST_BOOTS_LEFT }
     ensures { BootsFromSwap map.now state.now left (F.chip flash.old) (F.chip flash.new) result }
 {

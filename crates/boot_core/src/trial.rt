@@ -10,7 +10,7 @@ ghost use Rattle.boot_core.specs.Recorded.{HasRecord, HasRecordOf};
 ghost use Rattle.decision.specs.Telling.{Tells};
 ghost use Rattle.sector_map.specs.Map.{HasImage, IsLaidOut};
 ghost use Rattle.set_log.specs.Log.{state_of};
-ghost use Rattle.set_log.specs.declared.state.Kind.{Kind};
+ghost use Rattle.set_log.specs.declared.state.RecordKind.{RecordKind};
 
 use crate::back::boot_from_back;
 use crate::preparing::prepare_set;
@@ -18,14 +18,14 @@ use crate::recording::append_state;
 use crate::steady::boot_from_steady;
 use common::limits::MOST_IMAGES;
 use decision::read_slot;
-use flash_model::{Flash, FlashError};
+use flash_model::{Flash, Result};
 use machine::{Passage, Reply};
 use sector_map::{SectorMap, Side, is_member};
-use set_log::{Kind, State, append};
+use set_log::{RecordKind, State, append};
 use trailer::read_trailer;
 
 /// Whether an image is confirmed.
-fn is_confirmed<F: Flash>(flash: &mut F, map: &SectorMap, image: u8) -> Result<bool, FlashError>
+fn is_confirmed<F: Flash>(flash: &mut F, map: &SectorMap, image: u8) -> Result<bool>
     requires { HasImage map.now image (F.chip flash.old) }
     ensures { Tells (IsConfirmedIn map.now image) (F.chip flash.old) (F.chip flash.new) result }
 {
@@ -34,7 +34,7 @@ fn is_confirmed<F: Flash>(flash: &mut F, map: &SectorMap, image: u8) -> Result<b
 }
 
 /// Whether each image of a set is confirmed.
-fn is_all_confirmed<F: Flash>(flash: &mut F, map: &SectorMap, mask: u8) -> Result<bool, FlashError>
+fn is_all_confirmed<F: Flash>(flash: &mut F, map: &SectorMap, mask: u8) -> Result<bool>
     requires { IsLaidOut map.now (F.chip flash.old) }
     ensures { Tells (AreConfirmedIn map.now mask) (F.chip flash.old) (F.chip flash.new) result }
 {
@@ -50,7 +50,7 @@ fn is_all_confirmed<F: Flash>(flash: &mut F, map: &SectorMap, mask: u8) -> Resul
 }
 
 /// Whether the running bytes of an image are no intact image.
-fn is_damaged<F: Flash>(flash: &mut F, map: &SectorMap, image: u8) -> Result<bool, FlashError>
+fn is_damaged<F: Flash>(flash: &mut F, map: &SectorMap, image: u8) -> Result<bool>
     requires { HasImage map.now image (F.chip flash.old) }
     ensures { Tells (IsDamagedIn map.now image) (F.chip flash.old) (F.chip flash.new) result }
 {
@@ -61,7 +61,7 @@ fn is_damaged<F: Flash>(flash: &mut F, map: &SectorMap, image: u8) -> Result<boo
 }
 
 /// Whether a running image is damaged, of the set or not.
-fn is_any_damaged<F: Flash>(flash: &mut F, map: &SectorMap) -> Result<bool, FlashError>
+fn is_any_damaged<F: Flash>(flash: &mut F, map: &SectorMap) -> Result<bool>
     requires { IsLaidOut map.now (F.chip flash.old) }
     ensures { Tells (IsAnyDamagedIn map.now) (F.chip flash.old) (F.chip flash.new) result }
 {
@@ -75,12 +75,7 @@ fn is_any_damaged<F: Flash>(flash: &mut F, map: &SectorMap) -> Result<bool, Flas
 }
 
 /// A floor raised to the counter of the image that runs. A damaged one raises nothing.
-fn floor_of<F: Flash>(
-    flash: &mut F,
-    map: &SectorMap,
-    image: u8,
-    floor: u32,
-) -> Result<u32, FlashError>
+fn floor_of<F: Flash>(flash: &mut F, map: &SectorMap, image: u8, floor: u32) -> Result<u32>
     requires { HasImage map.now image (F.chip flash.old) }
     ensures { Tells (IsFloorIn map.now image floor) (F.chip flash.old) (F.chip flash.new) result }
 {
@@ -95,7 +90,7 @@ fn raise_running<F: Flash>(
     flash: &mut F,
     map: &SectorMap,
     floors: &[u32; MOST_IMAGES],
-) -> Result<[u32; MOST_IMAGES], FlashError>
+) -> Result<[u32; MOST_IMAGES]>
     requires { IsLaidOut map.now (F.chip flash.old) }
     ensures { RaisesFloors map.now floors.now (F.chip flash.old) (F.chip flash.new) result }
 {
@@ -109,11 +104,7 @@ fn raise_running<F: Flash>(
 
 /// How a boot goes on from a trial: it is over where each image of the set is confirmed; else the
 /// set goes back where no boot is left or a running image is damaged; else it is tried again.
-fn decide_trial<F: Flash>(
-    flash: &mut F,
-    map: &SectorMap,
-    state: &State,
-) -> Result<Passage, FlashError>
+fn decide_trial<F: Flash>(flash: &mut F, map: &SectorMap, state: &State) -> Result<Passage>
     requires laid_out { IsLaidOut map.now (F.chip flash.old) }
     requires read { state_of map.now (F.chip flash.old) ≡ Some state.now }
     ensures { DecidesTrial map.now state.now (F.chip flash.old) (F.chip flash.new) result }
@@ -140,7 +131,7 @@ fn record_over<F: Flash>(
     map: &SectorMap,
     state: &State,
     floors: [u32; MOST_IMAGES],
-) -> Result<State, FlashError>
+) -> Result<State>
     requires laid_out { IsLaidOut map.now (F.chip flash.old) }
     requires read { state_of map.now (F.chip flash.old) ≡ Some state.now }
     requires rest { (i : ℕ) → map.now.images ≤ i
@@ -148,7 +139,7 @@ fn record_over<F: Flash>(
     ensures { RecordsOver map.now state.now floors (F.chip flash.old) (F.chip flash.new) result }
 {
     let steady = State {
-        kind: Kind::Steady,
+        kind: RecordKind::Steady,
         mask: 0,
         permanent: false,
         left: 0,
@@ -160,12 +151,7 @@ fn record_over<F: Flash>(
 
 /// From a trial that is wholly confirmed: the set runs on, with raised floors, and the decision is
 /// made.
-fn boot_over<F: Flash>(
-    flash: &mut F,
-    map: &SectorMap,
-    state: &State,
-    left: u8,
-) -> Result<Reply, FlashError>
+fn boot_over<F: Flash>(flash: &mut F, map: &SectorMap, state: &State, left: u8) -> Result<Reply>
     requires recorded { HasRecord map.now state.now (F.chip flash.old) }
     requires few { left ≤ MOST_BOOTS_LEFT }
     ensures { BootsConfirmed map.now state.now left (F.chip flash.old) (F.chip flash.new) result }
@@ -176,8 +162,8 @@ fn boot_over<F: Flash>(
 }
 
 /// From a trial that goes on: one boot less is left.
-fn boot_again<F: Flash>(flash: &mut F, map: &SectorMap, state: &State) -> Result<Reply, FlashError>
-    requires recorded { HasRecordOf map.now Kind.Trial state.now (F.chip flash.old) }
+fn boot_again<F: Flash>(flash: &mut F, map: &SectorMap, state: &State) -> Result<Reply>
+    requires recorded { HasRecordOf map.now RecordKind.Trial state.now (F.chip flash.old) }
     requires more { 0 < state.now.left }
     ensures { BootsAgain map.now (F.chip flash.old) (F.chip flash.new) result }
 {
@@ -191,13 +177,13 @@ fn boot_again<F: Flash>(flash: &mut F, map: &SectorMap, state: &State) -> Result
 
 /// From Trial to Back: the secondary trailers of the set are made ready to count the swap back, and
 /// then going back is recorded. The primary ones stay, which say that it is a trial.
-fn begin_back<F: Flash>(flash: &mut F, map: &SectorMap, state: &State) -> Result<State, FlashError>
-    requires { HasRecordOf map.now Kind.Trial state.now (F.chip flash.old) }
+fn begin_back<F: Flash>(flash: &mut F, map: &SectorMap, state: &State) -> Result<State>
+    requires { HasRecordOf map.now RecordKind.Trial state.now (F.chip flash.old) }
     ensures { BeginsBack map.now state.now (F.chip flash.old) (F.chip flash.new) result }
 {
     prepare_set(flash, map, state.mask, Side::Secondary)?;
     let back = State {
-        kind: Kind::Back,
+        kind: RecordKind::Back,
         left: 0,
         ..*state
     };
@@ -205,8 +191,8 @@ fn begin_back<F: Flash>(flash: &mut F, map: &SectorMap, state: &State) -> Result
 }
 
 /// From a trial that goes back.
-fn boot_back<F: Flash>(flash: &mut F, map: &SectorMap, state: &State) -> Result<Reply, FlashError>
-    requires { HasRecordOf map.now Kind.Trial state.now (F.chip flash.old) }
+fn boot_back<F: Flash>(flash: &mut F, map: &SectorMap, state: &State) -> Result<Reply>
+    requires { HasRecordOf map.now RecordKind.Trial state.now (F.chip flash.old) }
     ensures { BootsBack map.now (F.chip flash.old) (F.chip flash.new) result }
 {
     let back = begin_back(flash, map, state)?;
@@ -219,8 +205,8 @@ pub(crate) fn boot_from_trial<F: Flash>(
     map: &SectorMap,
     state: &State,
     left: u8,
-) -> Result<Reply, FlashError>
-    requires recorded { HasRecordOf map.now Kind.Trial state.now (F.chip flash.old) }
+) -> Result<Reply>
+    requires recorded { HasRecordOf map.now RecordKind.Trial state.now (F.chip flash.old) }
     requires few { left ≤ MOST_BOOTS_LEFT }
     ensures { BootsFromTrial map.now state.now left (F.chip flash.old) (F.chip flash.new) result }
 {

@@ -22,7 +22,7 @@ use Rattle.machine.specs.declared.reply.Reply.TheVariants as reply_is
 use Rattle.boot_core.specs.Answers.{reply_of_result}
 use Rattle.boot_core.specs.Provisions.{Provisions}
 use Rattle.slice_flash.specs.Rows.{cutting_of, fixed_by, kind_of, numbers_in, pattern_of}
-use Rattle.slice_flash.specs.declared.table.Cut.{Cut}
+use Rattle.slice_flash.specs.declared.table.ArmedCut.{ArmedCut}
 use Rattle.slice_flash.specs.declared.table.Left.{Left}
 use Rattle.slice_flash.specs.declared.table.Left.TheVariants.{Keep, Done, Bytes}
 use Rattle.c_interface.specs.declared.dispatch.DeviceCall.{DeviceCall}
@@ -43,7 +43,7 @@ left_same row (Bytes pattern) (more, is) =
     let first : (row.left == 1) ≡ false = ne_eqb row.left 1 (λ e. absurd (omega (arith, e, more))) in
     rw (zeroth, first) (refl, is)
 
-cutting_same : (row : CutRow) (cut : Cut) → IsCutOf row cut → cutting_of cut ≡ cutting_by row
+cutting_same : (row : CutRow) (cut : ArmedCut) → IsCutOf row cut → cutting_of cut ≡ cutting_by row
 cutting_same row cut is =
     let built : ℕ → ℕ → List ℕ → Cutting = λ n k p. record { number = n; kind = k; pattern = p } in
     let left = left_same row cut.left is.left in
@@ -52,23 +52,23 @@ cutting_same row cut is =
     ∙ ap (λ (p : List ℕ). built row.write (kind_by row) p) left.1
 
 -- The later rows are the later cuts.
-rest_of : (row : CutRow) (rows : List CutRow) (cut : Cut) (table : List Cut) → AreCutsOf (row ∷ rows) (cut ∷ table)
+rest_of : (row : CutRow) (rows : List CutRow) (cut : ArmedCut) (table : List ArmedCut) → AreCutsOf (row ∷ rows) (cut ∷ table)
     → AreCutsOf rows table
 rest_of row rows cut table are = record {
   each = λ k r is. are.each (suc k) r is;
   rest = λ k c past is. are.rest (suc k) c (omega (arith, past)) is;
 }
 
-first_of : (row : CutRow) (rows : List CutRow) (cut : Cut) (table : List Cut) → AreCutsOf (row ∷ rows) (cut ∷ table)
+first_of : (row : CutRow) (rows : List CutRow) (cut : ArmedCut) (table : List ArmedCut) → AreCutsOf (row ∷ rows) (cut ∷ table)
     → IsCutOf row cut
 first_of row rows cut table are =
     let is = are.each 0 row refl in
-    subst (λ (c : Cut). IsCutOf row c) (sym (same_some cut is.0 is.1)) is.2
+    subst (λ (c : ArmedCut). IsCutOf row c) (sym (same_some cut is.0 is.1)) is.2
   where
-    same_some : (a b : Cut) → Some a ≡ Some b → a ≡ b
+    same_some : (a b : ArmedCut) → Some a ≡ Some b → a ≡ b
     same_some a b e = same_Some a b e
 
-rows_leave : (n : ℕ) (rows : List CutRow) (table : List Cut) → n ≡ length rows → n ≤ length table → AreCutsOf rows table
+rows_leave : (n : ℕ) (rows : List CutRow) (table : List ArmedCut) → n ≡ length rows → n ≤ length table → AreCutsOf rows table
     → map cutting_of (take n table) ≡ map cutting_by rows
 rows_leave zero [] table is few are = refl
 rows_leave zero (row ∷ rows) table is few are = absurd (omega (arith, is))
@@ -80,7 +80,7 @@ rows_leave (suc n) (row ∷ rows) (cut ∷ table) is few are =
     (rows_leave n rows table (omega (arith, is)) (omega (arith, few)) (rest_of row rows cut table are))
 
 -- A table asks for the same cuts as the rows that it was made of.
-pub same_asked : (rows : List CutRow) (table : List Cut) → AreCutsOf rows table → length rows ≤ length table
+pub same_asked : (rows : List CutRow) (table : List ArmedCut) → AreCutsOf rows table → length rows ≤ length table
     → fixed_by (take (length rows) table) [] 0 ≡ asked_by rows
 same_asked rows table are few =
     let these = take (length rows) table in
@@ -124,7 +124,7 @@ last_alone numbers (suc n) one is k some before =
 
 -- ---- what the writes made
 
-written_alike : (size : ℕ) (table : List Cut) (first bytes : List ℕ) (name writes : ℕ)
+written_alike : (size : ℕ) (table : List ArmedCut) (first bytes : List ℕ) (name writes : ℕ)
     → IsWrittenBy size (fixed_by table first name) bytes writes
     → IsWrittenBy size (record (fixed_by table [] 0) { first = first }) bytes writes
 written_alike size table first bytes name writes was =
@@ -137,7 +137,7 @@ written_alike size table first bytes name writes was =
       taken = are_writes_same size a b was.journal refl (λ k old done some within. refl) was.taken;
     }
 
-pub writes_as_asked : (table : List Cut) (size name : ℕ) (first : List ℕ) (before left : Chip) (reply : Reply) (writes : ℕ)
+pub writes_as_asked : (table : List ArmedCut) (size name : ℕ) (first : List ℕ) (before left : Chip) (reply : Reply) (writes : ℕ)
     → left.fixed ≡ fixed_by table first name → left.sector_size ≡ size
     → IsCutAsAsked (numbers_in table) before left reply writes → (cut_of reply ≡ 1 → left.is_on ≡ false)
     → (left.is_on ≡ false → list_any (λ number. number == left.writes) left.fixed.numbers ≡ true)

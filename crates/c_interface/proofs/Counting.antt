@@ -16,7 +16,7 @@ use Rattle.machine.specs.declared.reply.Reply.{Reply}
 use Rattle.boot_core.specs.Answers.{reply_of_result}
 use Rattle.boot_core.specs.Provisions.{Provisions}
 use Rattle.slice_flash.specs.Rows.{numbers_in}
-use Rattle.slice_flash.specs.declared.table.Cut.{Cut}
+use Rattle.slice_flash.specs.declared.table.ArmedCut.{ArmedCut}
 use Rattle.c_interface.specs.declared.dispatch.DeviceCall.{DeviceCall}
 use Rattle.c_interface.specs.declared.dispatch.DeviceCall.TheVariants.{Accept, Piece, Finish, Withdraw, Confirm, Boot}
 use Rattle.c_interface.specs.declared.cuts.CutRow.{CutRow}
@@ -28,27 +28,27 @@ use Rattle.c_interface.specs.Cuts.{AreCutsOf, IsCutAsAsked, numbers_of}
 abbrev no_row : CutRow
 no_row = record { write = 0; left = 0; pattern_length = 0; pattern = [] }
 
-numbers_at : (rows : List CutRow) (table : List Cut) → AreCutsOf rows table → (k : ℕ) → k < length rows
+numbers_at : (rows : List CutRow) (table : List ArmedCut) → AreCutsOf rows table → (k : ℕ) → k < length rows
     → get_or (numbers_in table) k 0 ≡ get_or (numbers_of rows) k 0
 numbers_at rows table are k below =
     let row = get_or rows k no_row in
     let there = slice_get-get_or rows k no_row below in
     let is = are.each k row there in
     let first = get_or_from_slice_get (numbers_in table) k is.0.write 0
-    (slice_get-map (λ (cut : Cut). cut.write) table k ∙ ap (option_map (λ (cut : Cut). cut.write)) is.1) in
+    (slice_get-map (λ (cut : ArmedCut). cut.write) table k ∙ ap (option_map (λ (cut : ArmedCut). cut.write)) is.1) in
     let second = get_or_from_slice_get (numbers_of rows) k row.write 0
     (slice_get-map (λ (r : CutRow). r.write) rows k ∙ ap (option_map (λ (r : CutRow). r.write)) there) in
     first ∙ is.2.write ∙ sym second
 
-pub same_numbers : (rows : List CutRow) (table : List Cut) → AreCutsOf rows table → length rows ≤ length table
+pub same_numbers : (rows : List CutRow) (table : List ArmedCut) → AreCutsOf rows table → length rows ≤ length table
     → numbers_in (take (length rows) table) ≡ numbers_of rows
 same_numbers rows table are few =
     let long : length (numbers_in (take (length rows) table)) ≡ length rows =
-    length-map (take (length rows) table) (λ (cut : Cut). cut.write) ∙ length-take-le (length rows) table few in
+    length-map (take (length rows) table) (λ (cut : ArmedCut). cut.write) ∙ length-take-le (length rows) table few in
     ext_get_or 0 (numbers_in (take (length rows) table)) (numbers_of rows)
     (long ∙ sym (length-map rows (λ (r : CutRow). r.write)))
     (λ k below. let inside : k < length rows = subst (λ n. k < n) long below in
-    ap (λ (l : List ℕ). get_or l k 0) (sym (take-map (λ (cut : Cut). cut.write) (length rows) table))
+    ap (λ (l : List ℕ). get_or l k 0) (sym (take-map (λ (cut : ArmedCut). cut.write) (length rows) table))
     ∙ get_or-take (length rows) (numbers_in table) k 0 inside
     ∙ numbers_at rows table are k inside)
 

@@ -7,7 +7,7 @@ use Rattle.flash_model.specs.Torn.{Cutting}
 use Rattle.flash_model.specs.Written.{IsWrittenBy}
 use Rattle.machine.specs.Steps.{cut_of}
 use Rattle.machine.specs.declared.reply.Reply.{Reply}
-use Rattle.slice_flash.specs.declared.table.Cut.{Cut}
+use Rattle.slice_flash.specs.declared.table.ArmedCut.{ArmedCut}
 use Rattle.slice_flash.specs.declared.table.Left.{Left}
 use Rattle.slice_flash.specs.declared.table.Left.TheVariants.{Keep, Done, Bytes}
 use Rattle.c_interface.specs.declared.cuts.CutRow.{CutRow}
@@ -21,16 +21,16 @@ IsLeftBy row (Bytes pattern) =
     (2 ≤ row.left) × (pattern.now ≡ take (min row.pattern_length 8) row.pattern)
 
 -- The cut of a row.
-pub record IsCutOf (row : CutRow) (cut : Cut) : Type 0 where
+pub record IsCutOf (row : CutRow) (cut : ArmedCut) : Type 0 where
   pub write : cut.write ≡ row.write
   pub left : IsLeftBy row cut.left
 
 -- A table has the cuts of rows, in their order. The entries after them cut nothing, since writes
 -- are counted from 1.
-pub record AreCutsOf (rows : List CutRow) (table : List Cut) : Type 0 where
+pub record AreCutsOf (rows : List CutRow) (table : List ArmedCut) : Type 0 where
   pub each : (k : ℕ) (row : CutRow) → slice_get rows k ≡ Some row
-      → (cut : Cut) × (slice_get table k ≡ Some cut) × IsCutOf row cut
-  pub rest : (k : ℕ) (cut : Cut) → length rows ≤ k → slice_get table k ≡ Some cut
+      → (cut : ArmedCut) × (slice_get table k ≡ Some cut) × IsCutOf row cut
+  pub rest : (k : ℕ) (cut : ArmedCut) → length rows ≤ k → slice_get table k ≡ Some cut
       → cut.write ≡ 0
 
 -- The numbers of the writes that are to be cut.

@@ -20,7 +20,7 @@ use crate::setup::{CheckedSetup, Setup, check_setup};
 use flash_model::Flash;
 use machine::Reply;
 use sector_map::SectorMap;
-use slice_flash::{Cut, SliceFlash};
+use slice_flash::{ArmedCut, SliceFlash};
 use std::marker::Brand;
 use std::sync::ledger::{Blank, Ledger};
 use upload::Uploads;
@@ -134,7 +134,7 @@ fn run_over_bytes<L: Ledger>(
     blank: Blank,
     checked: &CheckedSetup,
     bytes: &mut [u8],
-    table: &[Cut<'_>],
+    table: &[ArmedCut<'_>],
     saved: &mut SavedState,
     call: &DeviceCall<'_>,
 ) -> CallOutcome

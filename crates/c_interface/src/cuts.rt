@@ -3,7 +3,7 @@
 ghost use Rattle.std.specs.Prelude.{◌≤◌, length};
 ghost use Rattle.c_interface.specs.Cuts.{AreCutsOf, IsCutOf};
 
-use slice_flash::{Cut, Left};
+use slice_flash::{ArmedCut, Left};
 
 /// The largest number of cuts that a call takes.
 pub const MOST_CUTS: usize = 16;
@@ -24,7 +24,7 @@ pub struct CutRow {
 }
 
 /// The cut of a row, as the flash takes it.
-fn cut_of(row: &CutRow) -> Cut<'_>
+fn cut_of(row: &CutRow) -> ArmedCut<'_>
     ensures { IsCutOf row.now result }
 {
     let length = (row.pattern_length as usize).min(8);
@@ -33,18 +33,18 @@ fn cut_of(row: &CutRow) -> Cut<'_>
         1 => Left::Done,
         _ => Left::Bytes(&row.pattern[..length]),
     };
-    Cut {
+    ArmedCut {
         write: row.write,
         left,
     }
 }
 
 /// The cuts of rows, as the flash takes them. Unused entries cut write 0, which never happens.
-pub(crate) fn table_of(rows: &[CutRow]) -> [Cut<'_>; MOST_CUTS]
+pub(crate) fn table_of(rows: &[CutRow]) -> [ArmedCut<'_>; MOST_CUTS]
     requires { length rows.now ≤ MOST_CUTS }
     ensures { AreCutsOf rows.now result }
 {
-    let mut table = [Cut {
+    let mut table = [ArmedCut {
         write: 0,
         left: Left::Keep,
     }; MOST_CUTS];

@@ -14,7 +14,7 @@ use boot_core::apart::answer;
 use boot_core::provision;
 use machine::Reply;
 use sector_map::SectorMap;
-use slice_flash::{Cut, SliceFlash};
+use slice_flash::{ArmedCut, SliceFlash};
 use std::marker::Brand;
 use std::sync::ledger::{Blank, Ledger};
 
@@ -23,7 +23,7 @@ fn provision_on<L: Ledger>(
     blank: Blank,
     map: &SectorMap,
     bytes: &mut [u8],
-    table: &[Cut<'_>],
+    table: &[ArmedCut<'_>],
     writes: &mut u64,
 ) -> Reply
     requires name { blank.name ≡ L.name }

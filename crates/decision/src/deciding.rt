@@ -7,7 +7,7 @@ use crate::device_table::read_table;
 use certificate::is_valid;
 use chooser::choose;
 use common::limits::MOST_IMAGES;
-use flash_model::{Flash, FlashError};
+use flash_model::{Flash, Result};
 use machine::{Finding, Reading};
 use sector_map::SectorMap;
 
@@ -21,7 +21,7 @@ pub fn find<F: Flash>(
     map: &SectorMap,
     mask: u8,
     floors: &[u32; MOST_IMAGES],
-) -> Result<Finding, FlashError>
+) -> Result<Finding>
     requires laid_out { IsLaidOut map.now (F.chip flash.old) }
     ensures { FindsDecision map.now mask floors.now (F.chip flash.old) (F.chip flash.new) result }
 {

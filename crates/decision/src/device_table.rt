@@ -9,7 +9,7 @@ ghost use Rattle.decision.specs.Telling.{Tells};
 use arrayvec::ArrayVec;
 use certificate::{Entry, Image, Request, Table};
 use common::limits::MOST_IMAGES;
-use flash_model::{Flash, FlashError};
+use flash_model::{Flash, Result};
 use image_reading::{Desc, intact_image};
 use machine::Reading;
 use sector_map::{SectorMap, Side, is_member};
@@ -33,7 +33,7 @@ pub fn read_slot<F: Flash>(
     map: &SectorMap,
     image: u8,
     side: Side,
-) -> Result<Option<Entry>, FlashError>
+) -> Result<Option<Entry>>
     requires { HasImage map.now image (F.chip flash.old) }
     ensures { ReadsSlot map.now image side (F.chip flash.old) (F.chip flash.new) result }
 {
@@ -44,7 +44,7 @@ pub fn read_slot<F: Flash>(
 }
 
 /// What is requested for an image.
-fn read_request<F: Flash>(flash: &mut F, map: &SectorMap, image: u8) -> Result<Request, FlashError>
+fn read_request<F: Flash>(flash: &mut F, map: &SectorMap, image: u8) -> Result<Request>
     requires { HasImage map.now image (F.chip flash.old) }
     ensures { Tells (IsRequestIn map.now image) (F.chip flash.old) (F.chip flash.new) result }
 {
@@ -64,7 +64,7 @@ fn read_row_at_rest<F: Flash>(
     map: &SectorMap,
     image: u8,
     floor: u32,
-) -> Result<Option<Image>, FlashError>
+) -> Result<Option<Image>>
     requires { HasImage map.now image (F.chip flash.old) }
     ensures { ReadsRow map.now image false floor (F.chip flash.old) (F.chip flash.new) result }
 {
@@ -88,7 +88,7 @@ fn read_swapped_row<F: Flash>(
     map: &SectorMap,
     image: u8,
     floor: u32,
-) -> Result<Option<Image>, FlashError>
+) -> Result<Option<Image>>
     requires { HasImage map.now image (F.chip flash.old) }
     ensures { ReadsRow map.now image true floor (F.chip flash.old) (F.chip flash.new) result }
 {
@@ -112,7 +112,7 @@ fn read_row<F: Flash>(
     image: u8,
     is_swapped: bool,
     floor: u32,
-) -> Result<Option<Image>, FlashError>
+) -> Result<Option<Image>>
     requires { HasImage map.now image (F.chip flash.old) }
     ensures { ReadsRow map.now image is_swapped floor (F.chip flash.old) (F.chip flash.new) result }
 {
@@ -133,7 +133,7 @@ pub fn read_table<F: Flash>(
     map: &SectorMap,
     mask: u8,
     floors: &[u32; MOST_IMAGES],
-) -> Result<Reading, FlashError>
+) -> Result<Reading>
     requires laid_out { IsLaidOut map.now (F.chip flash.old) }
     ensures { ReadsTable map.now mask floors.now (F.chip flash.old) (F.chip flash.new) result }
 {

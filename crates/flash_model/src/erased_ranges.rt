@@ -5,7 +5,7 @@ ghost use Rattle.flash_model.specs.Chip.{size_of};
 ghost use Rattle.flash_model.specs.Calls.{TellsErased, TellsPieceErased};
 ghost use Rattle.flash_model.specs.Units.{are_erased};
 
-use crate::error::FlashError;
+use crate::error::Result;
 use crate::flash::Flash;
 
 /// How many bytes are read at once.
@@ -20,7 +20,7 @@ pub fn are_erased(bytes: &[u8]) -> bool
 }
 
 /// Whether a piece of the flash is erased, which is read into the buffer and is as long as that.
-fn is_piece_erased<F: Flash>(flash: &mut F, at: u32, piece: &mut [u8]) -> Result<bool, FlashError>
+fn is_piece_erased<F: Flash>(flash: &mut F, at: u32, piece: &mut [u8]) -> Result<bool>
     requires { at + length piece.old ≤ size_of (F.chip flash.old) }
     ensures { TellsPieceErased at (length piece.old) (F.chip flash.old) (F.chip flash.new) result }
 {
@@ -37,7 +37,7 @@ fn is_piece_erased<F: Flash>(flash: &mut F, at: u32, piece: &mut [u8]) -> Result
 /// # Errors
 /// `Off` where the flash is off and `len` isn't 0.
 #[tactic(auto, using(crate::proofs::Erased::erased_joined))]
-pub fn is_erased<F: Flash>(flash: &mut F, at: u32, len: u32) -> Result<bool, FlashError>
+pub fn is_erased<F: Flash>(flash: &mut F, at: u32, len: u32) -> Result<bool>
     requires { at + len ≤ size_of (F.chip flash.old) }
     ensures { TellsErased at len (F.chip flash.old) (F.chip flash.new) result }
 {

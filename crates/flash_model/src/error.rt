@@ -17,6 +17,9 @@ pub enum FlashError {
     Off,
 }
 
+/// What a call on a flash returns: a value, or why the call didn't do its work.
+pub type Result<T, E = FlashError> = std::result::Result<T, E>;
+
 impl FlashError {
     /// The number of the kind, 1 or 2.
     pub fn code(self) -> u8

@@ -6,7 +6,7 @@ ghost use Rattle.flash_model.specs.Chip.{Chip, size_of, IsCutAsArmed, IsErased};
 ghost use Rattle.flash_model.specs.Written.{IsWritten};
 ghost use Rattle.flash_model.specs.Calls.{Erases, Programs, ReadsBytes};
 
-use crate::error::FlashError;
+use crate::error::Result;
 
 /// A flash: sectors of the same size, which are erased whole, and units of 8 bytes, which are
 /// programmed after they were erased. It has 4294967295 bytes at most.
@@ -47,7 +47,7 @@ pub trait Flash {
     ///
     /// # Errors
     /// `Off` where the flash was off.
-    fn read(&mut self, at: u32, out: &mut [u8]) -> Result<(), FlashError>
+    fn read(&mut self, at: u32, out: &mut [u8]) -> Result<()>
         requires { at + length out.old ≤ size_of (chip self.old) }
         ensures { ReadsBytes at out.new (chip self.old) (chip self.new) result };
 
@@ -57,7 +57,7 @@ pub trait Flash {
     /// # Errors
     /// `Cut` where power failed: the range holds any bytes, all else is as it was, and the flash is
     /// off. `Off` where it was off before: nothing changed.
-    fn program(&mut self, at: u32, bytes: &[u8]) -> Result<(), FlashError>
+    fn program(&mut self, at: u32, bytes: &[u8]) -> Result<()>
         requires inside { at + length bytes.now ≤ size_of (chip self.old) }
         requires erased { IsErased (chip self.old) at (length bytes.now) }
         requires place { at % 8 ≡ 0 }
@@ -71,7 +71,7 @@ pub trait Flash {
     /// `Cut` where power failed: the sector holds any bytes, all else is as it was, and the flash
     /// is off; such an erase isn't completed, also where it left the sector erased. `Off` where it
     /// was off before: nothing changed.
-    fn erase(&mut self, sector: u32) -> Result<(), FlashError>
+    fn erase(&mut self, sector: u32) -> Result<()>
         requires { sector < (chip self.old).sectors }
         ensures { Erases sector (chip self.old) (chip self.new) result };
 

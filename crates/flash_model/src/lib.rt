@@ -28,7 +28,7 @@ mod torn;
 mod unit;
 
 pub use erased_ranges::{are_erased, is_erased};
-pub use error::FlashError;
+pub use error::{FlashError, Result};
 pub use flash::Flash;
 pub use memory::MemFlash;
 pub use origin::Origin;

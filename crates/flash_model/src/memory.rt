@@ -5,7 +5,7 @@ ghost use Rattle.std.specs.Prelude.{min, replicate, slice_index, vec_len, IfOk};
 ghost use Rattle.flash_model.specs.Chip.{armed_with, numbers_of, reached, unarmed};
 ghost use Rattle.flash_model.specs.Written.{IsWrittenBy};
 
-use crate::error::FlashError;
+use crate::error::{FlashError, Result};
 use crate::flash::Flash;
 use crate::origin::Origin;
 use crate::tearing::{blank, put, tear_erase, tear_program};
@@ -229,7 +229,7 @@ impl<L: Ledger> Flash for MemFlash<L> {
         self.sectors
     }
 
-    fn read(&mut self, at: u32, out: &mut [u8]) -> Result<(), FlashError>
+    fn read(&mut self, at: u32, out: &mut [u8]) -> Result<()>
         requires { at + length out.old ≤ size_of (chip_of self.old) }
         ensures { ReadsBytes at out.new (chip_of self.old) (chip_of self.new) result }
     {
@@ -241,7 +241,7 @@ impl<L: Ledger> Flash for MemFlash<L> {
         Ok(())
     }
 
-    fn program(&mut self, at: u32, bytes: &[u8]) -> Result<(), FlashError>
+    fn program(&mut self, at: u32, bytes: &[u8]) -> Result<()>
         requires { CanProgram at (length bytes.now) (chip_of self.old) }
         ensures chip { Programs at bytes.now (chip_of self.old) (chip_of self.new) result }
         ensures memory { ProgramsAsArmed at bytes.now (chip_of self.old) (chip_of self.new) result }
@@ -265,7 +265,7 @@ impl<L: Ledger> Flash for MemFlash<L> {
         }
     }
 
-    fn erase(&mut self, sector: u32) -> Result<(), FlashError>
+    fn erase(&mut self, sector: u32) -> Result<()>
         requires { sector < (chip_of self.old).sectors }
         ensures chip { Erases sector (chip_of self.old) (chip_of self.new) result }
         ensures memory { ErasesAsArmed sector (chip_of self.old) (chip_of self.new) result }

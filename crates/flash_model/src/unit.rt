@@ -5,7 +5,7 @@ ghost use Rattle.flash_model.specs.Chip.{size_of, IsErased};
 ghost use Rattle.flash_model.specs.Calls.{SetsUnit, TellsUnitErased};
 
 use crate::erased_ranges::is_erased;
-use crate::error::FlashError;
+use crate::error::Result;
 use crate::flash::Flash;
 
 /// The length of a unit in bytes.
@@ -20,7 +20,7 @@ pub const FLAG: [u8; 8] = [0x01, 0xff, 0xff, 0xff, 0xff, 0xff, 0xff, 0xff];
 ///
 /// # Errors
 /// `Off` where the flash is off.
-pub fn is_unit_erased<F: Flash>(flash: &mut F, at: u32) -> Result<bool, FlashError>
+pub fn is_unit_erased<F: Flash>(flash: &mut F, at: u32) -> Result<bool>
     requires { at + 8 ≤ size_of (F.chip flash.old) }
     ensures { TellsUnitErased at (F.chip flash.old) (F.chip flash.new) result }
 {
@@ -33,7 +33,7 @@ pub fn is_unit_erased<F: Flash>(flash: &mut F, at: u32) -> Result<bool, FlashErr
 /// # Errors
 /// `Cut` where power failed: the unit holds any bytes, so it is erased or set; all else is as it
 /// was, and the flash is off. `Off` where it was off before: nothing changed.
-pub fn set_unit<F: Flash>(flash: &mut F, at: u32) -> Result<(), FlashError>
+pub fn set_unit<F: Flash>(flash: &mut F, at: u32) -> Result<()>
     requires inside { at + 8 ≤ size_of (F.chip flash.old) }
     requires erased { IsErased (F.chip flash.old) at 8 }
     requires place { at % 8 ≡ 0 }

@@ -19,7 +19,7 @@ use crate::describing::{describe_front, describe_whole};
 use crate::error::SlotError;
 use crate::medium::Medium;
 use crate::span::Span;
-use flash_model::{Flash, FlashError};
+use flash_model::{Flash, Result};
 use sector_map::{SectorMap, Side};
 
 /// What the image says of itself that a slot begins with, whatever follows it. Does not allocate.
@@ -80,7 +80,7 @@ pub fn intact_image<F: Flash>(
     map: &SectorMap,
     image: u8,
     side: Side,
-) -> Result<Option<Desc>, FlashError>
+) -> Result<Option<Desc>>
     requires { HasImage map.now image (F.chip flash.old) }
     ensures same { F.chip flash.new ≡ F.chip flash.old }
     // The image is described, or a check of it fails first.
@@ -154,7 +154,7 @@ pub fn digest_file<F: Flash>(
     image: u8,
     side: Side,
     len: u32,
-) -> Result<[u8; 32], FlashError>
+) -> Result<[u8; 32]>
     requires laid_out { IsLaidOut map.now (F.chip flash.old) }
     requires there { image < map.now.images }
     requires room { len ≤ length_of map.now (Slot image side) }

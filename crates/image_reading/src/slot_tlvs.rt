@@ -10,7 +10,7 @@ ghost use Rattle.image_reading.specs.Span.{CanRead, IsInside, bytes_of};
 use crate::medium::Medium;
 use crate::span::Span;
 use crate::walk::first_slot_tlv;
-use flash_model::{Flash, FlashError};
+use flash_model::{Flash, Result};
 
 /// An entry of an area (MCUboot's `struct image_tlv`), and where its value lies.
 #[derive(Clone, Copy, Debug, PartialEq, Eq)]
@@ -47,7 +47,7 @@ impl SlotTlvs {
     ///
     /// # Errors
     /// `Off` where the flash was off. The entries are left as they were.
-    pub fn next<F: Flash>(&mut self, flash: &mut F) -> Result<Option<SlotTlv>, FlashError>
+    pub fn next<F: Flash>(&mut self, flash: &mut F) -> Result<Option<SlotTlv>>
         requires { IsInside (F.chip flash.old) (slot_tlvs_rest self.old) }
         ensures same { F.chip flash.new ≡ F.chip flash.old }
         ensures inside { IsInside (F.chip flash.old) (slot_tlvs_rest self.new) }

@@ -9,7 +9,7 @@ ghost use Rattle.flash_model.specs.Memory.{chip_of as memory_of};
 ghost use Rattle.flash_model.specs.Torn.{replaced};
 
 use crate::flash_file::FlashFile;
-use flash_model::{Flash, FlashError, MemFlash};
+use flash_model::{Flash, FlashError, MemFlash, Result};
 use std::io;
 use std::sync::ledger::{Blank, Book, Ledger, Share};
 
@@ -155,7 +155,7 @@ impl<F: FlashFile, L: Ledger, M: Ledger> FileFlash<F, L, M> {
     }
 
     /// Ends a write of which the file failed: counts the fault, and turns the flash off.
-    fn cut(&mut self) -> Result<(), FlashError>
+    fn cut(&mut self) -> Result<()>
         requires { (over_file self.old).has_failed ≡ true }
         ensures cut { IsErrOf result FlashError.Cut }
         ensures flash { over_file self.new ≡ cut_short (over_file self.old) }
@@ -191,7 +191,7 @@ impl<F: FlashFile, L: Ledger, M: Ledger> Flash for FileFlash<F, L, M> {
         self.memory.sectors()
     }
 
-    fn read(&mut self, at: u32, out: &mut [u8]) -> Result<(), FlashError>
+    fn read(&mut self, at: u32, out: &mut [u8]) -> Result<()>
         requires { at + length out.old ≤ size_of (chip_of self.old) }
         ensures chip { ReadsBytes at out.new (chip_of self.old) (chip_of self.new) result }
         ensures flash { over_file self.new ≡ over_file self.old }
@@ -203,7 +203,7 @@ impl<F: FlashFile, L: Ledger, M: Ledger> Flash for FileFlash<F, L, M> {
         self.memory.read(at, out)
     }
 
-    fn program(&mut self, at: u32, bytes: &[u8]) -> Result<(), FlashError>
+    fn program(&mut self, at: u32, bytes: &[u8]) -> Result<()>
         requires { CanProgram at (length bytes.now) (chip_of self.old) }
         ensures chip { Programs at bytes.now (chip_of self.old) (chip_of self.new) result }
         ensures flash { ProgramsThrough at bytes.now (over_file self.old) (over_file self.new)
@@ -228,7 +228,7 @@ impl<F: FlashFile, L: Ledger, M: Ledger> Flash for FileFlash<F, L, M> {
         Ok(())
     }
 
-    fn erase(&mut self, sector: u32) -> Result<(), FlashError>
+    fn erase(&mut self, sector: u32) -> Result<()>
         requires { sector < (chip_of self.old).sectors }
         ensures chip { Erases sector (chip_of self.old) (chip_of self.new) result }
         ensures flash { ErasesThrough sector (over_file self.old) (over_file self.new) result }

@@ -8,7 +8,7 @@ use decision::read_table;
 use flash_model::Flash;
 use machine::Reading;
 use sector_map::SectorMap;
-use set_log::{Kind, read_state};
+use set_log::{RecordKind, read_state};
 
 /// The table of running and requested images on a flash. `None` if the device isn't at rest, or the
 /// table can't be read.
@@ -17,7 +17,7 @@ pub fn table_on<F: Flash>(flash: &mut F, map: &SectorMap) -> Option<Table>
     ensures { F.chip flash.new ≡ F.chip flash.old }
 {
     let state = read_state(flash, map).ok()?;
-    if state.kind != Kind::Steady {
+    if state.kind != RecordKind::Steady {
         return None;
     }
     match read_table(flash, map, 0, &state.floors) {

@@ -14,8 +14,8 @@ use Rattle.trailer.specs.Standing.{standing_of}
 use Rattle.trailer.specs.Status.{status_count_of}
 use Rattle.swap_scratch.specs.Used.{steps_of}
 use Rattle.swap_scratch.specs.declared.progress.Progress.{Progress}
-use Rattle.set_log.specs.declared.state.Kind.{Kind}
-use Rattle.set_log.specs.declared.state.Kind.TheVariants.{Steady, Swap, Settle, Trial, Back, BackSettle}
+use Rattle.set_log.specs.declared.state.RecordKind.{RecordKind}
+use Rattle.set_log.specs.declared.state.RecordKind.TheVariants.{Steady, Swap, Settle, Trial, Back, BackSettle}
 use Rattle.set_log.specs.declared.state.State.{State}
 use Rattle.upload.specs.Device.{DeviceState}
 use Rattle.upload.specs.View.{view}
@@ -49,7 +49,7 @@ progress_of map chip side image = record {
 }
 
 -- The side of the trailers that count the swap that a record is in the midst of, where it is.
-abbrev pub counting_side : Kind → Option Side
+abbrev pub counting_side : RecordKind → Option Side
 counting_side Steady = None
 counting_side Swap = Some Primary
 counting_side Settle = None

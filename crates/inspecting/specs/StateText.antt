@@ -4,14 +4,14 @@ use Rattle.std.specs.List.{flat_map, range_with_len}
 use Rattle.common.specs.Lines.{◌␣◌}
 use Rattle.trailer.specs.declared.kinds.SwapType.{SwapType}
 use Rattle.trailer.specs.declared.kinds.SwapType.TheVariants.{Test, Perm, Revert, None}
-use Rattle.set_log.specs.declared.state.Kind.{Kind}
-use Rattle.set_log.specs.declared.state.Kind.TheVariants.{Steady, Swap, Settle, Trial, Back, BackSettle}
+use Rattle.set_log.specs.declared.state.RecordKind.{RecordKind}
+use Rattle.set_log.specs.declared.state.RecordKind.TheVariants.{Steady, Swap, Settle, Trial, Back, BackSettle}
 use Rattle.set_log.specs.declared.state.State.{State}
 use Rattle.device_texts.specs.AnswerText.{line_text}
 use Rattle.device_texts.specs.ReplyText.{set_text}
 
 -- What a device is in the midst of.
-abbrev pub kind_text : Kind → List ℕ
+abbrev pub kind_text : RecordKind → List ℕ
 kind_text Steady = codes "steady"
 kind_text Swap = codes "swap"
 kind_text Settle = codes "settle"

@@ -13,7 +13,7 @@ use device_texts::{Members, refused_fault_text};
 use flash_model::Flash;
 use machine::Fault;
 use sector_map::{SectorMap, Side};
-use set_log::{Kind, LogError, State, read_state};
+use set_log::{LogError, RecordKind, State, read_state};
 use std::alloc::{AllocError, Global};
 use std::fmt;
 use trailer::{SwapType, Trailer, read_trailer, swap_type};
@@ -58,16 +58,16 @@ pub(crate) fn stand_text<F: Flash>(
 }
 
 /// What a device is in the midst of.
-fn kind_text(kind: Kind) -> &'static str
+fn kind_text(kind: RecordKind) -> &'static str
     ensures { result.now ≡ kind_text kind }
 {
     match kind {
-        Kind::Steady => "steady",
-        Kind::Swap => "swap",
-        Kind::Settle => "settle",
-        Kind::Trial => "trial",
-        Kind::Back => "back",
-        Kind::BackSettle => "back-settle",
+        RecordKind::Steady => "steady",
+        RecordKind::Swap => "swap",
+        RecordKind::Settle => "settle",
+        RecordKind::Trial => "trial",
+        RecordKind::Back => "back",
+        RecordKind::BackSettle => "back-settle",
     }
 }
 

@@ -14,7 +14,7 @@ use flash_model::{Flash, is_erased};
 use image_reading::{Desc, ImageError, SlotError, describe_slot};
 use machine::Finding;
 use sector_map::{SectorMap, Side, is_member};
-use set_log::{Kind as Record, State};
+use set_log::{RecordKind, State};
 use swap_scratch::{Progress, swap_progress};
 use trailer::{Kind, standing};
 
@@ -173,13 +173,14 @@ fn moved_on<F: Flash>(flash: &mut F, map: &SectorMap, state: &State, image: u8) 
 }
 
 /// The side of the trailers that count the swap that a record is in the midst of.
-fn counting_side(kind: Record) -> Option<Side>
+fn counting_side(kind: RecordKind) -> Option<Side>
     ensures { result ≡ counting_side kind }
 {
     match kind {
-        Record::Swap => Some(Side::Primary),
-        Record::Back => Some(Side::Secondary),
-        Record::Steady | Record::Settle | Record::Trial | Record::BackSettle => None,
+        RecordKind::Swap => Some(Side::Primary),
+        RecordKind::Back => Some(Side::Secondary),
+        RecordKind::Steady | RecordKind::Settle | RecordKind::Trial | RecordKind::BackSettle =>
+            None,
     }
 }
 
@@ -204,7 +205,7 @@ fn next_decision<F: Flash>(flash: &mut F, map: &SectorMap, state: &State) -> Opt
     ensures same { F.chip flash.new ≡ F.chip flash.old }
     ensures decision { IsDecisionOf map.now (F.chip flash.old) state.now result }
 {
-    if state.kind != Record::Steady {
+    if state.kind != RecordKind::Steady {
         return None;
     }
     match find(flash, map, 0, &state.floors) {

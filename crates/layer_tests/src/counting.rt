@@ -1,6 +1,6 @@
 //! A flash that counts what is read of it.
 
-use flash_model::{Flash, FlashError};
+use flash_model::{Flash, Result};
 
 /// A flash that tells how many bytes were read of it below an address, and how many at once at
 /// most.
@@ -45,7 +45,7 @@ impl<F: Flash> Flash for Counting<F> {
         self.flash.sectors()
     }
 
-    fn read(&mut self, at: u32, out: &mut [u8]) -> Result<(), FlashError> {
+    fn read(&mut self, at: u32, out: &mut [u8]) -> Result<()> {
         if at < self.below {
             self.read = self.read.saturating_add(out.len() as u64);
             self.most = self.most.max(out.len());
@@ -53,11 +53,11 @@ impl<F: Flash> Flash for Counting<F> {
         self.flash.read(at, out)
     }
 
-    fn program(&mut self, at: u32, bytes: &[u8]) -> Result<(), FlashError> {
+    fn program(&mut self, at: u32, bytes: &[u8]) -> Result<()> {
         self.flash.program(at, bytes)
     }
 
-    fn erase(&mut self, sector: u32) -> Result<(), FlashError> {
+    fn erase(&mut self, sector: u32) -> Result<()> {
         self.flash.erase(sector)
     }
 

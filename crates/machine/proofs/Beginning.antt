@@ -32,7 +32,7 @@ use Rattle.machine.specs.Prepared.{IsRoomFor, IsPrepared}
 use Rattle.machine.proofs.Frames.{image_same, steady_kept, steady_logged, primary_aside}
 use Rattle.machine.proofs.Frames.{same_state, starts_take, swaps_with}
 use Rattle.certificate.specs.declared.table.Request.TheVariants as request
-use Rattle.set_log.specs.declared.state.Kind.TheVariants as log
+use Rattle.set_log.specs.declared.state.RecordKind.TheVariants as log
 
 entry_bytes : (held : Option (List ℕ)) (entry : Entry) → IsEntryOf held entry → (bytes : List ℕ) × (held ≡ Some bytes)
 entry_bytes None entry is = absurd is

@@ -25,7 +25,7 @@ use Rattle.machine.specs.Passing.{EndsConfirm, CutsConfirm}
 use Rattle.machine.proofs.Frames.{image_same, same_state}
 use Rattle.machine.proofs.Reverting.{tried_same}
 use Rattle.machine.proofs.Ending.{image_outside, member_or}
-use Rattle.set_log.specs.declared.state.Kind.TheVariants as log
+use Rattle.set_log.specs.declared.state.RecordKind.TheVariants as log
 
 -- another image's trailer, or what the own trailer says besides image-ok
 tried_kept : (map : SectorMap) (old new : Chip) (s t : DeviceState) (trial after : Trial) (j : ℕ)

@@ -20,7 +20,7 @@ use Rattle.machine.specs.Passing.{IsTakenAt}
 use Rattle.machine.proofs.Frames.{rests_with, same_state}
 use Rattle.machine.proofs.Swapping.{settle_logged, others_logged, settling_kept}
 use Rattle.machine.proofs.Beginning.{running_bytes}
-use Rattle.set_log.specs.declared.state.Kind.TheVariants as log
+use Rattle.set_log.specs.declared.state.RecordKind.TheVariants as log
 
 pub if_true : {X : Type 0} (b : Bool) (x y : X) → b ≡ true → (if b then x else y) ≡ x
 if_true true x y e = refl

@@ -12,7 +12,7 @@ use Rattle.sector_map.specs.declared.layout.Side.TheVariants.{Primary, Secondary
 use Rattle.sector_map.specs.Part.{Part, Slot, TrailerOf, Log, is_member, only, trailers_on}
 use Rattle.sector_map.specs.Map.{Keeps}
 use Rattle.set_log.specs.declared.state.State.{State}
-use Rattle.set_log.specs.declared.state.Kind.TheVariants as log
+use Rattle.set_log.specs.declared.state.RecordKind.TheVariants as log
 use Rattle.upload.specs.View.{view}
 use Rattle.upload.proofs.Views.{view_kept}
 use Rattle.upload.specs.Device.{DeviceState}

@@ -5,7 +5,7 @@ use Rattle.flash_model.specs.Chip.{Chip}
 use Rattle.sector_map.specs.declared.layout.SectorMap.{SectorMap}
 use Rattle.sector_map.specs.Part.{is_member}
 use Rattle.set_log.specs.declared.state.State.{State}
-use Rattle.set_log.specs.declared.state.Kind.{Kind}
+use Rattle.set_log.specs.declared.state.RecordKind.{RecordKind}
 use Rattle.upload.specs.View.{view}
 use Rattle.upload.specs.Device.{DeviceState}
 use Rattle.upload.specs.Steady.{IsImageAt, logged}
@@ -21,7 +21,7 @@ use Rattle.machine.specs.declared.finding.Finding.TheVariants.{Decided}
 use Rattle.machine.proofs.Frames.{same_state}
 use Rattle.machine.proofs.Beginning.{member_bytes}
 use Rattle.machine.proofs.Raising.{raised_is}
-use Rattle.set_log.specs.declared.state.Kind.TheVariants as log
+use Rattle.set_log.specs.declared.state.RecordKind.TheVariants as log
 
 read_at : (map : SectorMap) (w : Chip) (s : DeviceState) (i : ℕ) (b : Bool)
     → (b ≡ true → IsSwappedAt (view map w) s i) → (b ≡ false → IsImageAt (view map w) s i)
@@ -30,7 +30,7 @@ read_at map w s i true swapped rest = swapped refl
 read_at map w s i false swapped rest = rest refl
 
 -- what is swapped can be read back
-pub can_read_back : (map : SectorMap) (w : Chip) (s : DeviceState) (table : Table) (kind : Kind) (mask : ℕ)
+pub can_read_back : (map : SectorMap) (w : Chip) (s : DeviceState) (table : Table) (kind : RecordKind) (mask : ℕ)
     (permanent : Bool) → IsSwapped (view map w) s table kind mask permanent → CanRead (view map w) s mask s.floors
 can_read_back map w s table kind mask permanent was = record {
   images = was.images;
@@ -45,14 +45,14 @@ can_read_back map w s table kind mask permanent was = record {
 }
 
 -- the floors of the record are those of the state
-pub record_floors : (map : SectorMap) (w : Chip) (state : State) (kind : Kind) (mask : ℕ) (permanent : Bool)
+pub record_floors : (map : SectorMap) (w : Chip) (state : State) (kind : RecordKind) (mask : ℕ) (permanent : Bool)
     (s : DeviceState) → (view map w).log ≡ Some state
     → (view map w).log ≡ Some (logged kind mask permanent 0 s) → s.floors ≡ state.floors
 record_floors map w state kind mask permanent s read is = ap (λ (st : State). st.floors)
     (sym (same_state map w state (logged kind mask permanent 0 s) read is))
 
 -- the decision is found again in what is swapped
-pub swapped_found : (map : SectorMap) (w : Chip) (state : State) (kind : Kind) (mask : ℕ) (finding : Finding)
+pub swapped_found : (map : SectorMap) (w : Chip) (state : State) (kind : RecordKind) (mask : ℕ) (finding : Finding)
     → (view map w).log ≡ Some state
     → ((s : DeviceState) (table : Table) (permanent : Bool) → CanRead (view map w) s mask state.floors
     → IsDecision s table mask permanent → IsFoundAgain s mask finding)

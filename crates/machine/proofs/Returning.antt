@@ -8,8 +8,8 @@ use Rattle.sector_map.specs.declared.layout.Side.TheVariants.{Primary, Secondary
 use Rattle.sector_map.specs.Part.{Log, is_member, only, trailers_in}
 use Rattle.sector_map.specs.Map.{IsLaidOut, Keeps}
 use Rattle.set_log.specs.declared.state.State.{State}
-use Rattle.set_log.specs.declared.state.Kind.{Kind}
-use Rattle.set_log.specs.declared.state.Kind.TheVariants as log
+use Rattle.set_log.specs.declared.state.RecordKind.{RecordKind}
+use Rattle.set_log.specs.declared.state.RecordKind.TheVariants as log
 use Rattle.upload.specs.View.{KeepsView, view}
 use Rattle.upload.proofs.Views.{view_kept}
 use Rattle.upload.specs.Device.{DeviceState, Trial, Wanted}
@@ -46,7 +46,7 @@ module _ (map : SectorMap) (old new : Chip) (s : DeviceState) (trial : Trial)
   )
 
   -- .. and says another kind
-  pub swapped_logged : (from to : Kind) (permanent : Bool)
+  pub swapped_logged : (from to : RecordKind) (permanent : Bool)
       → (view map new).log ≡ Some (logged to trial.set permanent 0 s)
       → IsSwappedBack (view map old) s trial from → IsSwappedBack (view map new) s trial to
   swapped_logged from to permanent recorded was = record {
@@ -99,7 +99,7 @@ module _ (map : SectorMap) (old new : Chip) (s : DeviceState) (trial : Trial)
   }
 
 -- trailers of the set are written
-pub returning_kept : (map : SectorMap) (old new : Chip) (mask : ℕ) (s : DeviceState) (trial : Trial) (kind : Kind)
+pub returning_kept : (map : SectorMap) (old new : Chip) (mask : ℕ) (s : DeviceState) (trial : Trial) (kind : RecordKind)
     → mask ≡ trial.set → Keeps map (trailers_in mask) old new → IsSwappedBack (view map old) s trial kind
     → IsSwappedBack (view map new) s trial kind
 returning_kept map old new mask s trial kind is keeps was =
@@ -118,7 +118,7 @@ returning_kept map old new mask s trial kind is keeps was =
           (kept.trailers i Secondary other) (was.others i lt other);
     }
 
-kind_record : (map : SectorMap) (w : Chip) (state : State) (s : DeviceState) (trial : Trial) (a b : Kind)
+kind_record : (map : SectorMap) (w : Chip) (state : State) (s : DeviceState) (trial : Trial) (a b : RecordKind)
     (permanent : Bool) → (view map w).log ≡ Some state
     → (view map w).log ≡ Some (logged a trial.set permanent 0 s)
     → record state { kind = b } ≡ logged b trial.set permanent 0 s

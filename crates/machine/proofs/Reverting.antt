@@ -26,7 +26,7 @@ use Rattle.machine.specs.Prepared.{IsPrepared}
 use Rattle.machine.proofs.Frames.{image_same, same_state}
 use Rattle.machine.proofs.Beginning.{front_take, front_short, le_trans}
 use Rattle.machine.proofs.Swapping.{others_logged, others_swapped, front_moved}
-use Rattle.set_log.specs.declared.state.Kind.TheVariants as log
+use Rattle.set_log.specs.declared.state.RecordKind.TheVariants as log
 
 no_and : (a b : Bool) → a ≡ false → (a && b) ≡ false
 no_and true b e = cc

@@ -3,8 +3,8 @@ use Rattle.std.proofs.Common.{◌≡◌, ◌⊎◌, ℕ, ◌+◌, Bool, false, S
 use Rattle.flash_model.specs.Chip.{Chip}
 use Rattle.sector_map.specs.declared.layout.SectorMap.{SectorMap}
 use Rattle.set_log.specs.declared.state.State.{State}
-use Rattle.set_log.specs.declared.state.Kind.{Kind}
-use Rattle.set_log.specs.declared.state.Kind.TheVariants as log
+use Rattle.set_log.specs.declared.state.RecordKind.{RecordKind}
+use Rattle.set_log.specs.declared.state.RecordKind.TheVariants as log
 use Rattle.upload.specs.View.{view}
 use Rattle.upload.specs.Device.{DeviceState, Trial}
 use Rattle.upload.specs.Steady.{IsSteadyAt, logged}
@@ -24,7 +24,7 @@ use Rattle.machine.proofs.Upgrading.{ended_cut, found_boots}
 -- ---- the record that stands
 
 -- a flash stands for a state by a record of this kind
-abbrev pub StandsAs : SectorMap → Chip → DeviceState → State → Kind → Type 0
+abbrev pub StandsAs : SectorMap → Chip → DeviceState → State → RecordKind → Type 0
 StandsAs map w s state log.Steady = IsSteadyAt (view map w) s
 StandsAs map w s state log.Swap = (table : Table) × IsSwappingSome map w s table state.mask state.permanent
 StandsAs map w s state log.Settle =
@@ -63,7 +63,7 @@ stands_as map w s state read (SettlesBack trial was) =
     as_read map w s (logged log.BackSettle trial.set was.permanent 0 s) state was.log read (trial, refl, was)
 
 module _ (map : SectorMap) (w : Chip) (s : DeviceState) (state : State) (read : (view map w).log ≡ Some state) where
-  of_kind : (kind : Kind) → state.kind ≡ kind → Stands map w s → StandsAs map w s state kind
+  of_kind : (kind : RecordKind) → state.kind ≡ kind → Stands map w s → StandsAs map w s state kind
   of_kind kind is stands = subst (λ k. StandsAs map w s state k) is (stands_as map w s state read stands)
 
   pub stands_steady : state.kind ≡ log.Steady → Stands map w s → IsSteadyAt (view map w) s

@@ -26,7 +26,7 @@ use Rattle.machine.specs.declared.finding.Finding.TheVariants.{Decided, Damaged,
 use Rattle.machine.specs.declared.reply.Reply.TheVariants.{Booted, Refused}
 use Rattle.machine.specs.declared.error.Fault.TheVariants.{RunningDamaged, InvalidSet}
 use Rattle.machine.proofs.Frames.{same_state}
-use Rattle.set_log.specs.declared.state.Kind.TheVariants as log
+use Rattle.set_log.specs.declared.state.RecordKind.TheVariants as log
 
 pub no_member : (i : ℕ) → is_member 0 i ≡ false
 unfolding is_member

@@ -12,7 +12,7 @@ use Rattle.sector_map.specs.Part.{Part, TrailerOf, Log, only}
 use Rattle.sector_map.specs.Map.{IsLaidOut, Keeps}
 use Rattle.sector_map.proofs.Parts.{keeps_bytes}
 use Rattle.set_log.specs.declared.state.State.{State}
-use Rattle.set_log.specs.declared.state.Kind.TheVariants as log
+use Rattle.set_log.specs.declared.state.RecordKind.TheVariants as log
 use Rattle.certificate.specs.Combination.{IsValid, running_set}
 use Rattle.upload.specs.View.{view}
 use Rattle.upload.specs.Device.{DeviceState, Machine, Session, no_session}

@@ -12,7 +12,7 @@ use Rattle.sector_map.specs.Part.{trailers_of}
 use Rattle.sector_map.specs.Map.{IsLaidOut, Keeps}
 use Rattle.trailer.specs.Settled.{IsSettled}
 use Rattle.set_log.specs.declared.state.State.{State}
-use Rattle.set_log.specs.declared.state.Kind.{Kind}
+use Rattle.set_log.specs.declared.state.RecordKind.{RecordKind}
 use Rattle.swap_scratch.specs.Swap.{IsSwapAt}
 use Rattle.upload.specs.View.{view}
 use Rattle.upload.proofs.Views.{view_kept}
@@ -26,7 +26,7 @@ use Rattle.machine.specs.Passing.{IsSwappingSome}
 use Rattle.machine.proofs.Frames.{image_same, same_state, starts_trans}
 use Rattle.machine.proofs.Preparing.{eqb_no}
 use Rattle.machine.proofs.Beginning.{running_bytes, member_bytes}
-use Rattle.set_log.specs.declared.state.Kind.TheVariants as log
+use Rattle.set_log.specs.declared.state.RecordKind.TheVariants as log
 
 -- a swap writes nothing in the log
 pub swap_off_log : (mask : ℕ) (side : Side) (part : Part) → swap_of mask side part ≡ true → only Log part ≡ false
@@ -123,7 +123,7 @@ swap_logged map old new laid s table mask permanent keeps same (x, y, was) = (
   },
 )
 
-pub settle_logged : (map : SectorMap) (old new : Chip) (s : DeviceState) (table : Table) (from to : Kind)
+pub settle_logged : (map : SectorMap) (old new : Chip) (s : DeviceState) (table : Table) (from to : RecordKind)
     (mask : ℕ) (permanent : Bool) → Keeps map (only Log) old new
     → (view map new).log ≡ Some (logged to mask permanent 0 s)
     → IsSwapped (view map old) s table from mask permanent → IsSwapped (view map new) s table to mask permanent
@@ -139,7 +139,7 @@ settle_logged map old new s table from to mask permanent keeps recorded was = re
   others = others_logged map mask old new s keeps was.others;
 }
 
-settle_record : (map : SectorMap) (w : Chip) (state : State) (a b : Kind) (mask : ℕ) (permanent : Bool)
+settle_record : (map : SectorMap) (w : Chip) (state : State) (a b : RecordKind) (mask : ℕ) (permanent : Bool)
     (s : DeviceState) → (view map w).log ≡ Some state → (view map w).log ≡ Some (logged a mask permanent 0 s)
     → record state { kind = b } ≡ logged b mask permanent 0 s
 settle_record map w state a b mask permanent s read is = ap (λ (st : State). record st { kind = b })
@@ -170,7 +170,7 @@ settle_either map old new laid state read keeps either s table mask permanent sw
 
 -- trailers of the set are written
 pub settling_kept : (map : SectorMap) (old new : Chip) (mask : ℕ) → Keeps map (trailers_in mask) old new
-    → (s : DeviceState) (table : Table) (kind : Kind) (permanent : Bool)
+    → (s : DeviceState) (table : Table) (kind : RecordKind) (permanent : Bool)
     → IsSwapped (view map old) s table kind mask permanent → IsSwapped (view map new) s table kind mask permanent
 settling_kept map old new mask keeps s table kind permanent was = record {
   trial = was.trial;

@@ -12,7 +12,7 @@ use Rattle.sector_map.specs.Part.{Log, is_member, only}
 use Rattle.sector_map.specs.Map.{Keeps}
 use Rattle.trailer.specs.Fields.{Fields}
 use Rattle.set_log.specs.declared.state.State.{State}
-use Rattle.set_log.specs.declared.state.Kind.TheVariants as log
+use Rattle.set_log.specs.declared.state.RecordKind.TheVariants as log
 use Rattle.upload.specs.View.{KeepsView, view}
 use Rattle.upload.proofs.Views.{view_kept}
 use Rattle.upload.specs.Device.{DeviceState, Trial}

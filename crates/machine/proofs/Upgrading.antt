@@ -20,7 +20,7 @@ use Rattle.machine.specs.declared.reply.Reply.TheVariants.{Booted}
 use Rattle.machine.proofs.Beginning.{running_bytes, valid_bytes}
 use Rattle.machine.proofs.Unique.{one_table}
 use Rattle.machine.proofs.Ending.{old_kept}
-use Rattle.set_log.specs.declared.state.Kind.TheVariants as log
+use Rattle.set_log.specs.declared.state.RecordKind.TheVariants as log
 
 pub upgrading_stands : (map : SectorMap) (w : Chip) (s : DeviceState) (table : Table) (mask : ℕ)
     (permanent : Bool) → IsUpgrading map w s table mask permanent → Stands map w s

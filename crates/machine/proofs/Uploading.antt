@@ -11,7 +11,7 @@ use Rattle.sector_map.specs.declared.layout.Side.TheVariants.{Primary}
 use Rattle.sector_map.specs.Part.{TrailerOf, only}
 use Rattle.sector_map.specs.Map.{Keeps}
 use Rattle.set_log.specs.declared.state.State.{State}
-use Rattle.set_log.specs.declared.state.Kind.TheVariants as log
+use Rattle.set_log.specs.declared.state.RecordKind.TheVariants as log
 use Rattle.manifest.specs.declared.error.ManifestError.{ManifestError}
 use Rattle.manifest.specs.declared.manifest.Manifest as given
 use Rattle.manifest.specs.Fault.{IsManifest, IsRefusal}

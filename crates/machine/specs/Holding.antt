@@ -6,8 +6,8 @@ use Rattle.sector_map.specs.declared.layout.Side.TheVariants.{Primary, Secondary
 use Rattle.sector_map.specs.Part.{is_member}
 use Rattle.trailer.specs.declared.kinds.Magic.TheVariants.{Good, Unset}
 use Rattle.trailer.specs.Settled.{IsSettled}
-use Rattle.set_log.specs.declared.state.Kind.{Kind}
-use Rattle.set_log.specs.declared.state.Kind.TheVariants as log
+use Rattle.set_log.specs.declared.state.RecordKind.{RecordKind}
+use Rattle.set_log.specs.declared.state.RecordKind.TheVariants as log
 use Rattle.swap_scratch.specs.Swap.{IsSwapAt}
 use Rattle.certificate.specs.declared.table.Table.{Table}
 use Rattle.upload.specs.declared.sessions.Upload.{Upload}
@@ -68,7 +68,7 @@ pub record IsSwapping (map : SectorMap) (chip : Chip) (s : DeviceState) (table :
       → IsImageAt (view map chip) s i
 
 -- The set is swapped: the record is Swap still, or Settle.
-pub record IsSwapped (w : View) (s : DeviceState) (table : Table) (kind : Kind) (mask : ℕ)
+pub record IsSwapped (w : View) (s : DeviceState) (table : Table) (kind : RecordKind) (mask : ℕ)
     (permanent : Bool) : Type 0 where
   pub trial : s.trial ≡ None
   pub images : w.images ≡ s.images
@@ -105,7 +105,7 @@ pub record IsSwappingBack (map : SectorMap) (chip : Chip) (s : DeviceState) (tri
       → IsImageAt (view map chip) s i
 
 -- The set is swapped back: the record is Back still, or BackSettle.
-pub record IsSwappedBack (w : View) (s : DeviceState) (trial : Trial) (kind : Kind)
+pub record IsSwappedBack (w : View) (s : DeviceState) (trial : Trial) (kind : RecordKind)
     : Type 0 where
   pub goes : GoesBack s trial
   pub images : w.images ≡ s.images

@@ -5,7 +5,7 @@ use Rattle.common.specs.declared.event.Event.TheVariants as event
 use Rattle.flash_model.specs.Chip.{Chip}
 use Rattle.sector_map.specs.declared.layout.SectorMap.{SectorMap}
 use Rattle.sector_map.specs.Part.{is_member}
-use Rattle.set_log.specs.declared.state.Kind.TheVariants as log
+use Rattle.set_log.specs.declared.state.RecordKind.TheVariants as log
 use Rattle.certificate.specs.declared.table.Table.{Table}
 use Rattle.certificate.specs.declared.report.Report.{Report}
 use Rattle.certificate.specs.Rightness.{taken_in}

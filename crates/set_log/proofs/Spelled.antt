@@ -5,8 +5,8 @@ use Rattle.std.specs.Str.{bytes_eq}
 use Rattle.byteorder.specs.Endian.{little_bytes, little_number}
 use Rattle.byteorder.specs.Numbers.{little_number-reads_back}
 use Rattle.set_log.specs.declared.state.State.{State}
-use Rattle.set_log.specs.declared.state.Kind.{Kind}
-use Rattle.set_log.specs.declared.state.Kind.TheVariants.{Steady, Swap, Settle, Trial, Back, BackSettle}
+use Rattle.set_log.specs.declared.state.RecordKind.{RecordKind}
+use Rattle.set_log.specs.declared.state.RecordKind.TheVariants.{Steady, Swap, Settle, Trial, Back, BackSettle}
 use Rattle.set_log.specs.Record.{kind_number, kind_of, words, words_at, head_bytes, record_bytes, fields, fits, Spells, IsSized, checked, state_in, state_from}
 use Rattle.set_log.proofs.Words.{words_back}
 
@@ -15,7 +15,7 @@ pub from_none : (images : ℕ) (bytes : List ℕ) → kind_of (slice_index bytes
 unfolding state_from
 from_none images bytes is = ap (state_in images bytes) is
 
-pub from_some : (images : ℕ) (bytes : List ℕ) (kind : Kind) → kind_of (slice_index bytes 0) ≡ Some kind
+pub from_some : (images : ℕ) (bytes : List ℕ) (kind : RecordKind) → kind_of (slice_index bytes 0) ≡ Some kind
     → state_from images bytes ≡ checked images bytes (fields kind bytes)
 unfolding state_from
 from_some images bytes kind is = ap (state_in images bytes) is
@@ -64,12 +64,12 @@ pub spells_of : (images : ℕ) (bytes : List ℕ) (s : State) → state_from ima
     → Spells images bytes s
 spells_of images bytes s is = by _ refl
   where
-    by : (kind : Option Kind) → kind_of (slice_index bytes 0) ≡ kind → Spells images bytes s
+    by : (kind : Option RecordKind) → kind_of (slice_index bytes 0) ≡ kind → Spells images bytes s
     by None none = let wrong : None ≡ Some s = sym (from_none images bytes none) ∙ is in absurd (cc wrong)
     by (Some kind) some = checked_spells images bytes (fields kind bytes) s
         (sym (from_some images bytes kind some) ∙ is)
 
-kind_back : (k : Kind) → kind_of (kind_number k) ≡ Some k
+kind_back : (k : RecordKind) → kind_of (kind_number k) ≡ Some k
 kind_back Steady = refl
 kind_back Swap = refl
 kind_back Settle = refl

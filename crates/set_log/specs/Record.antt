@@ -7,11 +7,11 @@ use Rattle.std.specs.Str.{bytes_eq}
 use Rattle.byteorder.specs.Endian.{little_bytes, little_number}
 use Rattle.common.specs.Limits.{MOST_BOOTS_LEFT, MOST_IMAGES}
 use Rattle.set_log.specs.declared.state.State.{State}
-use Rattle.set_log.specs.declared.state.Kind.{Kind}
-use Rattle.set_log.specs.declared.state.Kind.TheVariants.{Steady, Swap, Settle, Trial, Back, BackSettle}
+use Rattle.set_log.specs.declared.state.RecordKind.{RecordKind}
+use Rattle.set_log.specs.declared.state.RecordKind.TheVariants.{Steady, Swap, Settle, Trial, Back, BackSettle}
 
 -- The number of a kind in a record.
-abbrev pub kind_number : Kind → ℕ
+abbrev pub kind_number : RecordKind → ℕ
 kind_number Steady = 1
 kind_number Swap = 2
 kind_number Settle = 3
@@ -20,14 +20,14 @@ kind_number Back = 5
 kind_number BackSettle = 6
 
 -- The kind of a number.
-abbrev pub kind_of : ℕ → Option Kind
+abbrev pub kind_of : ℕ → Option RecordKind
 kind_of n =
     if n == 1 then Some Steady else if n == 2 then Some Swap else if n == 3 then Some Settle
     else if n == 4 then Some Trial else if n == 5 then Some Back
     else if n == 6 then Some BackSettle else None
 
 -- What a kind asks of the set, the permanence and the boots left.
-abbrev pub kind_fits : Kind → ℕ → Bool → ℕ → Bool
+abbrev pub kind_fits : RecordKind → ℕ → Bool → ℕ → Bool
 kind_fits Steady mask permanent left = (mask == 0) && (not permanent && (left == 0))
 kind_fits Swap mask permanent left = not (mask == 0) && (left == 0)
 kind_fits Settle mask permanent left = not (mask == 0) && (left == 0)
@@ -75,7 +75,7 @@ words_at at zero bytes = []
 words_at at (suc n) bytes = little_number 4 (drop at bytes) ∷ words_at (at + 4) n bytes
 
 -- The state of this kind that bytes have, if they spell one.
-unfoldable pub fields : Kind → List ℕ → State
+unfoldable pub fields : RecordKind → List ℕ → State
 fields kind bytes = record {
   kind = kind;
   mask = slice_index bytes 1;
@@ -90,7 +90,7 @@ unfoldable pub checked : ℕ → List ℕ → State → Option State
 checked images bytes s =
     if fits images s && bytes_eq bytes (record_bytes s) then Some s else None
 
-abbrev pub state_in : ℕ → List ℕ → Option Kind → Option State
+abbrev pub state_in : ℕ → List ℕ → Option RecordKind → Option State
 state_in images bytes None = None
 state_in images bytes (Some kind) = checked images bytes (fields kind bytes)
 

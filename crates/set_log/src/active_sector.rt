@@ -9,7 +9,7 @@ ghost use Rattle.set_log.specs.Ring.{is_active, next_of, previous_of};
 
 use crate::format::RECORD;
 use crate::places::{is_closed, is_gated, is_place_erased, read_place};
-use flash_model::{Flash, FlashError};
+use flash_model::{Flash, Result};
 use sector_map::SectorMap;
 
 /// How many sectors the log has.
@@ -32,7 +32,7 @@ fn previous_of(sector: u32) -> u32
 }
 
 /// Whether a sector is open, and the one before it closed.
-fn is_active<F: Flash>(flash: &mut F, map: &SectorMap, sector: u32) -> Result<bool, FlashError>
+fn is_active<F: Flash>(flash: &mut F, map: &SectorMap, sector: u32) -> Result<bool>
     requires laid_out { IsLaidOut map.now (F.chip flash.old) }
     requires sector { sector < 3 }
     ensures { Tells (is_active map.now.sector_size (log_bytes map.now (F.chip flash.old)) sector)
@@ -44,10 +44,7 @@ fn is_active<F: Flash>(flash: &mut F, map: &SectorMap, sector: u32) -> Result<bo
 }
 
 /// The active sector.
-pub(crate) fn find_active<F: Flash>(
-    flash: &mut F,
-    map: &SectorMap,
-) -> Result<Option<u32>, FlashError>
+pub(crate) fn find_active<F: Flash>(flash: &mut F, map: &SectorMap) -> Result<Option<u32>>
     requires { IsLaidOut map.now (F.chip flash.old) }
     ensures { FindsActive map.now (F.chip flash.old) (F.chip flash.new) result }
 {
@@ -64,7 +61,7 @@ fn last_record<F: Flash>(
     flash: &mut F,
     map: &SectorMap,
     sector: u32,
-) -> Result<Option<[u8; RECORD]>, FlashError>
+) -> Result<Option<[u8; RECORD]>>
     requires laid_out { IsLaidOut map.now (F.chip flash.old) }
     requires sector { sector < 3 }
     ensures { ReadsLast map.now sector (F.chip flash.old) (F.chip flash.new) result }
@@ -81,10 +78,7 @@ fn last_record<F: Flash>(
 }
 
 /// The record that stands.
-pub(crate) fn read_record<F: Flash>(
-    flash: &mut F,
-    map: &SectorMap,
-) -> Result<Option<[u8; RECORD]>, FlashError>
+pub(crate) fn read_record<F: Flash>(flash: &mut F, map: &SectorMap) -> Result<Option<[u8; RECORD]>>
     requires { IsLaidOut map.now (F.chip flash.old) }
     ensures { Tells (record_of map.now (F.chip flash.old))
         (F.chip flash.old) (F.chip flash.new) result }
@@ -111,7 +105,7 @@ pub(crate) fn free_place<F: Flash>(
     flash: &mut F,
     map: &SectorMap,
     sector: u32,
-) -> Result<Option<u32>, FlashError>
+) -> Result<Option<u32>>
     requires laid_out { IsLaidOut map.now (F.chip flash.old) }
     requires sector { sector < 3 }
     ensures { FindsFree map.now sector (F.chip flash.old) (F.chip flash.new) result }

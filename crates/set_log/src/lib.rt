@@ -25,4 +25,4 @@ pub use error::LogError;
 pub use laws::{a_log_that_is_left_keeps_its_state, one_sector_is_active};
 pub use log::{append, read_state, start};
 pub use record::records_are_read_back;
-pub use state::{Kind, State};
+pub use state::{RecordKind, State};

@@ -10,7 +10,7 @@ use crate::active_sector::read_record;
 use crate::error::LogError;
 use crate::state::State;
 use crate::writing::{append_record, start_record};
-use flash_model::{Flash, FlashError};
+use flash_model::{Flash, Result};
 use sector_map::SectorMap;
 
 /// Reads the state of the log: that of the last gated record of the active sector, which is the
@@ -45,7 +45,7 @@ pub fn read_state<F: Flash>(flash: &mut F, map: &SectorMap) -> Result<State, Log
 /// # Errors
 /// `Cut` where power failed: the old state stands or the new one, whatever bytes the write left,
 /// and all other parts are as they were. `Off` where the flash was off before: nothing changed.
-pub fn append<F: Flash>(flash: &mut F, map: &SectorMap, state: &State) -> Result<(), FlashError>
+pub fn append<F: Flash>(flash: &mut F, map: &SectorMap, state: &State) -> Result<()>
     requires laid_out { IsLaidOut map.now (F.chip flash.old) }
     requires has_state { IsSome (state_of map.now (F.chip flash.old)) }
     requires fits { fits map.now.images state.now ≡ true }
@@ -64,7 +64,7 @@ pub fn append<F: Flash>(flash: &mut F, map: &SectorMap, state: &State) -> Result
 /// # Errors
 /// `Cut` where power failed: the log holds any bytes, and all other parts are as they were. `Off`
 /// where the flash was off before: nothing changed.
-pub fn start<F: Flash>(flash: &mut F, map: &SectorMap, state: &State) -> Result<(), FlashError>
+pub fn start<F: Flash>(flash: &mut F, map: &SectorMap, state: &State) -> Result<()>
     requires laid_out { IsLaidOut map.now (F.chip flash.old) }
     requires fits { fits map.now.images state.now ≡ true }
     ensures { Starts map.now state.now (F.chip flash.old) (F.chip flash.new) result }

@@ -7,15 +7,11 @@ ghost use Rattle.set_log.specs.Log.{log_bytes};
 ghost use Rattle.set_log.specs.Ring.{is_closed};
 
 use crate::format::{GATE, PLACE, RECORD};
-use flash_model::{Flash, FlashError, is_erased, is_unit_erased, set_unit};
+use flash_model::{Flash, Result, is_erased, is_unit_erased, set_unit};
 use sector_map::SectorMap;
 
 /// Whether a sector of the log is closed.
-pub(crate) fn is_closed<F: Flash>(
-    flash: &mut F,
-    map: &SectorMap,
-    sector: u32,
-) -> Result<bool, FlashError>
+pub(crate) fn is_closed<F: Flash>(flash: &mut F, map: &SectorMap, sector: u32) -> Result<bool>
     requires laid_out { IsLaidOut map.now (F.chip flash.old) }
     requires sector { sector < 3 }
     ensures { Tells (is_closed map.now.sector_size (log_bytes map.now (F.chip flash.old)) sector)
@@ -31,7 +27,7 @@ pub(crate) fn is_place_erased<F: Flash>(
     map: &SectorMap,
     sector: u32,
     place: u32,
-) -> Result<bool, FlashError>
+) -> Result<bool>
     requires { HasPlace map.now sector place (F.chip flash.old) }
     ensures { TellsErased map.now sector place (F.chip flash.old) (F.chip flash.new) result }
 {
@@ -44,7 +40,7 @@ pub(crate) fn is_gated<F: Flash>(
     map: &SectorMap,
     sector: u32,
     place: u32,
-) -> Result<bool, FlashError>
+) -> Result<bool>
     requires { HasPlace map.now sector place (F.chip flash.old) }
     ensures { TellsGated map.now sector place (F.chip flash.old) (F.chip flash.new) result }
 {
@@ -58,7 +54,7 @@ pub(crate) fn read_place<F: Flash>(
     map: &SectorMap,
     sector: u32,
     place: u32,
-) -> Result<[u8; RECORD], FlashError>
+) -> Result<[u8; RECORD]>
     requires { HasPlace map.now sector place (F.chip flash.old) }
     ensures { ReadsPlace map.now sector place (F.chip flash.old) (F.chip flash.new) result }
 {
@@ -74,7 +70,7 @@ pub(crate) fn write_body<F: Flash>(
     sector: u32,
     place: u32,
     body: &[u8; RECORD],
-) -> Result<(), FlashError>
+) -> Result<()>
     requires { CanWriteBody map.now sector place (F.chip flash.old) }
     ensures { WritesBody map.now sector place body.now
         (F.chip flash.old) (F.chip flash.new) result }
@@ -88,7 +84,7 @@ pub(crate) fn set_gate<F: Flash>(
     map: &SectorMap,
     sector: u32,
     place: u32,
-) -> Result<(), FlashError>
+) -> Result<()>
     requires { CanSetGate map.now sector place (F.chip flash.old) }
     ensures { SetsGate map.now sector place (F.chip flash.old) (F.chip flash.new) result }
 {
@@ -96,7 +92,7 @@ pub(crate) fn set_gate<F: Flash>(
 }
 
 /// Closes a sector that is open.
-pub(crate) fn close<F: Flash>(flash: &mut F, map: &SectorMap, sector: u32) -> Result<(), FlashError>
+pub(crate) fn close<F: Flash>(flash: &mut F, map: &SectorMap, sector: u32) -> Result<()>
     requires { CanClose map.now sector (F.chip flash.old) }
     ensures { Closes map.now sector (F.chip flash.old) (F.chip flash.new) result }
 {
@@ -104,11 +100,7 @@ pub(crate) fn close<F: Flash>(flash: &mut F, map: &SectorMap, sector: u32) -> Re
 }
 
 /// Erases a sector of the log.
-pub(crate) fn erase_sector<F: Flash>(
-    flash: &mut F,
-    map: &SectorMap,
-    sector: u32,
-) -> Result<(), FlashError>
+pub(crate) fn erase_sector<F: Flash>(flash: &mut F, map: &SectorMap, sector: u32) -> Result<()>
     requires laid_out { IsLaidOut map.now (F.chip flash.old) }
     requires sector { sector < 3 }
     ensures { ErasesSector map.now sector (F.chip flash.old) (F.chip flash.new) result }

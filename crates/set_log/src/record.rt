@@ -5,7 +5,7 @@ ghost use Rattle.byteorder.specs.Endian.{little_bytes, little_number};
 ghost use Rattle.set_log.specs.Record.{IsSized, Spells, fields, fits, record_bytes, state_from};
 
 use crate::format::RECORD;
-use crate::state::{Kind, State};
+use crate::state::{RecordKind, State};
 use byteorder::{ByteOrder, LittleEndian};
 use common::limits::MOST_IMAGES;
 
@@ -68,7 +68,7 @@ impl State {
     }
 
     /// The state of this kind that bytes have, if they spell one.
-    fn from_fields(kind: Kind, bytes: &[u8; RECORD]) -> State
+    fn from_fields(kind: RecordKind, bytes: &[u8; RECORD]) -> State
         ensures { result ≡ fields kind bytes.now }
     {
         State {
@@ -96,7 +96,7 @@ impl State {
         requires { images ≤ MOST_IMAGES }
         ensures { result ≡ state_from images bytes.now }
     {
-        let kind = Kind::from_number(bytes[0])?;
+        let kind = RecordKind::from_number(bytes[0])?;
         let state = State::from_fields(kind, bytes);
         if state.fits(images) && *bytes == state.to_bytes() {
             return Some(state);

@@ -8,7 +8,7 @@ use common::limits::{MOST_BOOTS_LEFT, MOST_IMAGES};
 
 /// What a device is in the midst of. The numbers in records are 1 to 6, in this order.
 #[derive(Clone, Copy, Debug, PartialEq, Eq)]
-pub enum Kind {
+pub enum RecordKind {
     /// Nothing: the running images stay.
     Steady,
     /// The images of the set are being swapped in.
@@ -28,7 +28,7 @@ pub enum Kind {
 #[derive(Clone, Copy, Debug, PartialEq, Eq)]
 pub struct State {
     /// What the device is in the midst of.
-    pub kind: Kind,
+    pub kind: RecordKind,
     /// The set of images that this is about: bit i for image i.
     pub mask: u8,
     /// Whether the set is to stay without a trial.
@@ -41,32 +41,32 @@ pub struct State {
     pub left: u8,
 }
 
-impl Kind {
+impl RecordKind {
     /// The number of a kind in a record.
     pub(crate) fn number(self) -> u8
         ensures { result ≡ kind_number self }
     {
         match self {
-            Kind::Steady => 1,
-            Kind::Swap => 2,
-            Kind::Settle => 3,
-            Kind::Trial => 4,
-            Kind::Back => 5,
-            Kind::BackSettle => 6,
+            RecordKind::Steady => 1,
+            RecordKind::Swap => 2,
+            RecordKind::Settle => 3,
+            RecordKind::Trial => 4,
+            RecordKind::Back => 5,
+            RecordKind::BackSettle => 6,
         }
     }
 
     /// The kind of a number.
-    pub(crate) fn from_number(number: u8) -> Option<Kind>
+    pub(crate) fn from_number(number: u8) -> Option<RecordKind>
         ensures { result ≡ kind_of number }
     {
         match number {
-            1 => Some(Kind::Steady),
-            2 => Some(Kind::Swap),
-            3 => Some(Kind::Settle),
-            4 => Some(Kind::Trial),
-            5 => Some(Kind::Back),
-            6 => Some(Kind::BackSettle),
+            1 => Some(RecordKind::Steady),
+            2 => Some(RecordKind::Swap),
+            3 => Some(RecordKind::Settle),
+            4 => Some(RecordKind::Trial),
+            5 => Some(RecordKind::Back),
+            6 => Some(RecordKind::BackSettle),
             _ => None,
         }
     }
@@ -108,9 +108,9 @@ impl State {
         ensures { result ≡ kind_fits self.now.kind self.now.mask self.now.permanent self.now.left }
     {
         match self.kind {
-            Kind::Steady => self.mask == 0 && !self.permanent && self.left == 0,
-            Kind::Trial => self.mask != 0 && self.left <= MOST_BOOTS_LEFT,
-            Kind::Swap | Kind::Settle | Kind::Back | Kind::BackSettle => {
+            RecordKind::Steady => self.mask == 0 && !self.permanent && self.left == 0,
+            RecordKind::Trial => self.mask != 0 && self.left <= MOST_BOOTS_LEFT,
+            RecordKind::Swap | RecordKind::Settle | RecordKind::Back | RecordKind::BackSettle => {
                 self.mask != 0 && self.left == 0
             }
         }

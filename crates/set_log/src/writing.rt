@@ -9,7 +9,7 @@ ghost use Rattle.set_log.specs.Writing.{AppendsRecord, CanWrite, ErasesLog, Move
 use crate::active_sector::{find_active, free_place, next_of};
 use crate::format::RECORD;
 use crate::places::{close, erase_sector, set_gate, write_body};
-use flash_model::{Flash, FlashError};
+use flash_model::{Flash, Result};
 use sector_map::SectorMap;
 
 /// Writes a record at a free place of a sector, and then its gate: up to the gate the record
@@ -20,7 +20,7 @@ fn write_record<F: Flash>(
     sector: u32,
     place: u32,
     body: &[u8; RECORD],
-) -> Result<(), FlashError>
+) -> Result<()>
     requires { CanWrite map.now sector place (F.chip flash.old) }
     ensures { WritesRecord map.now sector place body.now
         (F.chip flash.old) (F.chip flash.new) result }
@@ -31,12 +31,7 @@ fn write_record<F: Flash>(
 
 /// Erases the sector after the active one, writes the record there, and then closes the active one:
 /// up to that unit this is the one that is read.
-fn move_on<F: Flash>(
-    flash: &mut F,
-    map: &SectorMap,
-    active: u32,
-    body: &[u8; RECORD],
-) -> Result<(), FlashError>
+fn move_on<F: Flash>(flash: &mut F, map: &SectorMap, active: u32, body: &[u8; RECORD]) -> Result<()>
     requires laid_out { IsLaidOut map.now (F.chip flash.old) }
     requires active { IsActive map.now.sector_size
         (log_bytes map.now (F.chip flash.old)) active }
@@ -53,7 +48,7 @@ pub(crate) fn append_record<F: Flash>(
     flash: &mut F,
     map: &SectorMap,
     body: &[u8; RECORD],
-) -> Result<(), FlashError>
+) -> Result<()>
     requires laid_out { IsLaidOut map.now (F.chip flash.old) }
     requires has_record { record_of map.now (F.chip flash.old) ≢ None }
     ensures { AppendsRecord map.now body.now (F.chip flash.old) (F.chip flash.new) result }
@@ -68,7 +63,7 @@ pub(crate) fn append_record<F: Flash>(
 }
 
 /// Erases the three sectors.
-fn erase_log<F: Flash>(flash: &mut F, map: &SectorMap) -> Result<(), FlashError>
+fn erase_log<F: Flash>(flash: &mut F, map: &SectorMap) -> Result<()>
     requires { IsLaidOut map.now (F.chip flash.old) }
     ensures { ErasesLog map.now (F.chip flash.old) (F.chip flash.new) result }
 {
@@ -84,7 +79,7 @@ pub(crate) fn start_record<F: Flash>(
     flash: &mut F,
     map: &SectorMap,
     body: &[u8; RECORD],
-) -> Result<(), FlashError>
+) -> Result<()>
     requires { IsLaidOut map.now (F.chip flash.old) }
     ensures { StartsRecord map.now body.now (F.chip flash.old) (F.chip flash.new) result }
 {

@@ -9,20 +9,20 @@ use Rattle.flash_model.specs.Memory.{one_more}
 use Rattle.flash_model.specs.Torn.{left_at, left_by, replaced}
 use Rattle.flash_model.specs.Written.{IsWrite, IsWrittenBy, leaves}
 use Rattle.flash_model.proofs.WrittenLaws.{leaves_behind, leaves_done, leaves_torn, written_more}
-use Rattle.slice_flash.specs.declared.table.Cut as row
+use Rattle.slice_flash.specs.declared.table.ArmedCut.{ArmedCut}
 use Rattle.slice_flash.specs.declared.table.Left.{Left}
 use Rattle.slice_flash.specs.declared.table.Left.TheVariants.{Keep, Done, Bytes}
 use Rattle.slice_flash.specs.Rows.{cutting_of, fixed_by, left_after, left_for, left_of, numbers_in, torn_bytes}
 use Rattle.slice_flash.proofs.Reaching.{any_number}
 
 -- The cut of a row leaves what the row says.
-cutting_leaves : (cut : row.Cut) (old done : List ℕ) (left : Left) → cut.left ≡ left
+cutting_leaves : (cut : ArmedCut) (old done : List ℕ) (left : Left) → cut.left ≡ left
     → left_by (cutting_of cut) old done ≡ torn_bytes left old done
 cutting_leaves cut old done Keep is = rw is refl
 cutting_leaves cut old done Done is = rw is refl
 cutting_leaves cut old done (Bytes pattern) is = rw is refl
 
-left_in : (table : List row.Cut) (k : ℕ) (old done : List ℕ)
+left_in : (table : List ArmedCut) (k : ℕ) (old done : List ℕ)
     → left_at (map cutting_of table) k old done ≡ left_of (left_for k table) old done
 left_in [] k old done = refl
 left_in (cut ∷ table) k old done = ⊎_elim
@@ -31,7 +31,7 @@ left_in (cut ∷ table) k old done = ⊎_elim
     (cases_Bool (cut.write == k))
 
 -- What the rows of a table leave.
-leaves_at : (table : List row.Cut) (first : List ℕ) (name k : ℕ) (old done : List ℕ) (left : Option Left) → k < 2 ^ 64
+leaves_at : (table : List ArmedCut) (first : List ℕ) (name k : ℕ) (old done : List ℕ) (left : Option Left) → k < 2 ^ 64
     → left_for k table ≡ left → leaves (fixed_by table first name) k old done ≡ left_of left old done
 leaves_at table first name k old done None below is =
     leaves_done (fixed_by table first name) k old done (any_number k table ∙ ap is_some is)
@@ -40,7 +40,7 @@ leaves_at table first name k old done (Some left) below is =
     ∙ left_in table k old done ∙ ap (λ (l : Option Left). left_of l old done) is
 
 -- A write leaves what the table says of the next one after this number.
-leaves_by_table : (table : List row.Cut) (first : List ℕ) (name writes : ℕ) (left : Option Left) (old done : List ℕ)
+leaves_by_table : (table : List ArmedCut) (first : List ℕ) (name writes : ℕ) (left : Option Left) (old done : List ℕ)
     → left_after writes table ≡ left → (k : ℕ) → writes ≡ min k (2 ^ 64 - 1)
     → leaves (fixed_by table first name) (k + 1) old done ≡ left_of left old done
 leaves_by_table table first name writes left old done is k counted = ⊎_elim
@@ -56,7 +56,7 @@ leaves_by_table table first name writes left old done is k counted = ⊎_elim
     (cases_lt k (2 ^ 64 - 1))
 
 -- A write of these bytes that was done or torn, as the table says.
-pub written_by_table : (table : List row.Cut) (first : List ℕ) (name size at n : ℕ) (range bytes after : List ℕ)
+pub written_by_table : (table : List ArmedCut) (first : List ℕ) (name size at n : ℕ) (range bytes after : List ℕ)
     (writes next : ℕ) (left : Option Left) → IsWrite size (record { at = at; done = range }) bytes
     → next ≡ one_more writes → left_after writes table ≡ left → length range ≡ n
     → after ≡ replaced at (left_of left (slice_range bytes at (at + n)) range) bytes
@@ -68,7 +68,7 @@ written_by_table table first name size at n range bytes after writes next left i
     (put ∙ ap (λ (m : ℕ). replaced at (left_of left (slice_range bytes at (at + m)) range) bytes) (sym long)) counts was
 
 -- The number of a write that the table cuts is in it.
-pub number_of_cut : (table : List row.Cut) (writes next : ℕ) (left : Left) → next ≡ one_more writes
+pub number_of_cut : (table : List ArmedCut) (writes next : ℕ) (left : Left) → next ≡ one_more writes
     → left_after writes table ≡ Some left → list_any (λ number. number == next) (numbers_in table) ≡ true
 number_of_cut table writes next left is some = ⊎_elim
     (λ (counts : writes < 2 ^ 64 - 1).

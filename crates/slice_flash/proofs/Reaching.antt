@@ -8,17 +8,17 @@ use Rattle.std.proofs.lemmas.Option.{none-some}
 use Rattle.flash_model.specs.Chip.{reached}
 use Rattle.flash_model.specs.Memory.{one_more}
 use Rattle.flash_model.proofs.Reached.{any_of_rows, reached_none, reached_one}
-use Rattle.slice_flash.specs.declared.table.Cut as row
+use Rattle.slice_flash.specs.declared.table.ArmedCut.{ArmedCut}
 use Rattle.slice_flash.specs.declared.table.Left.{Left}
 use Rattle.slice_flash.specs.Rows.{left_after, left_for, numbers_in}
 
 -- A number is among those of the table where a cut of that write leaves something.
-pub any_number : (number : ℕ) (table : List row.Cut)
+pub any_number : (number : ℕ) (table : List ArmedCut)
     → list_any (λ n. n == number) (numbers_in table) ≡ is_some (left_for number table)
-any_number number table = any_of_rows (λ (cut : row.Cut). cut.write) (λ (cut : row.Cut). cut.left) number table
+any_number number table = any_of_rows (λ (cut : ArmedCut). cut.write) (λ (cut : ArmedCut). cut.left) number table
 
 -- A write that isn't in the table ..
-pub reached_uncut : (table : List row.Cut) (writes next : ℕ) → writes < 2 ^ 64 → next ≡ one_more writes
+pub reached_uncut : (table : List ArmedCut) (writes next : ℕ) → writes < 2 ^ 64 → next ≡ one_more writes
     → left_after writes table ≡ None → reached (numbers_in table) next ≡ reached (numbers_in table) writes
 reached_uncut table writes next below is none = ⊎_elim
     (λ (counts : writes < 2 ^ 64 - 1).
@@ -30,7 +30,7 @@ reached_uncut table writes next below is none = ⊎_elim
     (cases_lt writes (2 ^ 64 - 1))
 
 -- .. and one that is.
-pub reached_cut : (table : List row.Cut) (writes next : ℕ) (left : Left) → next ≡ one_more writes
+pub reached_cut : (table : List ArmedCut) (writes next : ℕ) (left : Left) → next ≡ one_more writes
     → left_after writes table ≡ Some left
     → reached (numbers_in table) next ≡ reached (numbers_in table) writes + 1
 reached_cut table writes next left is some = ⊎_elim

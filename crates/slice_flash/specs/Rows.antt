@@ -3,21 +3,21 @@ use Rattle.std.specs.Prelude.{ℕ, ◌+◌, ◌-◌, ◌^◌, ◌==◌, List, []
 use Rattle.std.specs.Prelude.{Option, None, Some, option_map}
 use Rattle.flash_model.specs.Chip.{Fixed, unarmed}
 use Rattle.flash_model.specs.Torn.{Cutting, with_pattern}
-use Rattle.slice_flash.specs.declared.table.Cut as row
+use Rattle.slice_flash.specs.declared.table.ArmedCut.{ArmedCut}
 use Rattle.slice_flash.specs.declared.table.Left.{Left}
 use Rattle.slice_flash.specs.declared.table.Left.TheVariants.{Keep, Done, Bytes}
 
 -- The numbers of the writes that are to be cut.
-abbrev pub numbers_in : List row.Cut → List ℕ
+abbrev pub numbers_in : List ArmedCut → List ℕ
 numbers_in table = map (λ cut. cut.write) table
 
 -- What the cut of the write of this number leaves, where it is to be cut: the first row counts.
-abbrev pub left_for : ℕ → List row.Cut → Option Left
+abbrev pub left_for : ℕ → List ArmedCut → Option Left
 left_for number table = option_map (λ cut. cut.left) (find (λ cut. cut.write == number) table)
 
 -- What the cut of the next write leaves, after this number of writes, if it is to be cut. Numbers
 -- end at 2 ^ 64 - 1, and no write after that one is cut.
-abbrev pub left_after : ℕ → List row.Cut → Option Left
+abbrev pub left_after : ℕ → List ArmedCut → Option Left
 left_after writes table =
     if nat_lt writes (2 ^ 64 - 1) then left_for (writes + 1) table else None
 
@@ -42,7 +42,7 @@ abbrev pub pattern_of : Left → List ℕ
 pattern_of (Bytes pattern) = pattern.now
 pattern_of other = []
 
-abbrev pub cutting_of : row.Cut → Cutting
+abbrev pub cutting_of : ArmedCut → Cutting
 cutting_of cut = record {
   number = cut.write;
   kind = kind_of cut.left;
@@ -51,7 +51,7 @@ cutting_of cut = record {
 
 -- What no call changes of a flash with this table that was made of these bytes. They are borrowed,
 -- by a borrow of this name.
-abbrev pub fixed_by : List row.Cut → List ℕ → ℕ → Fixed
+abbrev pub fixed_by : List ArmedCut → List ℕ → ℕ → Fixed
 fixed_by table first name = record unarmed {
   numbers = numbers_in table;
   cuttings = map cutting_of table;

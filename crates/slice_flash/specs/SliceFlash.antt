@@ -11,13 +11,13 @@ use Rattle.flash_model.specs.Torn.{replaced, with_pattern}
 use Rattle.flash_model.specs.Written.{IsWrite}
 use Rattle.slice_flash.specs.Rows.{fixed_by, left_after, torn_bytes}
 use Rattle.slice_flash.specs.declared.flash.SliceFlash.{SliceFlash}
-use Rattle.slice_flash.specs.declared.table.Cut as row
+use Rattle.slice_flash.specs.declared.table.ArmedCut.{ArmedCut}
 use Rattle.slice_flash.specs.declared.table.Left.{Left}
 
 -- A flash over borrowed bytes: the flash itself, and the writes of it that are to be cut.
 pub record Slice : Type 0 where
   pub chip : Chip
-  pub table : List row.Cut
+  pub table : List ArmedCut
 
 -- The flash itself. By the name of the borrow it is over the same bytes for as long as it lasts.
 -- Each cut is one of the table.
@@ -39,7 +39,7 @@ abbrev pub slice_of : {L : Type 0} → SliceFlash L → Slice
 slice_of flash = record { chip = chip_of flash; table = flash.table.now }
 
 -- A flash that was just made over these bytes, in sectors of this size.
-abbrev pub new_slice : ℕ → MutBor (List ℕ) → List row.Cut → Slice
+abbrev pub new_slice : ℕ → MutBor (List ℕ) → List ArmedCut → Slice
 new_slice size borrowed table = record {
   chip = record (new_chip size (length borrowed.now / size) borrowed.now) {
     fixed = fixed_by table borrowed.now borrowed.ghost_name;

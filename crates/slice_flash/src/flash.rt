@@ -7,8 +7,8 @@ ghost use Rattle.flash_model.specs.Chip.{reached};
 ghost use Rattle.flash_model.specs.Written.{IsWrittenBy};
 ghost use Rattle.slice_flash.specs.Rows.{fixed_by, numbers_in};
 
-use crate::table::{Cut, Left, left_after, tear};
-use flash_model::{Flash, FlashError, Origin, repeat};
+use crate::table::{ArmedCut, Left, left_after, tear};
+use flash_model::{Flash, FlashError, Origin, Result, repeat};
 use std::sync::ledger::{Blank, Book, Ledger, Share};
 
 /// A flash over borrowed bytes, of which any write can be cut.
@@ -36,7 +36,7 @@ use std::sync::ledger::{Blank, Book, Ledger, Share};
 ///     requires two { L.parts ≡ 2 }
 ///     requires whole { length bytes.old ≡ 8192 }
 /// {
-///     let table = [Cut { write: 3, left: Left::Bytes(&[0x5a, 0xa5]) }];
+///     let table = [ArmedCut { write: 3, left: Left::Bytes(&[0x5a, 0xa5]) }];
 ///     let mut flash = SliceFlash::<L>::new(blank, bytes, 512, &table);
 ///     ..
 /// }
@@ -49,7 +49,7 @@ pub struct SliceFlash<'a, L: Ledger> {
     sectors: u32,
     is_on: bool,
     writes: u64,
-    table: &'a [Cut<'a>],
+    table: &'a [ArmedCut<'a>],
     origin: Origin,
     book: Book<L>,
     cuts: Share<L>,
@@ -107,7 +107,12 @@ impl<'a, L: Ledger> SliceFlash<'a, L> {
     ///
     /// It has at most 4294967295 bytes. The ledger's token has two parts, as `Blank::new(2)` makes
     /// it.
-    pub fn new(blank: Blank, bytes: &'a mut [u8], sector_size: u32, table: &'a [Cut<'a>]) -> Self
+    pub fn new(
+        blank: Blank,
+        bytes: &'a mut [u8],
+        sector_size: u32,
+        table: &'a [ArmedCut<'a>],
+    ) -> Self
         requires name { blank.name ≡ L.name }
         requires parts { blank.parts ≡ L.parts }
         requires two { L.parts ≡ 2 }
@@ -143,7 +148,7 @@ impl<'a, L: Ledger> SliceFlash<'a, L> {
 
     /// A write: repeats a pattern over `n` bytes from `at` on, or is cut. It is counted while its
     /// range is borrowed, so that count and bytes change together for the struct's invariants.
-    fn write(&mut self, at: usize, n: usize, pattern: &[u8]) -> Result<(), FlashError>
+    fn write(&mut self, at: usize, n: usize, pattern: &[u8]) -> Result<()>
         requires inside { at + n ≤ length (chip_of self.old).bytes }
         requires taken { CanPut at n pattern.now (chip_of self.old) }
         ensures { Puts at n pattern.now (slice_of self.old) (slice_of self.new) result }
@@ -197,7 +202,7 @@ impl<'a, L: Ledger> Flash for SliceFlash<'a, L> {
         self.sectors
     }
 
-    fn read(&mut self, at: u32, out: &mut [u8]) -> Result<(), FlashError>
+    fn read(&mut self, at: u32, out: &mut [u8]) -> Result<()>
         requires { at + length out.old ≤ size_of (chip_of self.old) }
         ensures chip { ReadsBytes at out.new (chip_of self.old) (chip_of self.new) result }
         ensures slice { slice_of self.new ≡ slice_of self.old }
@@ -209,7 +214,7 @@ impl<'a, L: Ledger> Flash for SliceFlash<'a, L> {
         Ok(())
     }
 
-    fn program(&mut self, at: u32, bytes: &[u8]) -> Result<(), FlashError>
+    fn program(&mut self, at: u32, bytes: &[u8]) -> Result<()>
         requires { CanProgram at (length bytes.now) (chip_of self.old) }
         ensures chip { Programs at bytes.now (chip_of self.old) (chip_of self.new) result }
         ensures slice { ProgramsByTable at bytes.now (slice_of self.old) (slice_of self.new)
@@ -218,7 +223,7 @@ impl<'a, L: Ledger> Flash for SliceFlash<'a, L> {
         self.write(at as usize, bytes.len(), bytes)
     }
 
-    fn erase(&mut self, sector: u32) -> Result<(), FlashError>
+    fn erase(&mut self, sector: u32) -> Result<()>
         requires { sector < (chip_of self.old).sectors }
         ensures chip { Erases sector (chip_of self.old) (chip_of self.new) result }
         ensures slice { ErasesByTable sector (slice_of self.old) (slice_of self.new) result }

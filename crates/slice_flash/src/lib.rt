@@ -24,4 +24,4 @@ mod flash;
 mod table;
 
 pub use flash::SliceFlash;
-pub use table::{Cut, Left};
+pub use table::{ArmedCut, Left};

@@ -19,7 +19,7 @@ pub enum Left<'a> {
 
 /// A write that is to be cut.
 #[derive(Clone, Copy, Debug, PartialEq, Eq)]
-pub struct Cut<'a> {
+pub struct ArmedCut<'a> {
     /// Its number, counted from 1 since the flash was made.
     pub write: u64,
     /// What the cut leaves.
@@ -27,7 +27,7 @@ pub struct Cut<'a> {
 }
 
 /// What the cut of write `number` leaves, if that write is to be cut. The first row for it counts.
-fn left_for<'a>(table: &[Cut<'a>], number: u64) -> Option<Left<'a>>
+fn left_for<'a>(table: &[ArmedCut<'a>], number: u64) -> Option<Left<'a>>
     ensures { result ≡ left_for number table.now }
 {
     table
@@ -37,7 +37,7 @@ fn left_for<'a>(table: &[Cut<'a>], number: u64) -> Option<Left<'a>>
 }
 
 /// What the cut of the next write leaves, after this number of writes, if it is to be cut.
-pub(crate) fn left_after<'a>(table: &[Cut<'a>], writes: u64) -> Option<Left<'a>>
+pub(crate) fn left_after<'a>(table: &[ArmedCut<'a>], writes: u64) -> Option<Left<'a>>
     ensures { result ≡ left_after writes table.now }
 {
     if writes == u64::MAX {

@@ -4,19 +4,14 @@ ghost use Rattle.std.specs.Prelude.{◌⊎◌, ◌+◌, ◌<◌, ◌≤◌, ◌^
 ghost use Rattle.flash_model.specs.Chip.{size_of};
 ghost use Rattle.swap_scratch.specs.Copies.{CanCopy, CanCopySector, Copies, CopiesSector};
 
-use flash_model::{Flash, FlashError};
+use flash_model::{Flash, Result};
 
 /// How many bytes are copied at once, whole units.
 const PIECE: usize = 256;
 
 /// Copies as many bytes as the buffer has, through it.
 #[tactic(auto, using(flash_model::proofs::Copies::copy_of_reads))]
-fn copy_piece<F: Flash>(
-    flash: &mut F,
-    from: u32,
-    to: u32,
-    piece: &mut [u8],
-) -> Result<(), FlashError>
+fn copy_piece<F: Flash>(flash: &mut F, from: u32, to: u32, piece: &mut [u8]) -> Result<()>
     requires range { CanCopy from to (length piece.old) (F.chip flash.old) }
     requires some { 8 ≤ length piece.old }
     ensures { Copies from to (length piece.old) (F.chip flash.old) (F.chip flash.new) result }
@@ -27,7 +22,7 @@ fn copy_piece<F: Flash>(
 
 /// Copies a range to an erased one that lies apart.
 #[tactic(auto, using(flash_model::proofs::Copies::copied_more, flash_model::proofs::Erased::erased_after))]
-fn copy_range<F: Flash>(flash: &mut F, from: u32, to: u32, len: u32) -> Result<(), FlashError>
+fn copy_range<F: Flash>(flash: &mut F, from: u32, to: u32, len: u32) -> Result<()>
     requires range { CanCopy from to len (F.chip flash.old) }
     requires addressed { size_of (F.chip flash.old) < 2 ^ 32 }
     requires apart { (from + len ≤ to) ⊎ (to + len ≤ from) }
@@ -45,7 +40,7 @@ fn copy_range<F: Flash>(flash: &mut F, from: u32, to: u32, len: u32) -> Result<(
 }
 
 /// Erases a sector and copies another one to it.
-pub(crate) fn copy_sector<F: Flash>(flash: &mut F, from: u32, to: u32) -> Result<(), FlashError>
+pub(crate) fn copy_sector<F: Flash>(flash: &mut F, from: u32, to: u32) -> Result<()>
     requires { CanCopySector from to (F.chip flash.old) }
     ensures { CopiesSector from to (F.chip flash.old) (F.chip flash.new) result }
 {

@@ -5,7 +5,7 @@ ghost use Rattle.swap_scratch.specs.Steps.{SwapsImage};
 
 use crate::steps::take_step;
 use crate::used::used_sectors;
-use flash_model::{Flash, FlashError};
+use flash_model::{Flash, Result};
 use sector_map::{SectorMap, Side};
 use trailer::status_count;
 
@@ -16,7 +16,7 @@ pub(crate) fn swap_image<F: Flash>(
     map: &SectorMap,
     image: u8,
     side: Side,
-) -> Result<(), FlashError>
+) -> Result<()>
     requires image { HasImage map.now image (F.chip flash.old) }
     ensures { SwapsImage map.now image side (F.chip flash.old) (F.chip flash.new) result }
 {

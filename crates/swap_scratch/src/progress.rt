@@ -4,7 +4,7 @@ ghost use Rattle.sector_map.specs.Map.{HasImage};
 ghost use Rattle.swap_scratch.specs.Steps.{ReadsProgress};
 
 use crate::used::used_sectors;
-use flash_model::{Flash, FlashError};
+use flash_model::{Flash, Result};
 use sector_map::{SectorMap, Side};
 use trailer::status_count;
 
@@ -30,7 +30,7 @@ pub fn swap_progress<F: Flash>(
     map: &SectorMap,
     image: u8,
     side: Side,
-) -> Result<Progress, FlashError>
+) -> Result<Progress>
     requires { HasImage map.now image (F.chip flash.old) }
     ensures { ReadsProgress map.now image side (F.chip flash.old) (F.chip flash.new) result }
 {

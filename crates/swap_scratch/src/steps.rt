@@ -6,7 +6,7 @@ ghost use Rattle.swap_scratch.specs.Place.{sectors_of_swap, IsMove};
 ghost use Rattle.swap_scratch.specs.Steps.{IsNextStep, IsStep, MovesSector, TakesStep};
 
 use crate::copying::copy_sector;
-use flash_model::{Flash, FlashError};
+use flash_model::{Flash, Result};
 use sector_map::{SectorMap, Side};
 use trailer::push_status;
 
@@ -35,7 +35,7 @@ fn move_sector<F: Flash>(
     image: u8,
     used: u32,
     status: u32,
-) -> Result<(), FlashError>
+) -> Result<()>
     requires laid_out { IsLaidOut map.now (F.chip flash.old) }
     requires step { IsStep map.now image used status }
     ensures { MovesSector map.now image used status (F.chip flash.old) (F.chip flash.new) result }
@@ -53,7 +53,7 @@ pub(crate) fn take_step<F: Flash>(
     side: Side,
     used: u32,
     status: u32,
-) -> Result<(), FlashError>
+) -> Result<()>
     requires image { HasImage map.now image (F.chip flash.old) }
     requires step { IsNextStep map.now image side used status (F.chip flash.old) }
     ensures { TakesStep map.now image side status (F.chip flash.old) (F.chip flash.new) result }

@@ -5,7 +5,7 @@ ghost use Rattle.sector_map.specs.Map.{HasImages};
 ghost use Rattle.swap_scratch.specs.Swaps.{Swaps, SwapsMember};
 
 use crate::images::swap_image;
-use flash_model::{Flash, FlashError};
+use flash_model::{Flash, Result};
 use sector_map::{SectorMap, Side, is_member};
 
 /// Swaps the slots of an image, where it is in the mask.
@@ -15,7 +15,7 @@ fn swap_member<F: Flash>(
     mask: u8,
     side: Side,
     image: u8,
-) -> Result<(), FlashError>
+) -> Result<()>
     requires images { HasImages map.now mask (F.chip flash.old) }
     requires there { image < map.now.images }
     ensures { SwapsMember map.now mask side image (F.chip flash.old) (F.chip flash.new) result }
@@ -40,12 +40,7 @@ fn swap_member<F: Flash>(
 /// `Cut` where power failed in the midst of a write. The flash then stands at a place of the same
 /// swap: each byte of the old contents stands in a slot of its image or in scratch, and another
 /// call ends the swap. `Off` where the flash was off before: nothing changed.
-pub fn swap_set<F: Flash>(
-    flash: &mut F,
-    map: &SectorMap,
-    mask: u8,
-    side: Side,
-) -> Result<(), FlashError>
+pub fn swap_set<F: Flash>(flash: &mut F, map: &SectorMap, mask: u8, side: Side) -> Result<()>
     requires images { HasImages map.now mask (F.chip flash.old) }
     ensures { Swaps map.now mask side (F.chip flash.old) (F.chip flash.new) result }
 {

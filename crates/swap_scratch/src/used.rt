@@ -5,7 +5,7 @@ ghost use Rattle.sector_map.specs.Map.{HasImage, slot_sectors};
 ghost use Rattle.swap_scratch.specs.Used.{sectors_for};
 ghost use Rattle.swap_scratch.specs.Steps.{ReadsUsed};
 
-use flash_model::{Flash, FlashError};
+use flash_model::{Flash, Result};
 use sector_map::{SectorMap, Side};
 use trailer::read_size;
 
@@ -28,7 +28,7 @@ pub(crate) fn used_sectors<F: Flash>(
     map: &SectorMap,
     image: u8,
     side: Side,
-) -> Result<u32, FlashError>
+) -> Result<u32>
     requires image { HasImage map.now image (F.chip flash.old) }
     ensures { ReadsUsed map.now image side (F.chip flash.old) (F.chip flash.new) result }
 {

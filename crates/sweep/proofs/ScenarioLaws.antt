@@ -18,7 +18,7 @@ use Rattle.device_texts.specs.FlashOf.{armed_in, armed_of}
 use Rattle.device_texts.specs.declared.flash.CutWrite.{CutWrite}
 use Rattle.device_texts.proofs.TextLaws.{range-more}
 use Rattle.sweep.specs.Cuts.{AreArmedFor, IsArmedFor, IsTorn}
-use Rattle.sweep.specs.declared.cuts.Cut.{Cut}
+use Rattle.sweep.specs.declared.cuts.TornWrite.{TornWrite}
 use Rattle.sweep.proofs.CutRuns.{runs_join, runs_more, runs_none, runs_one}
 use Rattle.sweep.specs.Scenario.{HasVersion, RunsEvents, RunsEvent, Reboots, RunsCut, StepsCut, held_in, borrowed_in, with_boots}
 
@@ -140,7 +140,7 @@ events_more setup same old mid new all i read happened before below is lent stay
 -- ---- cuts
 
 -- a write more is armed for a cut
-pub armed_for-more : (all : List Cut) (i : ℕ) (cut : Cut) (writes : List CutWrite) (one : CutWrite) → i < length all
+pub armed_for-more : (all : List TornWrite) (i : ℕ) (cut : TornWrite) (writes : List CutWrite) (one : CutWrite) → i < length all
     → cut ≡ get_or all i cut → AreArmedFor (take i all) (armed_in writes) → one.write ≡ cut.write
     → IsTorn cut.tear one.torn → AreArmedFor (take (i + 1) all) (armed_in (writes ++ one ∷ []))
 armed_for-more all i cut writes one below is before number leaves =

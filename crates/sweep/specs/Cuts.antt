@@ -5,7 +5,7 @@ use Rattle.flash_model.specs.declared.torn.Armed.{Armed}
 use Rattle.flash_model.specs.declared.torn.Torn.{Torn}
 use Rattle.flash_model.specs.declared.torn.Torn.TheVariants as torn
 use Rattle.trailer.specs.Fields.{good_magic}
-use Rattle.sweep.specs.declared.cuts.Cut.{Cut}
+use Rattle.sweep.specs.declared.cuts.TornWrite.{TornWrite}
 use Rattle.sweep.specs.declared.cuts.Tear.{Tear}
 use Rattle.sweep.specs.declared.cuts.Tear.TheVariants as tear
 
@@ -26,10 +26,10 @@ IsTorn tear.Magic left = IsCopies good_magic left
 IsTorn tear.Half left = left ≡ torn.Half
 
 -- A write of a flash is armed for a cut.
-pub record IsArmedFor (cut : Cut) (armed : Armed) : Type 0 where
+pub record IsArmedFor (cut : TornWrite) (armed : Armed) : Type 0 where
   pub number : armed.at ≡ cut.write
   pub leaves : IsTorn cut.tear armed.torn
 
 -- Writes are armed for cuts, each for one.
-abbrev pub AreArmedFor : List Cut → List Armed → Type 0
+abbrev pub AreArmedFor : List TornWrite → List Armed → Type 0
 AreArmedFor cuts armed = AllZip IsArmedFor cuts armed

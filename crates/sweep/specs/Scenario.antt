@@ -24,7 +24,7 @@ use Rattle.device_texts.specs.DeviceFile.{setup_of}
 use Rattle.device_texts.specs.FlashOf.{flash_of}
 use Rattle.boot_core.specs.CutEvents.{CutsEach, IsCutByWrite}
 use Rattle.sweep.specs.Cuts.{AreArmedFor}
-use Rattle.sweep.specs.declared.cuts.Cut.{Cut}
+use Rattle.sweep.specs.declared.cuts.TornWrite.{TornWrite}
 use Rattle.sweep.specs.declared.scenario.Scenario.{Scenario}
 use Rattle.sweep.specs.declared.notes.ScenarioEnd.{ScenarioEnd}
 
@@ -108,7 +108,7 @@ all_of scenario =
 -- flash, with exactly those writes armed, took all events. The reply to an event is Cut exactly if
 -- the flash took one of those writes in it. At the end its images run in these versions, or one of
 -- them is damaged and no versions are reported.
-pub record IsScenarioRun (scenario : Scenario) (cuts : List Cut) (end : ScenarioEnd) : Type 0 where
+pub record IsScenarioRun (scenario : Scenario) (cuts : List TornWrite) (end : ScenarioEnd) : Type 0 where
   pub armed : List Armed
   pub old : DeviceView
   pub new : DeviceView

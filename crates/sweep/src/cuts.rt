@@ -78,7 +78,7 @@ fn copies_of(alloc: Global, bytes: &[u8]) -> Result<Torn, AllocError>
 
 /// A write that is cut.
 #[derive(Clone, Copy)]
-pub struct Cut {
+pub struct TornWrite {
     /// Its number since the first event, counted from 1.
     pub write: u32,
     /// What the cut leaves.
@@ -90,7 +90,7 @@ pub struct Cut {
 ///
 /// # Errors
 /// `AllocError` if that memory is refused.
-pub fn cut_writes(alloc: Global, cuts: &[Cut]) -> Result<Vec<CutWrite>, AllocError>
+pub fn cut_writes(alloc: Global, cuts: &[TornWrite]) -> Result<Vec<CutWrite>, AllocError>
     ensures { IfOk result (λ writes. AreArmedFor cuts.now (armed_in writes.items)) }
 {
     let mut writes = Vec::new(alloc);
@@ -106,9 +106,9 @@ pub fn cut_writes(alloc: Global, cuts: &[Cut]) -> Result<Vec<CutWrite>, AllocErr
 #[derive(Clone, Copy)]
 pub enum Cuts {
     /// This one.
-    One(Cut),
+    One(TornWrite),
     /// Two, of which the second is a write of the boot after the first.
-    Two(Cut, Cut),
+    Two(TornWrite, TornWrite),
 }
 
 impl fmt::Display for Cuts {
@@ -125,8 +125,8 @@ impl fmt::Display for Cuts {
 }
 
 /// Writes a cut as a line of a script has it.
-fn write_cut<W: fmt::Write>(f: &mut fmt::Formatter<W>, cut: Cut) -> fmt::Result {
-    let Cut { write, tear } = cut;
+fn write_cut<W: fmt::Write>(f: &mut fmt::Formatter<W>, cut: TornWrite) -> fmt::Result {
+    let TornWrite { write, tear } = cut;
     let name = tear.name();
     write!(f, "cut {write} {name}")
 }

@@ -24,7 +24,7 @@ mod scenario_run;
 mod sweeping;
 mod text;
 
-pub use cuts::{Cut, Cuts, TEARS, Tear};
+pub use cuts::{Cuts, TEARS, Tear, TornWrite};
 pub use found::{Found, Mark, SetTally, Tally};
 pub use notes::{BootOutcome, CutNote, ScenarioEnd};
 pub use picture::picture_of;

@@ -3,7 +3,7 @@
 ghost use Rattle.std.specs.Prelude.{◌≡◌, IfOk, true};
 ghost use Rattle.sweep.specs.Scenario.{IsScenarioRun, Reboots, RunsEvent, RunsEvents, StepsCut, all_of, held_in};
 
-use crate::cuts::{Cut, cut_writes};
+use crate::cuts::{TornWrite, cut_writes};
 use crate::device::device_over;
 use crate::notes::{Notes, ScenarioEnd};
 use crate::running::running_versions;
@@ -25,7 +25,7 @@ use std::sync::ledger::{Blank, Ledger};
 pub fn run_scenario(
     alloc: Global,
     scenario: &Scenario<'_>,
-    cuts: &[Cut],
+    cuts: &[TornWrite],
 ) -> Result<ScenarioEnd, AllocError>
     ensures { IfOk result (IsScenarioRun scenario.now cuts.now) }
 {
@@ -37,7 +37,7 @@ fn run_on_flash<L: Ledger>(
     alloc: Global,
     blank: Blank,
     scenario: &Scenario<'_>,
-    cuts: &[Cut],
+    cuts: &[TornWrite],
 ) -> Result<ScenarioEnd, AllocError>
     requires name { blank.name ≡ L.name }
     requires parts { blank.parts ≡ L.parts }

@@ -2,7 +2,7 @@
 
 ghost use Rattle.std.specs.Prelude.{◌≡◌, true};
 
-use crate::cuts::{Cut, Cuts, TEARS, Tear};
+use crate::cuts::{Cuts, TEARS, Tear, TornWrite};
 use crate::device::device_over;
 use crate::found::{Found, Mark, Tally, is_same};
 use crate::notes::{CutNote, ScenarioEnd, had_memory};
@@ -152,14 +152,14 @@ impl<W: Watch> Runs<'_, '_, W> {
             self.done = done;
             let write = done.saturating_add(1);
             for tear in &TEARS {
-                self.cut_one(Cut { write, tear: *tear }, is_twice)?;
+                self.cut_one(TornWrite { write, tear: *tear }, is_twice)?;
             }
         }
         Ok(())
     }
 
     /// Makes a run with this cut. If `is_twice`, also cuts each write of the boot after it.
-    fn cut_one(&mut self, first: Cut, is_twice: bool) -> Result<(), AllocError> {
+    fn cut_one(&mut self, first: TornWrite, is_twice: bool) -> Result<(), AllocError> {
         let writes = self.try_cuts(Cuts::One(first))?;
         if is_twice {
             for place in 0..writes {
@@ -171,9 +171,9 @@ impl<W: Watch> Runs<'_, '_, W> {
     }
 
     /// Cuts this write in each way, after a first cut.
-    fn cut_second(&mut self, first: Cut, write: u32) -> Result<(), AllocError> {
+    fn cut_second(&mut self, first: TornWrite, write: u32) -> Result<(), AllocError> {
         for tear in &TEARS {
-            let second = Cut { write, tear: *tear };
+            let second = TornWrite { write, tear: *tear };
             self.try_cuts(Cuts::Two(first, second))?;
         }
         Ok(())
@@ -262,13 +262,13 @@ impl<W: Watch> Runs<'_, '_, W> {
 }
 
 /// A random cut of one of the `count` writes after the first `before`. `None` if there are none.
-fn drawn(random: &mut Random, before: u32, count: u32) -> Option<Cut> {
+fn drawn(random: &mut Random, before: u32, count: u32) -> Option<TornWrite> {
     if count == 0 {
         return None;
     }
     let place = random.number() % count;
     let tear = tear_at(random.number());
-    Some(Cut {
+    Some(TornWrite {
         write: before.saturating_add(place).saturating_add(1),
         tear,
     })

@@ -10,7 +10,7 @@ use crate::sizes::read_size;
 use crate::statuses::status_units;
 use crate::trailer_reading::read_trailer;
 use crate::units::is_range_erased;
-use flash_model::{Flash, FlashError, UNIT};
+use flash_model::{Flash, Result, UNIT};
 use sector_map::{SectorMap, Side};
 
 /// Whether none of these fields is set.
@@ -36,12 +36,7 @@ fn says_nothing(trailer: &Trailer) -> bool
 /// # Errors
 /// `Off` where the flash was off. Nothing changes in any case.
 #[tactic(auto, using(crate::proofs::Empty::blank_fields, crate::proofs::Empty::fresh_is))]
-pub fn is_blank<F: Flash>(
-    flash: &mut F,
-    map: &SectorMap,
-    image: u8,
-    side: Side,
-) -> Result<bool, FlashError>
+pub fn is_blank<F: Flash>(flash: &mut F, map: &SectorMap, image: u8, side: Side) -> Result<bool>
     requires { HasImage map.now image (F.chip flash.old) }
     ensures { TellsBlank map.now image side (F.chip flash.old) (F.chip flash.new) result }
 {

@@ -4,7 +4,7 @@ ghost use Rattle.sector_map.specs.Map.{HasImage};
 ghost use Rattle.trailer.specs.Erases.{Clears, ErasesTrailer};
 
 use crate::units::is_range_erased;
-use flash_model::{Flash, FlashError};
+use flash_model::{Flash, Result};
 use sector_map::{SectorMap, Side};
 
 /// Erases a trailer.
@@ -13,7 +13,7 @@ pub(crate) fn erase_trailer<F: Flash>(
     map: &SectorMap,
     image: u8,
     side: Side,
-) -> Result<(), FlashError>
+) -> Result<()>
     requires { HasImage map.now image (F.chip flash.old) }
     ensures { ErasesTrailer map.now image side (F.chip flash.old) (F.chip flash.new) result }
 {
@@ -27,12 +27,7 @@ pub(crate) fn erase_trailer<F: Flash>(
 /// # Errors
 /// `Cut` where power failed: the trailer holds any bytes, and all else is as it was. `Off` where
 /// the flash was off before: nothing changed.
-pub fn clear<F: Flash>(
-    flash: &mut F,
-    map: &SectorMap,
-    image: u8,
-    side: Side,
-) -> Result<(), FlashError>
+pub fn clear<F: Flash>(flash: &mut F, map: &SectorMap, image: u8, side: Side) -> Result<()>
     requires { HasImage map.now image (F.chip flash.old) }
     ensures { Clears map.now image side (F.chip flash.old) (F.chip flash.new) result }
 {

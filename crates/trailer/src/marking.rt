@@ -10,7 +10,7 @@ ghost use Rattle.trailer.specs.Settles.{MarksOk, MarksTrailer};
 
 use crate::format::{COPY_DONE, IMAGE_OK, MAGIC, MAGIC_PLACE};
 use crate::units::{read_bytes, write_units};
-use flash_model::{FLAG, Flash, FlashError, are_erased};
+use flash_model::{FLAG, Flash, Result, are_erased};
 use sector_map::{SectorMap, Side};
 
 /// Writes units that are erased or hold these bytes already; nothing is written where they hold
@@ -23,7 +23,7 @@ fn mark<F: Flash, const N: usize>(
     side: Side,
     from_end: u32,
     units: &[u8; N],
-) -> Result<(), FlashError>
+) -> Result<()>
     requires units { HasUnits map.now image from_end (length units.now) (F.chip flash.old) }
     requires free { IsFree
         (bytes_at map.now (F.chip flash.old) image side from_end (length units.now)) units.now }
@@ -44,7 +44,7 @@ fn mark_ok<F: Flash>(
     image: u8,
     side: Side,
     confirmed: bool,
-) -> Result<(), FlashError>
+) -> Result<()>
     requires image { HasImage map.now image (F.chip flash.old) }
     requires free { IsOkFree confirmed
         (bytes_at map.now (F.chip flash.old) image side image_ok_place 8) }
@@ -63,7 +63,7 @@ pub(crate) fn mark_trailer<F: Flash>(
     image: u8,
     side: Side,
     confirmed: bool,
-) -> Result<(), FlashError>
+) -> Result<()>
     requires image { HasImage map.now image (F.chip flash.old) }
     requires whole { IsWhole map.now (F.chip flash.old) image side confirmed }
     ensures { MarksTrailer map.now image side confirmed

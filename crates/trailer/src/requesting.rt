@@ -9,16 +9,11 @@ ghost use Rattle.trailer.specs.Requests.{Confirms, MarksKind, Requests};
 use crate::format::{IMAGE_OK, MAGIC, MAGIC_PLACE};
 use crate::kinds::Kind;
 use crate::units::{is_unit_set, write_units};
-use flash_model::{FLAG, Flash, FlashError};
+use flash_model::{FLAG, Flash, Result};
 use sector_map::{SectorMap, Side};
 
 /// Says in an erased trailer how an image is to be requested.
-fn mark_kind<F: Flash>(
-    flash: &mut F,
-    map: &SectorMap,
-    image: u8,
-    kind: Kind,
-) -> Result<(), FlashError>
+fn mark_kind<F: Flash>(flash: &mut F, map: &SectorMap, image: u8, kind: Kind) -> Result<()>
     requires image { HasImage map.now image (F.chip flash.old) }
     requires erased { fields_at map.now (F.chip flash.old) image Secondary ≡ erased_fields }
     ensures { MarksKind map.now image kind (F.chip flash.old) (F.chip flash.new) result }
@@ -37,12 +32,7 @@ fn mark_kind<F: Flash>(
 /// # Errors
 /// `Cut` where power failed: the image is requested as asked, or the magic isn't good and no
 /// request stands. `Off` where the flash was off before: nothing changed.
-pub fn request<F: Flash>(
-    flash: &mut F,
-    map: &SectorMap,
-    image: u8,
-    kind: Kind,
-) -> Result<(), FlashError>
+pub fn request<F: Flash>(flash: &mut F, map: &SectorMap, image: u8, kind: Kind) -> Result<()>
     requires image { HasImage map.now image (F.chip flash.old) }
     requires erased { fields_at map.now (F.chip flash.old) image Secondary ≡ erased_fields }
     ensures { Requests map.now image kind (F.chip flash.old) (F.chip flash.new) result }
@@ -58,7 +48,7 @@ pub fn request<F: Flash>(
 /// # Errors
 /// `Cut` where power failed: `image_ok` is as it was or set, and all else as it was. `Off` where
 /// the flash was off before: nothing changed.
-pub fn set_ok<F: Flash>(flash: &mut F, map: &SectorMap, image: u8) -> Result<(), FlashError>
+pub fn set_ok<F: Flash>(flash: &mut F, map: &SectorMap, image: u8) -> Result<()>
     requires { HasImage map.now image (F.chip flash.old) }
     ensures { Confirms map.now image (F.chip flash.old) (F.chip flash.new) result }
 {

@@ -13,7 +13,7 @@ use crate::format::{COPY_DONE, IMAGE_OK, MAGIC, MAGIC_PLACE};
 use crate::kinds::Settling;
 use crate::marking::mark_trailer;
 use crate::units::{is_unit_set, read_bytes};
-use flash_model::{FLAG, Flash, FlashError, are_erased};
+use flash_model::{FLAG, Flash, Result, are_erased};
 use sector_map::{SectorMap, Side};
 
 /// Whether an image is settled as confirmed.
@@ -32,7 +32,7 @@ fn are_units_free<F: Flash, const N: usize>(
     side: Side,
     from_end: u32,
     value: &[u8; N],
-) -> Result<bool, FlashError>
+) -> Result<bool>
     requires { HasPlace map.now image from_end N (F.chip flash.old) }
     ensures { Decides (IsFree (bytes_at map.now (F.chip flash.old) image side from_end N) value.now)
         (F.chip flash.old) (F.chip flash.new) result }
@@ -48,7 +48,7 @@ fn is_ok_free<F: Flash>(
     image: u8,
     side: Side,
     confirmed: bool,
-) -> Result<bool, FlashError>
+) -> Result<bool>
     requires { HasImage map.now image (F.chip flash.old) }
     ensures { Decides
         (IsOkFree confirmed (bytes_at map.now (F.chip flash.old) image side image_ok_place 8))
@@ -69,7 +69,7 @@ fn is_trailer_whole<F: Flash>(
     image: u8,
     side: Side,
     confirmed: bool,
-) -> Result<bool, FlashError>
+) -> Result<bool>
     requires { HasImage map.now image (F.chip flash.old) }
     ensures { Decides (IsWhole map.now (F.chip flash.old) image side confirmed)
         (F.chip flash.old) (F.chip flash.new) result }
@@ -88,7 +88,7 @@ fn make_whole<F: Flash>(
     image: u8,
     side: Side,
     settling: Settling,
-) -> Result<(), FlashError>
+) -> Result<()>
     requires { HasImage map.now image (F.chip flash.old) }
     ensures { MakesWhole map.now image side settling (F.chip flash.old) (F.chip flash.new) result }
 {
@@ -113,12 +113,7 @@ fn make_whole<F: Flash>(
 /// # Errors
 /// `Cut` where power failed: the two trailers hold any bytes, and all else is as it was. `Off`
 /// where the flash was off before: nothing changed.
-pub fn settle<F: Flash>(
-    flash: &mut F,
-    map: &SectorMap,
-    image: u8,
-    settling: Settling,
-) -> Result<(), FlashError>
+pub fn settle<F: Flash>(flash: &mut F, map: &SectorMap, image: u8, settling: Settling) -> Result<()>
     requires { HasImage map.now image (F.chip flash.old) }
     ensures { Settles map.now image settling (F.chip flash.old) (F.chip flash.new) result }
 {

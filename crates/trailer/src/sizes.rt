@@ -11,7 +11,7 @@ ghost use Rattle.trailer.specs.Writes.{WritesSize};
 use crate::format::SWAP_SIZE;
 use crate::units::{read_bytes, write_units};
 use byteorder::{ByteOrder, LittleEndian};
-use flash_model::{Flash, FlashError};
+use flash_model::{Flash, Result};
 use sector_map::{SectorMap, Side};
 
 /// The unit of a size: the number, the least byte first, and four zero bytes.
@@ -49,7 +49,7 @@ pub fn write_size<F: Flash>(
     image: u8,
     side: Side,
     size: u32,
-) -> Result<(), FlashError>
+) -> Result<()>
     requires image { HasImage map.now image (F.chip flash.old) }
     requires erased { are_erased
         (bytes_at map.now (F.chip flash.old) image side swap_size_place 8) ≡ true }
@@ -71,7 +71,7 @@ pub fn read_size<F: Flash>(
     map: &SectorMap,
     image: u8,
     side: Side,
-) -> Result<Option<u32>, FlashError>
+) -> Result<Option<u32>>
     requires { HasImage map.now image (F.chip flash.old) }
     ensures { Tells (fields_at map.now (F.chip flash.old) image side).size
         (F.chip flash.old) (F.chip flash.new) result }

@@ -8,7 +8,7 @@ ghost use Rattle.trailer.specs.Reads.{Tells};
 
 use crate::kinds::{Kind, Magic, Trailer};
 use crate::trailer_reading::read_trailer;
-use flash_model::{Flash, FlashError, is_unit_erased};
+use flash_model::{Flash, Result, is_unit_erased};
 use sector_map::{SectorMap, Side};
 
 /// Whether the first unit of a slot is set.
@@ -17,7 +17,7 @@ pub(crate) fn is_front_set<F: Flash>(
     map: &SectorMap,
     image: u8,
     side: Side,
-) -> Result<bool, FlashError>
+) -> Result<bool>
     requires { HasImage map.now image (F.chip flash.old) }
     ensures { Tells (first_is_set (part_of map.now (F.chip flash.old) (Slot image side)))
         (F.chip flash.old) (F.chip flash.new) result }
@@ -48,11 +48,7 @@ fn standing_kind(trailer: &Trailer, is_filled: bool) -> Option<Kind>
 ///
 /// # Errors
 /// `Off` where the flash was off. Nothing changes in any case.
-pub fn standing<F: Flash>(
-    flash: &mut F,
-    map: &SectorMap,
-    image: u8,
-) -> Result<Option<Kind>, FlashError>
+pub fn standing<F: Flash>(flash: &mut F, map: &SectorMap, image: u8) -> Result<Option<Kind>>
     requires { HasImage map.now image (F.chip flash.old) }
     ensures { Tells (standing_of map.now (F.chip flash.old) image)
         (F.chip flash.old) (F.chip flash.new) result }

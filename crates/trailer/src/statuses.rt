@@ -8,7 +8,7 @@ ghost use Rattle.trailer.specs.Reads.{Tells};
 ghost use Rattle.trailer.specs.Writes.{PushesStatus};
 
 use crate::units::is_range_erased;
-use flash_model::{Flash, FlashError, UNIT, set_unit};
+use flash_model::{Flash, Result, UNIT, set_unit};
 use sector_map::{SectorMap, Side};
 
 /// How many status units a trailer has: three for each sector of the slot.
@@ -28,12 +28,7 @@ pub(crate) fn status_units(map: &SectorMap, image: u8) -> u32
 ///
 /// # Errors
 /// `Off` where the flash was off. Nothing changes in any case.
-pub fn status_count<F: Flash>(
-    flash: &mut F,
-    map: &SectorMap,
-    image: u8,
-    side: Side,
-) -> Result<u32, FlashError>
+pub fn status_count<F: Flash>(flash: &mut F, map: &SectorMap, image: u8, side: Side) -> Result<u32>
     requires { HasImage map.now image (F.chip flash.old) }
     ensures { Tells (status_count_of map.now (F.chip flash.old) image side)
         (F.chip flash.old) (F.chip flash.new) result }
@@ -55,12 +50,7 @@ pub fn status_count<F: Flash>(
 /// # Errors
 /// `Cut` where power failed: the unit holds any bytes, so it counts or not, and all else is as it
 /// was. `Off` where the flash was off before: nothing changed.
-pub fn push_status<F: Flash>(
-    flash: &mut F,
-    map: &SectorMap,
-    image: u8,
-    side: Side,
-) -> Result<(), FlashError>
+pub fn push_status<F: Flash>(flash: &mut F, map: &SectorMap, image: u8, side: Side) -> Result<()>
     requires image { HasImage map.now image (F.chip flash.old) }
     requires room { status_count_of map.now (F.chip flash.old) image side
         < 3 * slot_sectors map.now image }

@@ -8,7 +8,7 @@ ghost use Rattle.trailer.specs.Reads.{Tells};
 use crate::format::{COPY_DONE, IMAGE_OK, MAGIC, MAGIC_PLACE, WITHDRAWN};
 use crate::kinds::{Magic, Trailer};
 use crate::units::{is_unit_set, read_bytes};
-use flash_model::{Flash, FlashError, are_erased};
+use flash_model::{Flash, Result, are_erased};
 use sector_map::{SectorMap, Side};
 
 /// What the bytes of a magic say.
@@ -36,7 +36,7 @@ pub fn read_trailer<F: Flash>(
     map: &SectorMap,
     image: u8,
     side: Side,
-) -> Result<Trailer, FlashError>
+) -> Result<Trailer>
     requires { HasImage map.now image (F.chip flash.old) }
     ensures { Tells (trailer_of (fields_at map.now (F.chip flash.old) image side))
         (F.chip flash.old) (F.chip flash.new) result }

@@ -6,7 +6,7 @@ ghost use Rattle.trailer.specs.Fields.{bytes_at, is_set, place_of, trailer_bytes
 ghost use Rattle.trailer.specs.Reads.{HasPlace, HasRange, Tells};
 ghost use Rattle.trailer.specs.Writes.{HasUnits, WritesUnits};
 
-use flash_model::{Flash, FlashError, are_erased, is_erased};
+use flash_model::{Flash, Result, are_erased, is_erased};
 use sector_map::{SectorMap, Side};
 
 /// The address of what begins so many bytes before the end of a trailer.
@@ -26,7 +26,7 @@ pub(crate) fn read_bytes<F: Flash, const N: usize>(
     image: u8,
     side: Side,
     from_end: u32,
-) -> Result<[u8; N], FlashError>
+) -> Result<[u8; N]>
     requires { HasPlace map.now image from_end N (F.chip flash.old) }
     ensures { Tells (bytes_at map.now (F.chip flash.old) image side from_end N)
         (F.chip flash.old) (F.chip flash.new) result }
@@ -43,7 +43,7 @@ pub(crate) fn is_unit_set<F: Flash>(
     image: u8,
     side: Side,
     from_end: u32,
-) -> Result<bool, FlashError>
+) -> Result<bool>
     requires { HasPlace map.now image from_end 8 (F.chip flash.old) }
     ensures { Tells (is_set (bytes_at map.now (F.chip flash.old) image side from_end 8))
         (F.chip flash.old) (F.chip flash.new) result }
@@ -60,7 +60,7 @@ pub(crate) fn is_range_erased<F: Flash>(
     side: Side,
     offset: u32,
     length: u32,
-) -> Result<bool, FlashError>
+) -> Result<bool>
     requires { HasRange map.now image offset length (F.chip flash.old) }
     ensures { Tells (are_erased (slice_range
         (trailer_bytes map.now (F.chip flash.old) image side) offset (offset + length)))
@@ -77,7 +77,7 @@ pub(crate) fn write_units<F: Flash>(
     side: Side,
     from_end: u32,
     units: &[u8],
-) -> Result<(), FlashError>
+) -> Result<()>
     requires units { HasUnits map.now image from_end (length units.now) (F.chip flash.old) }
     requires erased { are_erased
         (bytes_at map.now (F.chip flash.old) image side from_end (length units.now)) ≡ true }

@@ -8,11 +8,11 @@ use crate::clearing::clear;
 use crate::format::WITHDRAWN;
 use crate::standing_request::{is_front_set, standing};
 use crate::units::write_units;
-use flash_model::{FLAG, Flash, FlashError};
+use flash_model::{FLAG, Flash, Result};
 use sector_map::{SectorMap, Side};
 
 /// Sets the withdrawn unit, where a request stands.
-fn take_back<F: Flash>(flash: &mut F, map: &SectorMap, image: u8) -> Result<(), FlashError>
+fn take_back<F: Flash>(flash: &mut F, map: &SectorMap, image: u8) -> Result<()>
     requires { HasImage map.now image (F.chip flash.old) }
     ensures { TakesBack map.now image (F.chip flash.old) (F.chip flash.new) result }
 {
@@ -23,7 +23,7 @@ fn take_back<F: Flash>(flash: &mut F, map: &SectorMap, image: u8) -> Result<(), 
 }
 
 /// Erases the first sector of a secondary slot, unless its first unit is erased.
-fn erase_front<F: Flash>(flash: &mut F, map: &SectorMap, image: u8) -> Result<(), FlashError>
+fn erase_front<F: Flash>(flash: &mut F, map: &SectorMap, image: u8) -> Result<()>
     requires { HasImage map.now image (F.chip flash.old) }
     ensures { ErasesFront map.now image Secondary (F.chip flash.old) (F.chip flash.new) result }
 {
@@ -43,7 +43,7 @@ fn erase_front<F: Flash>(flash: &mut F, map: &SectorMap, image: u8) -> Result<()
 /// # Errors
 /// `Cut` where power failed: the request is as it was, slot and trailer, or none stands. `Off`
 /// where the flash was off before: nothing changed.
-pub fn withdraw<F: Flash>(flash: &mut F, map: &SectorMap, image: u8) -> Result<(), FlashError>
+pub fn withdraw<F: Flash>(flash: &mut F, map: &SectorMap, image: u8) -> Result<()>
     requires { HasImage map.now image (F.chip flash.old) }
     ensures { Withdraws map.now image (F.chip flash.old) (F.chip flash.new) result }
 {

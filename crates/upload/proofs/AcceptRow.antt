@@ -3,7 +3,7 @@ use Rattle.std.proofs.Common.{◌≡◌, ◌⊎◌, ℕ, ◌<◌, ◌≤◌, fal
 use Rattle.sector_map.specs.declared.layout.Side.TheVariants.{Primary, Secondary}
 use Rattle.sector_map.specs.Part.{Log, only}
 use Rattle.set_log.specs.declared.state.State.{State}
-use Rattle.set_log.specs.declared.state.Kind.TheVariants.{Steady}
+use Rattle.set_log.specs.declared.state.RecordKind.TheVariants.{Steady}
 use Rattle.manifest.specs.declared.manifest.Component.{Component}
 use Rattle.upload.specs.View.{View, KeepsView}
 use Rattle.upload.specs.Device.{DeviceState, Machine, Session, Wanted}

@@ -5,8 +5,8 @@ use Rattle.sector_map.specs.declared.layout.Side.TheVariants.{Primary, Secondary
 use Rattle.trailer.specs.Fields.{Fields, trailer_of}
 use Rattle.trailer.specs.Standing.{first_is_set, standing_kind}
 use Rattle.trailer.specs.declared.kinds.Kind as request
-use Rattle.set_log.specs.declared.state.Kind.{Kind}
-use Rattle.set_log.specs.declared.state.Kind.TheVariants.{Steady}
+use Rattle.set_log.specs.declared.state.RecordKind.{RecordKind}
+use Rattle.set_log.specs.declared.state.RecordKind.TheVariants.{Steady}
 use Rattle.set_log.specs.declared.state.State.{State}
 use Rattle.image_reading.specs.declared.desc.Desc.{Desc}
 use Rattle.image_reading.specs.Image.{IsIntact}
@@ -42,7 +42,7 @@ pub record IsImageAt (w : View) (s : DeviceState) (i : ℕ) : Type 0 where
   pub request : IsRequested (w.trailer i Secondary) (w.slot i Secondary) (s.request i)
 
 -- The state that the log has of a device that is in the midst of this.
-abbrev pub logged : Kind → ℕ → Bool → ℕ → DeviceState → State
+abbrev pub logged : RecordKind → ℕ → Bool → ℕ → DeviceState → State
 logged kind mask permanent left s = record {
   kind = kind;
   mask = mask;

@@ -12,7 +12,7 @@ use crate::error::UploadError;
 use crate::judging::judge_manifest;
 use crate::opening::open_all;
 use crate::sessions::Uploads;
-use flash_model::{Flash, FlashError};
+use flash_model::{Flash, Result};
 use manifest::{Component, Manifest};
 use sector_map::SectorMap;
 use set_log::{State, append};
@@ -23,7 +23,7 @@ fn record_sequence<F: Flash>(
     map: &SectorMap,
     state: &State,
     sequence: u32,
-) -> Result<(), FlashError>
+) -> Result<()>
     requires { CanRecord map.now state.now sequence (F.chip flash.old) }
     ensures { RecordsSequence map.now state.now sequence
         (F.chip flash.old) (F.chip flash.new) result }
@@ -42,7 +42,7 @@ fn write_manifest<F: Flash>(
     state: &State,
     sequence: u32,
     components: &[Component],
-) -> Result<(), FlashError>
+) -> Result<()>
     requires state { CanRecord map.now state.now sequence (F.chip flash.old) }
     requires there { AreThere map.now components.now }
     requires fit { AllFit map.now components.now }

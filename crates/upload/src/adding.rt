@@ -6,7 +6,7 @@ ghost use Rattle.upload.specs.Adding.{AddsBytes, HoldsBack, IsOpenFor};
 use crate::sessions::{UNIT, Upload};
 use crate::slots::write_slot;
 use arrayvec::ArrayVec;
-use flash_model::{Flash, FlashError};
+use flash_model::{Flash, Result};
 use sector_map::SectorMap;
 
 /// Bytes are appended to those of a unit, where there is room for them.
@@ -45,7 +45,7 @@ fn write_units<F: Flash>(
     image: u8,
     upload: &mut Upload,
     bytes: &[u8],
-) -> Result<(), FlashError>
+) -> Result<()>
     requires room { IsOpenFor map.now image upload.old (length bytes.now) (F.chip flash.old) }
     requires enough { 8 ≤ length upload.old.held.items + length bytes.now }
     ensures { AddsBytes map.now image upload.old upload.new bytes.now
@@ -70,7 +70,7 @@ pub(crate) fn add_bytes<F: Flash>(
     image: u8,
     upload: &mut Upload,
     bytes: &[u8],
-) -> Result<(), FlashError>
+) -> Result<()>
     requires { IsOpenFor map.now image upload.old (length bytes.now) (F.chip flash.old) }
     ensures { AddsBytes map.now image upload.old upload.new bytes.now
         (F.chip flash.old) (F.chip flash.new) result }

@@ -15,7 +15,7 @@ use crate::error::UploadError;
 use crate::sessions::{UNIT, Upload, Uploads};
 use crate::slots::write_slot;
 use arrayvec::ArrayVec;
-use flash_model::{Flash, FlashError};
+use flash_model::{Flash, Result};
 use image_reading::{SlotError, describe_file, digest_file};
 use sector_map::{SectorMap, Side};
 use trailer::request;
@@ -39,7 +39,7 @@ fn write_last<F: Flash>(
     image: u8,
     start: u32,
     mut unit: ArrayVec<u8, UNIT>,
-) -> Result<(), FlashError>
+) -> Result<()>
     requires behind { HasRoomBehind map.now image start (length unit.items) (F.chip flash.old) }
     requires few { length unit.items < 8 }
     ensures { Appends map.now image start unit.items 8
@@ -58,7 +58,7 @@ fn digest_incoming<F: Flash>(
     map: &SectorMap,
     image: u8,
     size: u32,
-) -> Result<[u8; 32], FlashError>
+) -> Result<[u8; 32]>
     requires image { HasImage map.now image (F.chip flash.old) }
     requires room { size ≤ length_of map.now (Slot image Secondary) }
     ensures { ReadsDigest map.now image size (F.chip flash.old) (F.chip flash.new) result }

@@ -8,7 +8,7 @@ ghost use Rattle.upload.specs.Judging.{CanJudge, JudgesManifest, ReadsPrecursor,
 ghost use Rattle.upload.specs.Judging.{ReadsState};
 
 use crate::error::UploadError;
-use flash_model::{Flash, FlashError};
+use flash_model::{Flash, Result};
 use image_reading::intact_image;
 use manifest::{Component, Manifest};
 use sector_map::{SectorMap, Side};
@@ -35,11 +35,7 @@ pub(crate) fn is_same_digest(one: &[u8; 32], other: &[u8; 32]) -> bool
 }
 
 /// Whether the image runs that a component asks for, if it asks for one.
-fn follows<F: Flash>(
-    flash: &mut F,
-    map: &SectorMap,
-    component: &Component,
-) -> Result<bool, FlashError>
+fn follows<F: Flash>(flash: &mut F, map: &SectorMap, component: &Component) -> Result<bool>
     requires { HasImage map.now component.now.image (F.chip flash.old) }
     ensures { ReadsPrecursor map.now component.now (F.chip flash.old) (F.chip flash.new) result }
 {
@@ -53,11 +49,7 @@ fn follows<F: Flash>(
 }
 
 /// Whether the image runs that each component asks for.
-fn all_follow<F: Flash>(
-    flash: &mut F,
-    map: &SectorMap,
-    components: &[Component],
-) -> Result<bool, FlashError>
+fn all_follow<F: Flash>(flash: &mut F, map: &SectorMap, components: &[Component]) -> Result<bool>
     requires laid_out { IsLaidOut map.now (F.chip flash.old) }
     requires there { AreThere map.now components.now }
     ensures { ReadsPrecursors map.now components.now (F.chip flash.old) (F.chip flash.new) result }
@@ -71,7 +63,7 @@ fn all_follow<F: Flash>(
 }
 
 /// The state of the log.
-fn last_state<F: Flash>(flash: &mut F, map: &SectorMap) -> Result<State, FlashError>
+fn last_state<F: Flash>(flash: &mut F, map: &SectorMap) -> Result<State>
     requires laid_out { IsLaidOut map.now (F.chip flash.old) }
     requires has_state { state_of map.now (F.chip flash.old) ≢ None }
     ensures { ReadsState map.now (F.chip flash.old) (F.chip flash.new) result }

@@ -9,13 +9,13 @@ ghost use Rattle.upload.specs.Opening.{OpensSlot, OpensUpload, OpensUploads};
 use crate::sessions::{Upload, Uploads};
 use crate::slots::erase_slot;
 use arrayvec::ArrayVec;
-use flash_model::{Flash, FlashError};
+use flash_model::{Flash, Result};
 use manifest::Component;
 use sector_map::SectorMap;
 use trailer::{Kind, withdraw};
 
 /// Takes back what is requested for an image, and erases its slot.
-fn open_slot<F: Flash>(flash: &mut F, map: &SectorMap, image: u8) -> Result<(), FlashError>
+fn open_slot<F: Flash>(flash: &mut F, map: &SectorMap, image: u8) -> Result<()>
     requires { HasImage map.now image (F.chip flash.old) }
     ensures { OpensSlot map.now image (F.chip flash.old) (F.chip flash.new) result }
 {
@@ -53,7 +53,7 @@ fn open_one<F: Flash>(
     map: &SectorMap,
     uploads: &mut Uploads,
     component: &Component,
-) -> Result<(), FlashError>
+) -> Result<()>
     requires { HasImage map.now component.now.image (F.chip flash.old) }
     ensures { OpensUpload map.now component.now uploads.old.sessions uploads.new.sessions
         (F.chip flash.old) (F.chip flash.new) result }
@@ -69,7 +69,7 @@ pub(crate) fn open_all<F: Flash>(
     map: &SectorMap,
     uploads: &mut Uploads,
     components: &[Component],
-) -> Result<(), FlashError>
+) -> Result<()>
     requires laid_out { IsLaidOut map.now (F.chip flash.old) }
     requires there { AreThere map.now components.now }
     ensures { OpensUploads map.now components.now uploads.old.sessions uploads.new.sessions

@@ -4,7 +4,7 @@ ghost use Rattle.std.specs.Prelude.{◌≡◌, ℕ, ◌*◌, ◌<◌, length};
 ghost use Rattle.sector_map.specs.Map.{HasImage, slot_sectors};
 ghost use Rattle.upload.specs.Slots.{Appends, ErasesSector, ErasesSlot, HasRoomBehind};
 
-use flash_model::{Flash, FlashError, is_erased};
+use flash_model::{Flash, Result, is_erased};
 use sector_map::{SectorMap, Side};
 
 /// Programs whole units, or none, right behind what is written of a secondary slot.
@@ -14,7 +14,7 @@ pub(crate) fn write_slot<F: Flash>(
     image: u8,
     at: u32,
     bytes: &[u8],
-) -> Result<(), FlashError>
+) -> Result<()>
     requires behind { HasRoomBehind map.now image at (length bytes.now) (F.chip flash.old) }
     requires units { (k : ℕ) × (length bytes.now ≡ 8 * k) }
     ensures { Appends map.now image at bytes.now (length bytes.now)
@@ -27,12 +27,7 @@ pub(crate) fn write_slot<F: Flash>(
 }
 
 /// Erases a sector of a secondary slot, unless it is all erased.
-fn erase_sector<F: Flash>(
-    flash: &mut F,
-    map: &SectorMap,
-    image: u8,
-    index: u32,
-) -> Result<(), FlashError>
+fn erase_sector<F: Flash>(flash: &mut F, map: &SectorMap, image: u8, index: u32) -> Result<()>
     requires image { HasImage map.now image (F.chip flash.old) }
     requires within { index < slot_sectors map.now image }
     ensures { ErasesSector map.now image index (F.chip flash.old) (F.chip flash.new) result }
@@ -45,11 +40,7 @@ fn erase_sector<F: Flash>(
 }
 
 /// Erases each sector of a secondary slot that isn't all erased.
-pub(crate) fn erase_slot<F: Flash>(
-    flash: &mut F,
-    map: &SectorMap,
-    image: u8,
-) -> Result<(), FlashError>
+pub(crate) fn erase_slot<F: Flash>(flash: &mut F, map: &SectorMap, image: u8) -> Result<()>
     requires { HasImage map.now image (F.chip flash.old) }
     ensures { ErasesSlot map.now image (F.chip flash.old) (F.chip flash.new) result }
 {

@@ -12,7 +12,7 @@ ghost use Rattle.upload.specs.Standing.{HasCounts, TellsOpen, TellsStand};
 
 use crate::sessions::{UNIT, Upload, Uploads};
 use common::limits::MOST_IMAGES;
-use flash_model::{Flash, FlashError, is_erased};
+use flash_model::{Flash, Result, is_erased};
 use sector_map::{SectorMap, Side};
 use trailer::is_blank;
 
@@ -37,12 +37,7 @@ fn written_of(map: &SectorMap, image: u8, upload: &Upload) -> Option<u32>
 }
 
 /// Whether a secondary slot is erased behind so many bytes.
-fn is_erased_behind<F: Flash>(
-    flash: &mut F,
-    map: &SectorMap,
-    image: u8,
-    at: u32,
-) -> Result<bool, FlashError>
+fn is_erased_behind<F: Flash>(flash: &mut F, map: &SectorMap, image: u8, at: u32) -> Result<bool>
     requires image { HasImage map.now image (F.chip flash.old) }
     requires within { at ≤ length_of map.now (Slot image Secondary) }
     ensures { Decides (IsWritten (incoming_slot map.now (F.chip flash.old) image)
@@ -54,12 +49,7 @@ fn is_erased_behind<F: Flash>(
 }
 
 /// Whether an upload of an image stands on the flash.
-fn stands<F: Flash>(
-    flash: &mut F,
-    map: &SectorMap,
-    image: u8,
-    upload: &Upload,
-) -> Result<bool, FlashError>
+fn stands<F: Flash>(flash: &mut F, map: &SectorMap, image: u8, upload: &Upload) -> Result<bool>
     requires { IsLaidOut map.now (F.chip flash.old) }
     ensures { TellsOpen map.now image (Some upload.now)
         (F.chip flash.old) (F.chip flash.new) result }
@@ -78,7 +68,7 @@ fn stands_if_open<F: Flash>(
     map: &SectorMap,
     image: u8,
     upload: &Option<Upload>,
-) -> Result<bool, FlashError>
+) -> Result<bool>
     requires { IsLaidOut map.now (F.chip flash.old) }
     ensures { TellsOpen map.now image upload.now (F.chip flash.old) (F.chip flash.new) result }
 {
@@ -89,11 +79,7 @@ fn stands_if_open<F: Flash>(
 }
 
 /// Whether each open upload of a table, which has an entry an image, stands on the flash.
-fn all_stand<F: Flash>(
-    flash: &mut F,
-    map: &SectorMap,
-    sessions: &[Option<Upload>],
-) -> Result<bool, FlashError>
+fn all_stand<F: Flash>(flash: &mut F, map: &SectorMap, sessions: &[Option<Upload>]) -> Result<bool>
     requires laid_out { IsLaidOut map.now (F.chip flash.old) }
     requires few { length sessions.now ≤ MOST_IMAGES }
     ensures { TellsStand map.now sessions.now (F.chip flash.old) (F.chip flash.new) result }
@@ -119,7 +105,7 @@ impl Uploads {
     /// # Errors
     /// `Off` where the flash was off, which isn't asked before an upload is open whose counts fit
     /// each other and the slot. Nothing changes in any case.
-    pub fn stand<F: Flash>(&self, flash: &mut F, map: &SectorMap) -> Result<bool, FlashError>
+    pub fn stand<F: Flash>(&self, flash: &mut F, map: &SectorMap) -> Result<bool>
         requires { IsLaidOut map.now (F.chip flash.old) }
         ensures { TellsStand map.now self.now.sessions
             (F.chip flash.old) (F.chip flash.new) result }

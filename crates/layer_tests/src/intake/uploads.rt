@@ -14,7 +14,7 @@ use arrayvec::ArrayVec;
 use flash_model::{Flash, MemFlash};
 use manifest::{Component, Manifest};
 use sector_map::SectorMap;
-use set_log::{Kind, State, read_state, start};
+use set_log::{RecordKind, State, read_state, start};
 use std::alloc::Global;
 use std::marker::Brand;
 use std::process::Abort;
@@ -132,7 +132,7 @@ fn begun<L: Ledger>(
 {
     let mut flash = in_memory::<L>(rt, blank, longer(rt.alloc())?);
     let state = State {
-        kind: Kind::Steady,
+        kind: RecordKind::Steady,
         mask: 0,
         permanent: false,
         sequence: 3,

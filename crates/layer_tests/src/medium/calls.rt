@@ -2,13 +2,13 @@
 
 ghost use Rattle.std.specs.Prelude.{◌≡◌};
 
-use flash_model::{Flash, FlashError, is_erased};
+use flash_model::{Flash, FlashError, Result, is_erased};
 
-pub const DONE: Result<(), FlashError> = Ok(());
+pub const DONE: Result<()> = Ok(());
 
-pub const CUT: Result<(), FlashError> = Err(FlashError::Cut);
+pub const CUT: Result<()> = Err(FlashError::Cut);
 
-pub const OFF: Result<(), FlashError> = Err(FlashError::Off);
+pub const OFF: Result<()> = Err(FlashError::Off);
 
 /// A call on the flash.
 #[derive(Clone, Copy)]
@@ -20,12 +20,12 @@ pub enum Call {
 }
 
 /// A call, and what it has to answer.
-pub type Answered = (Call, Result<(), FlashError>);
+pub type Answered = (Call, Result<()>);
 
 const SIXTEEN: [u8; 16] = [1, 2, 3, 4, 5, 6, 7, 8, 9, 10, 11, 12, 13, 14, 15, 16];
 
 /// What comes of a call, where the flash may be asked for it.
-fn answer<F: Flash>(flash: &mut F, call: Call) -> Option<Result<(), FlashError>> {
+fn answer<F: Flash>(flash: &mut F, call: Call) -> Option<Result<()>> {
     if flash.sector_size() != 8 || flash.sectors() != 4 {
         return None;
     }

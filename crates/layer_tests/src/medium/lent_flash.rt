@@ -8,13 +8,18 @@ use crate::medium::calls::{
     PROGRAMMED_12, TORN_1, TORN_PROGRAM, are_answered, words_of,
 };
 use flash_model::{FLAG, is_erased, set_unit};
-use slice_flash::{Cut, Left, SliceFlash};
+use slice_flash::{ArmedCut, Left, SliceFlash};
 use std::alloc::{AllocError, Global};
 use std::marker::Brand;
 use std::sync::ledger::{Blank, Ledger};
 
 /// Makes these calls on a flash over the bytes, and tells whether each answered as it has to.
-fn play<L: Ledger>(blank: Blank, bytes: &mut [u8], table: &[Cut<'_>], calls: &[Answered]) -> bool
+fn play<L: Ledger>(
+    blank: Blank,
+    bytes: &mut [u8],
+    table: &[ArmedCut<'_>],
+    calls: &[Answered],
+) -> bool
     requires name { blank.name ≡ L.name }
     requires parts { blank.parts ≡ L.parts }
     requires two { L.parts ≡ 2 }
@@ -30,7 +35,7 @@ fn are_left(alloc: Global, row: &Played) -> Result<bool, AllocError> {
     let (before, cuts, calls, wanted) = row;
     let mut table = Vec::new(alloc);
     for (write, left) in *cuts {
-        table.push(Cut {
+        table.push(ArmedCut {
             write: *write,
             left: *left,
         })?;

@@ -4,7 +4,7 @@ ghost use Rattle.std.specs.Prelude.{◌≡◌};
 
 use super::states::STEADY;
 use crate::memory::in_memory;
-use flash_model::{Flash, FlashError, Torn};
+use flash_model::{Flash, Result, Torn};
 use sector_map::{SectorMap, Side, is_within};
 use set_log::{append, read_state, start};
 use std::marker::Brand;
@@ -32,7 +32,7 @@ pub(super) enum Call {
 
 /// What calls leave: the answer of the last one, how many writes and completed erases there were,
 /// and the bytes.
-pub(super) type Outcome = (Result<(), FlashError>, u64, u64, Vec<u8>);
+pub(super) type Outcome = (Result<()>, u64, u64, Vec<u8>);
 
 /// Makes a call on a log.
 fn record<F: Flash>(
@@ -41,7 +41,7 @@ fn record<F: Flash>(
     map: &SectorMap,
     sequence: u32,
     is_append: bool,
-) -> Result<(), FlashError> {
+) -> Result<()> {
     let mut state = STEADY;
     state.sequence = sequence;
     assert!(rt; map.fits(flash) && state.fits(map.images));
@@ -53,12 +53,7 @@ fn record<F: Flash>(
 }
 
 /// Makes a call on trailers or slots.
-fn make<F: Flash>(
-    rt: &impl Abort,
-    flash: &mut F,
-    map: &SectorMap,
-    call: Call,
-) -> Result<(), FlashError> {
+fn make<F: Flash>(rt: &impl Abort, flash: &mut F, map: &SectorMap, call: Call) -> Result<()> {
     assert!(rt; map.images == 2 && map.fits(flash));
     match call {
         Call::Request(kind) => {

@@ -3,7 +3,7 @@
 use flash_model::FlashError;
 use sector_map::SectorMap;
 use set_log::{
-    Kind, LogError, State, a_log_that_is_left_keeps_its_state, one_sector_is_active,
+    LogError, RecordKind, State, a_log_that_is_left_keeps_its_state, one_sector_is_active,
     records_are_read_back,
 };
 use std::test::Fail;
@@ -11,7 +11,7 @@ use swap_scratch::swap_laws;
 
 /// A device in the midst of nothing, whose second image may not have a counter below 5.
 pub(super) const STEADY: State = State {
-    kind: Kind::Steady,
+    kind: RecordKind::Steady,
     mask: 0,
     permanent: false,
     sequence: 1,

@@ -2,7 +2,7 @@ use Rattle.std.proofs.Common.{arith, inl, refl, subst, sym}
 use Rattle.std.proofs.lemmas.Result.{IfOk-weaker}
 use Rattle.sector_map.proofs.Parts.{laid_out_kept}
 use Rattle.sector_map.specs.declared.layout.Side.TheVariants.{Secondary}
-use Rattle.set_log.specs.declared.state.Kind.TheVariants.{Back, BackSettle}
+use Rattle.set_log.specs.declared.state.RecordKind.TheVariants.{Back, BackSettle}
 use Rattle.swap_scratch.specs.Swap.{IsSwapAt}
 use Rattle.upload.proofs.Ends.{err_passed}
 use Rattle.machine.proofs.Returning.{back_settle_either, back_settle_ok}

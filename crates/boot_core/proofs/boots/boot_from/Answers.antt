@@ -1,7 +1,7 @@
 use Rattle.std.proofs.Common.{◌+◌}
 use Rattle.std.proofs.lemmas.Result.{IfOk-weaker}
 use Rattle.machine.proofs.Standing.{stands_steady}
-use Rattle.set_log.specs.declared.state.Kind.TheVariants as log
+use Rattle.set_log.specs.declared.state.RecordKind.TheVariants as log
 use Rattle.boot_core.proofs.Booted.{boot_as, boots_back, boots_idle, boots_stop}
 use Rattle.boot_core.proofs.boots.boot_from.Goals as goal
 

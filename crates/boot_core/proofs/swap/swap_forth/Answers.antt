@@ -1,6 +1,6 @@
 use Rattle.std.proofs.Common.{arith, inl, inr, refl, subst}
 use Rattle.sector_map.proofs.Parts.{laid_out_kept}
-use Rattle.set_log.specs.declared.state.Kind.TheVariants.{Settle, Swap}
+use Rattle.set_log.specs.declared.state.RecordKind.TheVariants.{Settle, Swap}
 use Rattle.certificate.specs.declared.table.Table.{Table}
 use Rattle.upload.specs.Device.{DeviceState}
 use Rattle.upload.proofs.Ends.{err_passed}
