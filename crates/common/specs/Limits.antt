@@ -1,35 +1,35 @@
--- The limits of a device, of its images and of what it is given, by their formats.
+-- The limits of a device, its images, its input and its decisions.
 use Rattle.std.specs.Prelude.{ℕ}
 
--- A device has 8 images at most.
+-- A device has at most 8 images.
 abbrev pub MOST_IMAGES : ℕ
 MOST_IMAGES = 8
 
--- An image has 16 dependencies at most.
+-- An image has at most 16 dependencies.
 abbrev pub MOST_DEPENDENCIES : ℕ
 MOST_DEPENDENCIES = 16
 
--- An image has 4 groups at most.
+-- An image has at most 4 groups.
 abbrev pub MOST_GROUPS : ℕ
 MOST_GROUPS = 4
 
--- A group has 4 alternatives at most.
+-- A group has at most 4 alternatives.
 abbrev pub MOST_ALTERNATIVES : ℕ
 MOST_ALTERNATIVES = 4
 
--- A trial has 7 boots at most.
+-- A trial has at most 7 boots.
 abbrev pub MOST_TRIAL_BOOTS : ℕ
 MOST_TRIAL_BOOTS = 7
 
--- After the boot that begins it a trial has 6 more boots at most.
+-- A trial has at most 6 boots after the one that begins it.
 abbrev pub MOST_BOOTS_LEFT : ℕ
 MOST_BOOTS_LEFT = 6
 
--- A report has 8 refusals at most: one for each image.
+-- A report has at most 8 refusals: one for each image.
 abbrev pub MOST_REFUSALS : ℕ
 MOST_REFUSALS = 8
 
--- A manifest has 8 components at most: one for each image.
+-- A manifest has at most 8 components: one for each image.
 abbrev pub MOST_COMPONENTS : ℕ
 MOST_COMPONENTS = 8
 
@@ -37,7 +37,7 @@ MOST_COMPONENTS = 8
 abbrev pub MOST_PASSES : ℕ
 MOST_PASSES = 1
 
--- A choice drops each request once at most.
+-- A choice drops each request at most once.
 abbrev pub MOST_DROPS : ℕ
 MOST_DROPS = 8
 
