@@ -4,8 +4,7 @@ use Rattle.std.specs.declared.cmp.Ordering.{Ordering}
 use Rattle.std.specs.Ordering.{nat_cmp, on, then_cmp, is_lt}
 use Rattle.version_order.specs.declared.version.Version.{Version}
 
--- Versions are compared by major version, then minor version, then revision, then build number
--- (MCUboot, dependency check, where the build number is left out; here it counts).
+-- Versions in order of major, minor, revision, build (MCUboot's check leaves the build number out).
 abbrev pub version_cmp : Version → Version → Ordering
 version_cmp =
     then_cmp
@@ -18,7 +17,6 @@ version_cmp =
 abbrev pub is_older : Version → Version → Bool
 is_older v w = is_lt (version_cmp v w)
 
--- v is older than w.
 abbrev pub IsOlder : Version → Version → Type 0
 IsOlder v w = IsTrue (is_older v w)
 
