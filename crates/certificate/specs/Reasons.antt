@@ -1,4 +1,4 @@
--- Why a request is refused, judged at its place in a list of refusals.
+-- Why a request is refused, given the refusals before it in a list.
 use Rattle.std.specs.Prelude.{◌≡◌, ℕ, ◌<◌, ◌==◌, Bool, false, not, List, take, IsTrue, None, count_by, Contains, IsSomeAnd, IfSome, slice_get, if◌then◌else◌}
 use Rattle.std.specs.List.{list_any}
 use Rattle.std.specs.Option.{option_map_or}
@@ -38,31 +38,28 @@ abbrev pub requested_version : Image → Version
 requested_version image =
     option_map_or (λ entry. entry.version) (intact_entry image.request) image.running.version
 
--- The best version that the request of image own can hope for at image j, after these refusals: for
--- its own image the requested one; for another the running version or, where it has an intact
--- request that isn't yet refused and is newer, the requested one.
+-- The best version of image j for the request of image `own` after these refusals: of image `own`
+-- the requested one, else the running one or, if newer, that of an intact request not yet refused.
 abbrev pub best_version : List Refusal → ℕ → ℕ → Image → Version
 best_version before own j image =
     if j == own then requested_version image
     else (if is_refused before j then image.running.version else newest_version image)
 
--- Whether, after these refusals, a dependency of the request of image own names an image that
--- exists and whose best version is below the minimum.
+-- Whether a dependency of image `own` names an image whose best version is below the minimum.
 abbrev pub is_out_of_reach : Table → List Refusal → ℕ → Dependency → Bool
 is_out_of_reach table before own dependency =
     option_map_or
     (λ image. is_older (best_version before own dependency.image image) dependency.minimum)
     (image_at table dependency.image) false
 
--- Whether, after these refusals, an alternative in a group of the request of image own names an
--- image that exists and whose best version isn't below the minimum.
+-- Whether an alternative for image `own` names an image whose best version isn't below the minimum.
 abbrev pub is_in_reach : Table → List Refusal → ℕ → Dependency → Bool
 is_in_reach table before own alternative =
     option_map_or
     (λ image. not (is_older (best_version before own alternative.image image) alternative.minimum))
     (image_at table alternative.image) false
 
--- Whether, after these refusals, no alternative of a group of the request of image own is in reach.
+-- Whether, after these refusals, no alternative of a group of image `own`'s request is in reach.
 abbrev pub is_group_out_of_reach : Table → List Refusal → ℕ → Group → Bool
 is_group_out_of_reach table before own group =
     not (list_any (is_in_reach table before own) group.alternatives.items)
@@ -71,19 +68,17 @@ is_group_out_of_reach table before own group =
 abbrev pub depends_on : Entry → ℕ → Bool
 depends_on entry j = list_any (λ dependency. dependency.image == j) entry.dependencies.items
 
--- An entry depends on an image that the table doesn't have.
+-- An entry depends on image j, which the table doesn't have.
 abbrev pub NeedsMissing : Table → ℕ → Entry → Type 0
 NeedsMissing table j entry = IsTrue (depends_on entry j) × (image_at table j ≡ None)
 
--- An entry that is requested of image own has a dependency that is out of reach after these
--- refusals.
+-- An entry requested for image `own` has this dependency, out of reach after these refusals.
 abbrev pub NeedsUnreachable : Table → List Refusal → ℕ → Dependency → Entry → Type 0
 NeedsUnreachable table before own dependency entry =
     Contains entry.dependencies.items dependency
     × IsTrue (is_out_of_reach table before own dependency)
 
--- An entry that is requested of image own has a group of which no alternative is in reach after
--- these refusals.
+-- An entry requested for image `own` has this group, out of reach after these refusals.
 abbrev pub NeedsOneUnreachable : Table → List Refusal → ℕ → Group → Entry → Type 0
 NeedsOneUnreachable table before own group entry =
     Contains entry.groups.items group × IsTrue (is_group_out_of_reach table before own group)
@@ -104,12 +99,11 @@ ReasonHolds table before i (Needs j minimum) =
 ReasonHolds table before i (NeedsOne group) =
     RequestMeets table i (λ image entry. NeedsOneUnreachable table before i group entry)
 
--- A refusal has a reason that holds after these refusals.
+-- The reason of this refusal holds after the refusals before it.
 abbrev pub IsFoundedAfter : Table → List Refusal → Refusal → Type 0
 IsFoundedAfter table before refusal = ReasonHolds table before refusal.image refusal.reason
 
--- A list of refusals is founded where each has a reason that holds at its place, after those before
--- it.
+-- A list of refusals is founded: the reason of each holds after those before it.
 abbrev pub IsFounded : Table → List Refusal → Type 0
 IsFounded table refusals =
     (k : ℕ) → IfSome (slice_get refusals k) (IsFoundedAfter table (take k refusals))

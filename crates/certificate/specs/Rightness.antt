@@ -1,4 +1,4 @@
--- What makes a report right for a table.
+-- When a report is right for a table.
 use Rattle.std.specs.Prelude.{◌≡◌, ℕ, ◌+◌, Bool, true, false, length, IfSome, slice_get, if◌then◌else◌}
 use Rattle.std.specs.Option.{option_map_or}
 use Rattle.certificate.specs.declared.table.Request.{Request}
@@ -27,25 +27,24 @@ has_request table j = option_map_or (λ image. is_requested image.request) (imag
 abbrev pub once_if : Bool → ℕ
 once_if test = if test then 1 else 0
 
--- A report that has an image j has it with the version that is named for being taken or running on.
+-- If a report has image j, its version is that of the entry that the report takes or lets run on.
 abbrev pub HasVersionOf : Report → ℕ → Image → Type 0
 HasVersionOf report j image =
     IfSome (slice_get report.images.items j)
     (λ reported. reported.version ≡ (entry_in image reported.is_taken).version)
 
--- The same of image j of a table.
+-- If a table and a report have image j, the report has the version that it takes or lets run on.
 abbrev pub HasVersionAt : Table → Report → ℕ → Type 0
 HasVersionAt table report j = IfSome (image_at table j) (HasVersionOf report j)
 
--- The request of image j is taken or refused, once; where there is none it is neither.
+-- The request of image j is taken or refused, once; without a request it is neither.
 abbrev pub IsDecidedOnce : Table → Report → ℕ → Type 0
 IsDecidedOnce table report j =
     times_refused report.refusals.items j + once_if (taken_in report j)
     ≡ once_if (has_request table j)
 
--- A report is right for a table where it has the table's images, each with the version that it
--- names for being taken or running on; taken and refused requests are all requests, each once; what
--- it takes is a valid combination; and its refusals are founded.
+-- A report is right for a table: it has the table's images in the versions it takes or lets run on,
+-- decides each request once, takes a valid combination, and its refusals are founded.
 pub record IsRight (table : Table) (report : Report) : Type 0 where
   pub images : length report.images.items ≡ length table.images.items
   pub versions : (j : ℕ) → HasVersionAt table report j
