@@ -1,4 +1,4 @@
--- What a contract sees of a flash, and what its calls do to it, said by address.
+-- A flash as contracts see it, and what its calls do to it, by address.
 use Rattle.std.specs.Prelude.{◌≡◌, ℕ, zero, suc, ◌+◌, ◌*◌, ◌<◌, ◌≤◌, ◌==◌, Bool, false}
 use Rattle.std.specs.Prelude.{List, [], length, map}
 use Rattle.std.specs.Prelude.{slice_index, if◌then◌else◌, Result, OnOk, IsErrOf}
@@ -8,20 +8,20 @@ use Rattle.flash_model.specs.declared.error.FlashError.TheVariants.{Cut, Off}
 use Rattle.flash_model.specs.declared.torn.Armed.{Armed}
 use Rattle.flash_model.specs.Torn.{Cutting, cutting_of}
 
--- What no call of a driver changes of a flash, beyond its sectors.
+-- What no call of a driver changes of a flash, besides its sectors.
 pub record Fixed : Type 0 where
-  -- The writes that are to be cut, where it is one of a simulation: of a real part there are none.
+  -- The writes that a simulation is to interrupt; a real part has none.
   pub armed : List Armed
-  -- The numbers of those writes, counted from 1.
+  -- The numbers of the armed writes, counted from 1.
   pub numbers : List ℕ
-  -- What the cut of each such write leaves of its range.
+  -- What the power cut in each armed write leaves of its range.
   pub cuttings : List Cutting
   -- The bytes that the flash had when it was made.
   pub first : List ℕ
-  -- The name of the borrow of its bytes, where they are somebody else's, and else 0.
+  -- The name of the borrow of its bytes if they are borrowed, else 0.
   pub name : ℕ
 
--- A flash of which no write is to be cut, made of no bytes, with bytes of its own.
+-- A flash without armed writes, made of no bytes, with bytes of its own.
 abbrev pub unarmed : Fixed
 unarmed = record { armed = []; numbers = []; cuttings = []; first = []; name = 0 }
 
@@ -29,7 +29,7 @@ unarmed = record { armed = []; numbers = []; cuttings = []; first = []; name = 0
 abbrev pub numbers_of : List Armed → List ℕ
 numbers_of armed = map (λ write. write.at) armed
 
--- What is fixed, of a flash of whose writes these are to be cut.
+-- What is fixed of a flash with these armed writes.
 abbrev pub armed_with : List Armed → Fixed → Fixed
 armed_with armed fixed = record fixed {
   armed = armed;
@@ -37,10 +37,8 @@ armed_with armed fixed = record fixed {
   cuttings = map cutting_of armed;
 }
 
--- A flash: so many sectors of so many bytes each, the bytes in the order of their addresses,
--- whether it has power, how often a write of it was cut, how many erases it completed, how many
--- programs and erases it took (up to 2 ^ 64 - 1), how many of its cuts weren't armed, and what is
--- fixed of it.
+-- A flash: sectors of `sector_size` bytes, its bytes, whether it has power, how many writes were
+-- interrupted, erases completed, programs and erases taken (up to 2 ^ 64 - 1), and cuts not armed.
 pub record Chip : Type 0 where
   pub sector_size : ℕ
   pub sectors : ℕ
@@ -58,26 +56,24 @@ reached numbers zero = 0
 reached numbers (suc n) = if list_any (λ number. number == suc n) numbers
     then reached numbers n + 1 else reached numbers n
 
--- A flash was cut as it was armed: there was one cut for each armed write that it took, and beside
--- those only the faults.
+-- A flash had one power cut for each armed write that it took, and beside those only its faults.
 abbrev pub IsCutAsArmed : Chip → Type 0
 IsCutAsArmed chip = chip.cuts ≡ reached chip.fixed.numbers chip.writes + chip.faults
 
--- How many bytes it has.
+-- The size of a flash in bytes.
 abbrev pub size_of : Chip → ℕ
 size_of chip = chip.sectors * chip.sector_size
 
--- From an address on it has these bytes.
+-- A flash has these bytes from an address on.
 pub record Reads (chip : Chip) (at : ℕ) (bytes : List ℕ) : Type 0 where
   pub each : (k i : ℕ) → k ≡ at + i → i < length bytes
       → slice_index chip.bytes k ≡ slice_index bytes i
 
--- So many bytes from an address on are erased: each is 0xFF.
+-- The n bytes from an address on are erased: each is 0xFF.
 pub record IsErased (chip : Chip) (at n : ℕ) : Type 0 where
   pub each : (k : ℕ) → at ≤ k → k < at + n → slice_index chip.bytes k ≡ 0xff
 
--- The sectors and what is fixed are the same, and so is each byte outside a range. Of power and
--- counts it says nothing.
+-- Only the n bytes from an address on, the power and the counts may have changed.
 pub record SameOutside (at n : ℕ) (old new : Chip) : Type 0 where
   pub sector_size : new.sector_size ≡ old.sector_size
   pub sectors : new.sectors ≡ old.sectors
@@ -86,34 +82,34 @@ pub record SameOutside (at n : ℕ) (old new : Chip) : Type 0 where
   pub before : (k : ℕ) → k < at → slice_index new.bytes k ≡ slice_index old.bytes k
   pub after : (k : ℕ) → at + n ≤ k → slice_index new.bytes k ≡ slice_index old.bytes k
 
--- So many bytes stand at `to` as they stood at `from`.
+-- The n bytes from `to` on are those that were stored from `from` on.
 pub record IsCopy (from to n : ℕ) (old new : Chip) : Type 0 where
   pub each : (k j : ℕ) → to ≤ k → k < to + n → k + from ≡ j + to
       → slice_index new.bytes k ≡ slice_index old.bytes j
 
--- One sector has the bytes that it had.
+-- The bytes of one sector are unchanged.
 pub record SameSector (sector : ℕ) (old new : Chip) : Type 0 where
   pub each : (k o : ℕ) → k ≡ sector * old.sector_size + o → o < old.sector_size
       → slice_index new.bytes k ≡ slice_index old.bytes k
 
--- One sector has these bytes, by offset.
+-- One sector has these contents, by offset.
 pub record SectorIs (chip : Chip) (sector : ℕ) (contents : ℕ → ℕ) : Type 0 where
   pub each : (k o : ℕ) → k ≡ sector * chip.sector_size + o → o < chip.sector_size
       → slice_index chip.bytes k ≡ contents o
 
--- No write was cut, and the power is as it was.
+-- No write was interrupted, and the power is unchanged.
 pub record IsUncut (old new : Chip) : Type 0 where
   pub on : new.is_on ≡ old.is_on
   pub cuts : new.cuts ≡ old.cuts
 
--- One write was cut, the last one: the flash is off.
+-- One write was interrupted, the last one: the flash is off.
 pub record IsCut (old new : Chip) : Type 0 where
   pub cuts : new.cuts ≡ old.cuts + 1
   pub off : new.is_on ≡ false
 
--- How a call on a flash ends: without a cut, with one, or not at all since the flash was off.
+-- How a call on a flash ends: without a power cut, with one, or not at all since it was off.
 pub record Ends {T : Type 0} (result : Result T FlashError) (old new : Chip) : Type 0 where
-  -- A flash that is off stays as it is.
+  -- A flash that is off is unchanged.
   pub asleep : old.is_on ≡ false → new ≡ old
   pub uncut : OnOk result (IsUncut old new)
   pub cut : IsErrOf result Cut → IsCut old new

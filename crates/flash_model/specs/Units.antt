@@ -3,11 +3,10 @@ use Rattle.std.specs.Prelude.{ℕ, ◌==◌, Bool, List}
 use Rattle.std.specs.List.{list_all}
 use Rattle.flash_model.specs.Chip.{Chip, IsErased}
 
--- Bytes are erased: each is 0xFF.
+-- Whether each byte is 0xFF.
 abbrev pub are_erased : List ℕ → Bool
 are_erased bytes = list_all (λ byte. byte == 0xff) bytes
 
--- The unit at an address is set: not all of its bytes are 0xFF. Of which they are it says nothing,
--- so a write of the unit that was cut leaves it erased or set.
+-- The unit at an address isn't all 0xFF, whatever it holds; an interrupted write sets it or not.
 pub record IsSet (chip : Chip) (at : ℕ) : Type 0 where
   pub not_erased : IsErased chip at 8 → ⊥
