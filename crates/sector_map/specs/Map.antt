@@ -1,4 +1,4 @@
--- Where the parts lie, and what they hold.
+-- Where the parts of a map are on a flash, and what they contain.
 use Rattle.std.specs.Prelude.{◌≡◌, ℕ, ◌+◌, ◌-◌, ◌*◌, ◌/◌, ◌<◌, ◌≤◌, ◌^◌, Bool, true, false, min, List}
 use Rattle.std.specs.Prelude.{length, slice_index, slice_range}
 use Rattle.flash_model.specs.Chip.{Chip, size_of}
@@ -8,11 +8,11 @@ use Rattle.sector_map.specs.declared.layout.SectorMap.{SectorMap}
 use Rattle.sector_map.specs.Part.{Part, Slot, TrailerOf, Scratch, Log, is_member}
 use Rattle.sector_map.specs.Sizes.{MakeMap, before, all_sectors}
 
--- What is true of each map.
+-- The sizes of the map make a map.
 abbrev pub IsMap : SectorMap → Type 0
 IsMap map = MakeMap map.sector_size map.images map.sectors
 
--- How many sectors each slot of an image has: none where the map lacks the image.
+-- How many sectors each slot of an image has: none if the map lacks the image.
 abbrev pub slot_sectors : SectorMap → ℕ → ℕ
 slot_sectors map i = slice_index map.sectors i
 
@@ -20,19 +20,19 @@ slot_sectors map i = slice_index map.sectors i
 abbrev pub sectors_of : SectorMap → ℕ
 sectors_of map = all_sectors map.images map.sectors
 
--- Where a side begins: the secondary slots lie behind the primary ones.
+-- The first sector of a side: the secondary slots come after the primary ones.
 abbrev pub side_start : SectorMap → Side → ℕ
 side_start map Primary = 0
 side_start map Secondary = before map.sectors map.images
 
--- The number of a part's first sector. A trailer lies right behind its slot.
+-- The number of a part's first sector; a trailer comes right after its slot.
 abbrev pub first_of : SectorMap → Part → ℕ
 first_of map (Slot i side) = side_start map side + before map.sectors i
 first_of map (TrailerOf i side) = side_start map side + before map.sectors i + slot_sectors map i
 first_of map Scratch = 2 * before map.sectors map.images
 first_of map Log = 2 * before map.sectors map.images + 1
 
--- How many sectors a part has: none where the map lacks the image.
+-- How many sectors a part has: none if the map lacks the image.
 abbrev pub count_of : SectorMap → Part → ℕ
 count_of map (Slot i side) = slot_sectors map i
 count_of map (TrailerOf i side) = min 1 (slot_sectors map i)
@@ -47,8 +47,7 @@ start_of map part = first_of map part * map.sector_size
 abbrev pub length_of : SectorMap → Part → ℕ
 length_of map part = count_of map part * map.sector_size
 
--- How many places for records a sector of the log has: of 64 bytes each, and 64 are left at the end
--- for its closing unit.
+-- How many records fit in a sector of the log, 64 bytes each; its last 64 are for its closing unit.
 abbrev pub places_of : SectorMap → ℕ
 places_of map = map.sector_size / 64 - 1
 
@@ -60,7 +59,7 @@ place_of_record map sector place = (first_of map Log + sector) * map.sector_size
 abbrev pub closing_unit : SectorMap → ℕ → ℕ
 closing_unit map sector = (first_of map Log + sector) * map.sector_size + (map.sector_size - 8)
 
--- A sector lies in a part.
+-- A sector is in a part.
 pub record IsIn (map : SectorMap) (part : Part) (sector : ℕ) : Type 0 where
   pub low : first_of map part ≤ sector
   pub high : sector < first_of map part + count_of map part
@@ -69,8 +68,7 @@ pub record IsIn (map : SectorMap) (part : Part) (sector : ℕ) : Type 0 where
 abbrev pub IsWithin : SectorMap → ℕ → Type 0
 IsWithin map mask = (i : ℕ) → is_member mask i ≡ true → i < map.images
 
--- The map is laid out on a flash: this has sectors of the map's size, and as many at least. The
--- rest is true of each map and of each flash.
+-- The map fits a flash: same sector size, enough sectors; the rest is true of each map and flash.
 pub record IsLaidOut (map : SectorMap) (chip : Chip) : Type 0 where
   pub sector_size : chip.sector_size ≡ map.sector_size
   pub sectors : sectors_of map ≤ chip.sectors
@@ -78,12 +76,12 @@ pub record IsLaidOut (map : SectorMap) (chip : Chip) : Type 0 where
   pub whole : length chip.bytes ≡ size_of chip
   pub size : size_of chip < 2 ^ 32
 
--- It is, and has the image.
+-- The map is laid out on a flash, and has the image.
 pub record HasImage (map : SectorMap) (image : ℕ) (chip : Chip) : Type 0 where
   pub laid_out : IsLaidOut map chip
   pub there : image < map.images
 
--- It is, and has each image of the mask.
+-- The map is laid out on a flash, and has each image of the mask.
 pub record HasImages (map : SectorMap) (mask : ℕ) (chip : Chip) : Type 0 where
   pub laid_out : IsLaidOut map chip
   pub within : IsWithin map mask
@@ -94,12 +92,11 @@ part_of map chip part =
     slice_range chip.bytes (start_of map part)
     ((first_of map part + count_of map part) * map.sector_size)
 
--- The address behind the map's last sector: a flash that fits may have more.
+-- The address after the map's last sector; a flash that fits may have more.
 abbrev pub end_of_map : SectorMap → ℕ
 end_of_map map = sectors_of map * map.sector_size
 
--- The sectors and what is fixed are the same, each part that isn't touched is as it was, and so is
--- each byte behind the map.
+-- Untouched parts, all bytes after the map, the sectors and what is fixed are unchanged.
 pub record Keeps (map : SectorMap) (touched : Part → Bool) (old new : Chip) : Type 0 where
   pub sector_size : new.sector_size ≡ old.sector_size
   pub sectors : new.sectors ≡ old.sectors

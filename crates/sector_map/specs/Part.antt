@@ -1,4 +1,4 @@
--- The parts of a flash, and which of them a call may touch: a test of parts, by cases.
+-- The parts of a flash, and tests of parts that say which of them a call may touch.
 use Rattle.std.specs.Prelude.{ℕ, Bool, true, false, ◌==◌, ◌&&◌, ◌/◌, ◌%◌, ◌^◌}
 use Rattle.sector_map.specs.declared.layout.Side.{Side}
 use Rattle.sector_map.specs.declared.layout.Side.TheVariants.{Primary, Secondary}
@@ -46,21 +46,21 @@ trailers_of j (TrailerOf i side) = i == j
 trailers_of j Scratch = false
 trailers_of j Log = false
 
--- The trailers of one side of the images of a mask.
+-- The trailers on one side of the images of a mask.
 abbrev pub trailers_on : ℕ → Side → Part → Bool
 trailers_on mask on (Slot i side) = false
 trailers_on mask on (TrailerOf i side) = is_member mask i && same_side side on
 trailers_on mask on Scratch = false
 trailers_on mask on Log = false
 
--- The trailers of both sides of the images of a mask.
+-- Both trailers of the images of a mask.
 abbrev pub trailers_in : ℕ → Part → Bool
 trailers_in mask (Slot i side) = false
 trailers_in mask (TrailerOf i side) = is_member mask i
 trailers_in mask Scratch = false
 trailers_in mask Log = false
 
--- What comes in for an image is written here: its secondary slot and the trailer of it.
+-- Where an incoming image is written: its secondary slot and that slot's trailer.
 abbrev pub incoming_of : ℕ → Part → Bool
 incoming_of j (Slot i side) = (i == j) && same_side side Secondary
 incoming_of j (TrailerOf i side) = (i == j) && same_side side Secondary
@@ -74,14 +74,13 @@ swap_one j on (TrailerOf i side) = (i == j) && same_side side on
 swap_one j on Scratch = true
 swap_one j on Log = false
 
--- What a swap of the images of a mask writes: both slots of each, its trailer on one side, and
--- scratch.
+-- What a swap of the images of a mask writes: both slots of each, its trailer on one side, scratch.
 abbrev pub swap_of : ℕ → Side → Part → Bool
 swap_of mask on (Slot i side) = is_member mask i
 swap_of mask on (TrailerOf i side) = is_member mask i && same_side side on
 swap_of mask on Scratch = true
 swap_of mask on Log = false
 
--- Any part of the map: what lies behind the map alone is left.
+-- Any part of the map: only what is after the map is unchanged.
 abbrev pub any_part : Part → Bool
 any_part part = true

@@ -9,19 +9,17 @@ pub record IsSectorSize (size : ℕ) : Type 0 where
   pub least : 512 ≤ size
   pub most : size ≤ 131072
 
--- There are one to eight images, each with a sector at least.
+-- There are 1 to 8 images, each with at least one sector a slot.
 pub record AreImages (images : ℕ) (sectors : List ℕ) : Type 0 where
   pub one : 1 ≤ images
   pub few : images ≤ MOST_IMAGES
   pub some : (i : ℕ) → i < images → 0 < slice_index sectors i
 
--- Each trailer fits its sector: three status units of 8 bytes for each sector of its slot, and 56
--- bytes.
+-- Each trailer fits its sector: 3 status units of 8 bytes a sector of its slot, and 56 bytes.
 abbrev pub HoldTrailers : ℕ → List ℕ → Type 0
 HoldTrailers size sectors = (i : ℕ) → 24 * slice_index sectors i + 56 ≤ size
 
--- How many sectors of a side lie before an image: the slots before it, each with the sector of its
--- trailer.
+-- How many sectors of a side are before an image: earlier slots, each with its trailer's sector.
 unfoldable pub before : List ℕ → ℕ → ℕ
 before sectors i = sum (take i sectors) + i
 
@@ -33,8 +31,7 @@ all_sectors images sectors = 2 * before sectors images + 4
 abbrev pub AreAddressed : ℕ → ℕ → List ℕ → Type 0
 AreAddressed size images sectors = all_sectors images sectors * size < 2 ^ 32
 
--- Sectors of this size, and so many images with these sectors a slot, make a map. An image that it
--- lacks has no sectors.
+-- Sectors of this size and images with these sectors a slot make a map; it lacks further images.
 pub record MakeMap (size images : ℕ) (sectors : List ℕ) : Type 0 where
   pub sector : IsSectorSize size
   pub counts : AreImages images sectors
