@@ -11,7 +11,7 @@ use Rattle.image_header.specs.declared.error.HeaderError.TheVariants.{Short, Bad
 abbrev pub header_magic : ℕ
 header_magic = 0x96f3b83d
 
--- The eight bytes of a version: major, minor, revision, build.
+-- The 8 bytes of a version: major, minor, revision, build.
 abbrev pub version_bytes : Version → List ℕ
 version_bytes version = little_bytes 1 version.major ++ (little_bytes 1 version.minor
     ++ (little_bytes 2 version.revision ++ little_bytes 4 version.build))
@@ -37,33 +37,32 @@ pub record FitsHeader (header : Header) : Type 0 where
   pub version : FitsFields header.version
   pub pad : header.pad < 2 ^ 32
 
--- The flags that are accepted, all of them set: position independent, not bootable, fixed in
--- read-only memory (`IMAGE_F_PIC`, `IMAGE_F_NON_BOOTABLE`, `IMAGE_F_ROM_FIXED`).
+-- The accepted flags, all set: position independent, not bootable, fixed in read-only memory
+-- (`IMAGE_F_PIC`, `IMAGE_F_NON_BOOTABLE`, `IMAGE_F_ROM_FIXED`).
 abbrev pub accepted_flags : ℕ
 accepted_flags = 0x111
 
--- No flag is set but those that are accepted.
+-- Only accepted flags are set.
 abbrev pub HasKnownFlags : Header → Type 0
 HasKnownFlags header = bit_or header.flags accepted_flags ≡ accepted_flags
 
--- Bytes begin with this header, whatever follows.
+-- Bytes begin with this header, whatever follows it.
 pub record BeginsWith (bytes : List ℕ) (header : Header) : Type 0 where
   pub fits : FitsHeader header
   pub rest : List ℕ
   pub parts : bytes ≡ header_bytes header ++ rest
 
--- A header that is accepted.
+-- A header is accepted: it has at least 32 bytes and only accepted flags.
 pub record IsAccepted (header : Header) : Type 0 where
   pub long : 32 ≤ header.header_size
   pub known : HasKnownFlags header
 
--- A header is accepted but for its flags.
+-- A header would be accepted but for its flags.
 pub record HasUnknownFlags (header : Header) : Type 0 where
   pub long : 32 ≤ header.header_size
   pub unknown : HasKnownFlags header → ⊥
 
--- The first check that fails of bytes that begin with no header that is accepted. That bytes begin
--- with a header says that there are 32 of them, and that the magic number is right.
+-- The first check of a header that fails; `BeginsWith` includes the length and the magic number.
 abbrev pub IsHeaderFault : List ℕ → HeaderError → Type 0
 IsHeaderFault bytes Short = length bytes < 32
 IsHeaderFault bytes BadMagic = (32 ≤ length bytes) × (little_number 4 bytes ≢ header_magic)
