@@ -11,17 +11,19 @@ use Rattle.image_header.specs.Header.{version_bytes}
 use Rattle.image_reading.specs.declared.error.ImageError.{ImageError}
 use Rattle.image_reading.specs.declared.error.ImageError.TheVariants.{NoDigest, TwoDigests, BadDigest, BadDependency, TooManyDependencies, BadCounter, TooManyGroups}
 
--- The types of the entries that are read: `IMAGE_TLV_SHA256`, `IMAGE_TLV_DEPENDENCY`,
--- `IMAGE_TLV_SEC_CNT`, and a group's, which is bootswap's own.
+-- The type of a digest entry (`IMAGE_TLV_SHA256`).
 abbrev pub digest_kind : ℕ
 digest_kind = 0x10
 
+-- The type of a dependency entry (`IMAGE_TLV_DEPENDENCY`).
 abbrev pub dependency_kind : ℕ
 dependency_kind = 0x40
 
+-- The type of a security counter entry (`IMAGE_TLV_SEC_CNT`).
 abbrev pub counter_kind : ℕ
 counter_kind = 0x50
 
+-- The type of a group entry, which is bootswap's own.
 abbrev pub group_kind : ℕ
 group_kind = 0xA0
 
@@ -31,7 +33,7 @@ group_kind = 0xA0
 abbrev pub SpellDigest : List (List ℕ) → List ℕ → Type 0
 SpellDigest values hashed = values ≡ sha256 hashed ∷ []
 
--- Why values are not that: the first check that fails.
+-- Why values are not the one SHA-256 of these bytes: the first check that fails.
 abbrev pub IsDigestFault : List (List ℕ) → List ℕ → ImageError → Type 0
 IsDigestFault values hashed NoDigest = values ≡ []
 IsDigestFault values hashed TwoDigests = 2 ≤ length values
@@ -40,11 +42,11 @@ IsDigestFault values hashed other = ⊥
 
 -- ---- dependencies
 
--- A dependency's twelve bytes: the image's number, three zero bytes, the minimum version.
+-- The 12 bytes of a dependency: the image's number, three zero bytes, the minimum version.
 abbrev pub dependency_bytes : Dependency → List ℕ
 dependency_bytes dependency = dependency.image ∷ 0 ∷ 0 ∷ 0 ∷ version_bytes dependency.minimum
 
--- A dependency's numbers fit their fields.
+-- The numbers of a dependency fit their fields.
 pub record FitsDependency (dependency : Dependency) : Type 0 where
   pub image : dependency.image < 2 ^ 8
   pub minimum : FitsFields dependency.minimum
@@ -55,14 +57,14 @@ pub record SpellDependencies (values : List (List ℕ)) (dependencies : List Dep
   pub fit : AllByRecursion FitsDependency dependencies
   pub spelled : values ≡ map dependency_bytes dependencies
 
--- A value has the form of a dependency: 12 bytes, and zero in the three after the image's number.
+-- A value has the form of a dependency: 12 bytes, with zero in the three after the image's number.
 pub record IsDependencyForm (value : List ℕ) : Type 0 where
   pub size : length value ≡ 12
   pub first : slice_index value 1 ≡ 0
   pub second : slice_index value 2 ≡ 0
   pub third : slice_index value 3 ≡ 0
 
--- Some value hasn't that form.
+-- Some value doesn't have the form of a dependency.
 abbrev pub HasBadDependency : List (List ℕ) → Type 0
 HasBadDependency values = Any (λ value. IsDependencyForm value → ⊥) values
 
@@ -72,11 +74,11 @@ HasBadDependency values = Any (λ value. IsDependencyForm value → ⊥) values
 abbrev pub alternatives_bytes : List Dependency → List ℕ
 alternatives_bytes alternatives = flat_map dependency_bytes alternatives
 
--- A group's bytes: those of its alternatives, each as of a dependency.
+-- The bytes of a group: those of its alternatives, each as of a dependency.
 abbrev pub group_bytes : Group → List ℕ
 group_bytes group = alternatives_bytes group.alternatives.items
 
--- A group has one alternative at least, not too many, and the numbers of each fit their fields.
+-- A group has 1 to 4 alternatives, and the numbers of each fit their fields.
 pub record FitsGroup (group : Group) : Type 0 where
   pub some : 1 ≤ length group.alternatives.items
   pub most : length group.alternatives.items ≤ MOST_ALTERNATIVES
@@ -87,8 +89,7 @@ pub record SpellGroups (values : List (List ℕ)) (groups : List Group) : Type 0
   pub fit : AllByRecursion FitsGroup groups
   pub spelled : values ≡ map group_bytes groups
 
--- A value has the form of a group: it is one to four pieces of 12 bytes, and each has the form of a
--- dependency.
+-- A value has the form of a group: 1 to 4 pieces of 12 bytes, each in the form of a dependency.
 pub record IsGroupForm (value : List ℕ) : Type 0 where
   pub count : ℕ
   pub some : 1 ≤ count
@@ -96,7 +97,7 @@ pub record IsGroupForm (value : List ℕ) : Type 0 where
   pub size : length value ≡ 12 * count
   pub each : (k : ℕ) → k < count → IsDependencyForm (take 12 (drop (12 * k) value))
 
--- Some value hasn't that form.
+-- Some value doesn't have the form of a group.
 abbrev pub HasBadGroup : List (List ℕ) → Type 0
 HasBadGroup values = Any (λ value. IsGroupForm value → ⊥) values
 
@@ -118,7 +119,7 @@ IsDependencyFault dependencies groups other = ⊥
 
 -- ---- the security counter
 
--- A security counter's four bytes.
+-- The 4 bytes of a security counter.
 abbrev pub counter_bytes : ℕ → List ℕ
 counter_bytes counter = little_bytes 4 counter
 
@@ -127,7 +128,7 @@ abbrev pub SpellCounter : List (List ℕ) → ℕ → Type 0
 SpellCounter values counter = (counter < 2 ^ 32)
     × (((values ≡ []) × (counter ≡ 0)) ⊎ (values ≡ counter_bytes counter ∷ []))
 
--- There are two values or more, or one hasn't four bytes.
+-- There are two values or more, or one doesn't have 4 bytes.
 abbrev pub HasBadCounter : List (List ℕ) → Type 0
 HasBadCounter values = (2 ≤ length values) ⊎ Any (λ value. length value ≢ 4) values
 

@@ -12,13 +12,13 @@ use Rattle.image_reading.specs.Fields.{HasBadCounter, HaveForms, SpellCounter, S
 -- The parts of an image.
 pub record Image : Type 0 where
   pub header : Header
-  -- what fills the header up to its length
+  -- The bytes after the header's fields, up to the header's length.
   pub filler : List ℕ
   pub body : List ℕ
   pub protected : List Entry
   pub unprotected : List Entry
 
--- The protected area, which is absent where its length is 0.
+-- The bytes of the protected area, which is absent if its length is 0.
 abbrev pub protected_bytes : Image → List ℕ
 protected_bytes image =
     if image.header.protected_size == 0 then [] else area_bytes protected_magic image.protected
@@ -41,7 +41,7 @@ pub record IsWellFormed (image : Image) : Type 0 where
   pub protected_size : length (protected_bytes image) ≡ image.header.protected_size
   pub protected : FitsArea image.protected
   pub unprotected : FitsArea image.unprotected
-  -- an area that is absent has no entries
+  -- An area that is absent has no entries.
   pub absent : image.header.protected_size ≡ 0 → image.protected ≡ []
 
 -- Bytes begin with this image, and these follow it.
@@ -49,45 +49,45 @@ pub record BeginsWithImage (bytes : List ℕ) (image : Image) (trailing : List �
   pub formed : IsWellFormed image
   pub parts : bytes ≡ image_bytes image ++ trailing
 
--- The values of the entries that are read: the digest in the unprotected area, dependencies, groups
--- and security counter in the protected one. They are skipped in the other area, as other types
--- are.
+-- The values of digest entries, which are read in the unprotected area only.
 abbrev pub digest_values : Image → List (List ℕ)
 digest_values image = values_of digest_kind image.unprotected
 
+-- The values of dependency entries, which are read in the protected area only.
 abbrev pub dependency_values : Image → List (List ℕ)
 dependency_values image = values_of dependency_kind image.protected
 
+-- The values of group entries, which are read in the protected area only.
 abbrev pub group_values : Image → List (List ℕ)
 group_values image = values_of group_kind image.protected
 
+-- The values of security counter entries, which are read in the protected area only.
 abbrev pub counter_values : Image → List (List ℕ)
 counter_values image = values_of counter_kind image.protected
 
--- The checks of an image's entries in their order. Each name says that its own check passes, and
--- all before it: the digest is that of header, body and protected area ..
+-- The digest is that of header, body and protected area.
 abbrev pub PassesDigest : Image → Type 0
 PassesDigest image = SpellDigest (digest_values image) (hashed_bytes image)
 
--- .. each dependency and each group has its form ..
+-- The digest passes, and each dependency and each group has its form.
 abbrev pub PassesDependencies : Image → Type 0
 PassesDependencies image =
     PassesDigest image × HaveForms (dependency_values image) (group_values image)
 
--- .. there are not too many dependencies ..
+-- Digest and forms pass, and there are at most 16 dependencies.
 abbrev pub PassesDependencyCount : Image → Type 0
 PassesDependencyCount image =
     PassesDependencies image × (length (dependency_values image) ≤ MOST_DEPENDENCIES)
 
--- .. nor too many groups ..
+-- Digest, forms and number of dependencies pass, and there are at most 4 groups.
 abbrev pub PassesGroupCount : Image → Type 0
 PassesGroupCount image = PassesDependencyCount image × (length (group_values image) ≤ MOST_GROUPS)
 
--- .. and the security counter is one of four bytes, or there is none.
+-- Digest, forms and counts pass, and there is one security counter of 4 bytes, or none.
 abbrev pub PassesCounter : Image → Type 0
 PassesCounter image = PassesGroupCount image × (HasBadCounter (counter_values image) → ⊥)
 
--- All checks of an image's entries pass.
+-- All checks of an image's entries pass; entries of other types are skipped.
 abbrev pub PassesEntries : Image → Type 0
 PassesEntries image = PassesCounter image
 
@@ -101,7 +101,7 @@ pub record Describes (image : Image) (description : Desc) : Type 0 where
   pub groups : SpellGroups (group_values image) description.groups.items
   pub counter : SpellCounter (counter_values image) description.counter
 
--- Whole bytes are an intact image, of which this is the description.
+-- The complete bytes are an intact image, of which this is the description.
 abbrev pub IsIntact : List ℕ → Desc → Type 0
 IsIntact bytes description = (image : Image)
     × BeginsWithImage bytes image [] × Describes image description × PassesEntries image
