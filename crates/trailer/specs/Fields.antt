@@ -1,5 +1,5 @@
--- What a trailer says, by the bytes of its sector. The fields, but withdrawn, and the bytes of the
--- magic are MCUboot's (its design document, "Image Trailer"); where they stand is bootswap's own.
+-- What a trailer says, by the bytes of its sector. The fields except withdrawn, and the bytes of
+-- the magic, are MCUboot's (its design document, "Image Trailer"); their places are bootswap's own.
 use Rattle.std.specs.Prelude.{ℕ, ◌+◌, ◌-◌, ◌*◌, ◌&&◌, Bool, true, false, not, nat_lt, nat_le}
 use Rattle.std.specs.Prelude.{List, [], ◌∷◌, ◌++◌, drop, slice_range, Option, Some, None, if◌then◌else◌}
 use Rattle.std.specs.Str.{bytes_eq}
@@ -16,11 +16,11 @@ use Rattle.trailer.specs.declared.kinds.Magic.{Magic}
 use Rattle.trailer.specs.declared.kinds.Magic.TheVariants.{Good, Unset, Bad}
 use Rattle.trailer.specs.declared.kinds.Trailer.{Trailer}
 
--- A unit is set where it isn't erased.
+-- Whether a unit is set: it isn't erased.
 abbrev pub is_set : List ℕ → Bool
 is_set unit = not (are_erased unit)
 
--- The magic of a trailer (BOOT_MAGIC).
+-- The magic of a trailer (`BOOT_MAGIC`).
 abbrev pub good_magic : List ℕ
 good_magic = 0x77 ∷ 0xc2 ∷ 0x95 ∷ 0xf3 ∷ 0x60 ∷ 0xd2 ∷ 0xef ∷ 0x7f
     ∷ 0x35 ∷ 0x52 ∷ 0x50 ∷ 0x0f ∷ 0x2c ∷ 0xb6 ∷ 0x79 ∷ 0x80 ∷ []
@@ -29,11 +29,11 @@ good_magic = 0x77 ∷ 0xc2 ∷ 0x95 ∷ 0xf3 ∷ 0x60 ∷ 0xd2 ∷ 0xef ∷ 0x7f
 abbrev pub flag : List ℕ
 flag = 0x01 ∷ 0xff ∷ 0xff ∷ 0xff ∷ 0xff ∷ 0xff ∷ 0xff ∷ 0xff ∷ []
 
--- What the magic's 16 bytes say.
+-- What the 16 bytes of a magic say.
 abbrev pub magic_in : List ℕ → Magic
 magic_in bytes = if bytes_eq bytes good_magic then Good else if are_erased bytes then Unset else Bad
 
--- The size in a unit: a number from 1 to a limit, and four zero bytes.
+-- The size in a unit, if it is a number from 1 to a limit and four zero bytes.
 abbrev pub size_in : ℕ → List ℕ → Option ℕ
 size_in limit unit =
     if nat_lt 0 (little_number 4 unit) && (nat_le (little_number 4 unit) limit
@@ -47,17 +47,17 @@ size_bytes size = little_bytes 4 size ++ (0 ∷ 0 ∷ 0 ∷ 0 ∷ [])
 -- The fields of a trailer.
 pub record Fields : Type 0 where
   pub magic : Magic
-  -- copy_done
+  -- The swap of the image is done.
   pub copy_done : Bool
-  -- image_ok
+  -- The image is confirmed, or requested permanently.
   pub image_ok : Bool
   pub withdrawn : Bool
-  -- swap_size: how many bytes of each slot a swap moves
+  -- `swap_size`: how many bytes of each slot a swap moves.
   pub size : Option ℕ
   -- No status unit is set.
   pub is_fresh : Bool
 
--- The n bytes that begin so many bytes before the end of a sector of e bytes.
+-- The n bytes that begin `from_end` bytes before the end of a sector of e bytes.
 abbrev pub bytes_in : ℕ → List ℕ → ℕ → ℕ → List ℕ
 bytes_in e bytes from_end n = slice_range bytes (e - from_end) (e - from_end + n)
 
@@ -76,12 +76,12 @@ fields_in n e bytes = record {
 abbrev pub trailer_bytes : SectorMap → Chip → ℕ → Side → List ℕ
 trailer_bytes map chip image side = part_of map chip (TrailerOf image side)
 
--- The n bytes of that trailer which begin so many bytes before its end.
+-- The n bytes of a trailer that begin `from_end` bytes before its end.
 abbrev pub bytes_at : SectorMap → Chip → ℕ → Side → ℕ → ℕ → List ℕ
 bytes_at map chip image side from_end n =
     bytes_in map.sector_size (trailer_bytes map chip image side) from_end n
 
--- Where the bytes begin that so many bytes before the end of a trailer begin.
+-- The address that is `from_end` bytes before the end of a trailer.
 abbrev pub place_of : SectorMap → ℕ → Side → ℕ → ℕ
 place_of map image side from_end =
     start_of map (TrailerOf image side) + (map.sector_size - from_end)
@@ -102,7 +102,7 @@ erased_fields = record {
   is_fresh = true;
 }
 
--- Those fields that are read together.
+-- The fields that say what is requested, on trial and confirmed.
 abbrev pub trailer_of : Fields → Trailer
 trailer_of fields = record {
   magic = fields.magic;

@@ -1,23 +1,23 @@
--- Where the fields of a trailer stand in its sector: how many bytes before the end of the sector
--- each of them begins. The unit of swap info, at 40, is left erased.
+-- How many bytes before the end of its sector each field of a trailer begins. The unit of swap
+-- info, at 40, is left erased.
 use Rattle.std.specs.Prelude.{ℕ}
 
--- The withdrawn unit, which is bootswap's own.
+-- Where the withdrawn unit, bootswap's own, begins, in bytes before the end of the trailer.
 abbrev pub withdrawn_place : ℕ
 withdrawn_place = 56
 
--- swap_size
+-- Where `swap_size` begins, in bytes before the end of the trailer.
 abbrev pub swap_size_place : ℕ
 swap_size_place = 48
 
--- copy_done
+-- Where `copy_done` begins, in bytes before the end of the trailer.
 abbrev pub copy_done_place : ℕ
 copy_done_place = 32
 
--- image_ok
+-- Where `image_ok` begins, in bytes before the end of the trailer.
 abbrev pub image_ok_place : ℕ
 image_ok_place = 24
 
--- The magic, up to the sector's end.
+-- Where the magic, the last 16 bytes, begins, in bytes before the end of the trailer.
 abbrev pub magic_place : ℕ
 magic_place = 16

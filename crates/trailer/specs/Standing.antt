@@ -1,4 +1,4 @@
--- The request that stands for an image.
+-- The pending request of an image.
 use Rattle.std.specs.Prelude.{◌≡◌, ℕ, ◌&&◌, ◌≤◌, Bool, true, false, not, List, slice_index, slice_range}
 use Rattle.std.specs.Prelude.{Option, Some, None, if◌then◌else◌}
 use Rattle.flash_model.specs.Chip.{Chip}
@@ -23,11 +23,11 @@ abbrev pub is_permanent : Kind → Bool
 is_permanent Test = false
 is_permanent Permanent = true
 
--- A request is permanent where image-ok is set.
+-- The kind of a request: permanent if `image_ok` is set.
 abbrev pub kind_of : Bool → Kind
 kind_of image_ok = if image_ok then Permanent else Test
 
--- The first unit of a slot's bytes is set.
+-- Whether the first unit of a slot's bytes is set.
 abbrev pub first_is_set : List ℕ → Bool
 first_is_set slot = is_set (slice_range slot 0 8)
 
@@ -35,8 +35,7 @@ first_is_set slot = is_set (slice_range slot 0 8)
 abbrev pub first_sector : ℕ → List ℕ → List ℕ
 first_sector size slot = slice_range slot 0 size
 
--- The request that stands, by the secondary trailer and by whether the first unit of the secondary
--- slot is set.
+-- The pending request, by the secondary trailer and whether the secondary slot's first unit is set.
 abbrev pub standing_kind : Trailer → Bool → Option Kind
 standing_kind trailer is_filled =
     if is_good trailer.magic && (not trailer.withdrawn && is_filled)
@@ -46,7 +45,7 @@ standing_kind trailer is_filled =
 abbrev pub incoming_slot : SectorMap → Chip → ℕ → List ℕ
 incoming_slot map chip image = part_of map chip (Slot image Secondary)
 
--- The request that stands for an image.
+-- The pending request of an image, if it has one.
 abbrev pub standing_of : SectorMap → Chip → ℕ → Option Kind
 standing_of map chip image =
     standing_kind (trailer_of (fields_at map chip image Secondary))
@@ -56,7 +55,7 @@ standing_of map chip image =
 abbrev pub requested_fields : Kind → Fields
 requested_fields kind = record erased_fields { magic = Good; image_ok = is_permanent kind }
 
--- The bytes of a slot behind its first sector are as they were.
+-- The bytes of a slot after its first sector are unchanged.
 pub record KeepsBehindFirst (map : SectorMap) (image : ℕ) (side : Side) (old new : Chip)
     : Type 0 where
   pub each : (k : ℕ) → map.sector_size ≤ k

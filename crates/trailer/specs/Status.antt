@@ -1,4 +1,4 @@
--- How far a swap has come, by the status units of a trailer.
+-- How far a swap has got, by the status units of a trailer.
 use Rattle.std.specs.Prelude.{ℕ, zero, suc, ◌+◌, ◌*◌, List, slice_range, take, drop, if◌then◌else◌}
 use Rattle.flash_model.specs.Chip.{Chip}
 use Rattle.sector_map.specs.declared.layout.SectorMap.{SectorMap}
@@ -7,7 +7,7 @@ use Rattle.sector_map.specs.Map.{slot_sectors}
 use Rattle.flash_model.specs.Units.{are_erased}
 use Rattle.trailer.specs.Fields.{trailer_bytes}
 
--- A status unit of a trailer. They are counted from 0.
+-- A status unit of a trailer, numbered from 0.
 abbrev pub status_unit : List ℕ → ℕ → List ℕ
 status_unit bytes status = slice_range bytes (8 * status) (8 * status + 8)
 
@@ -16,7 +16,7 @@ unfoldable pub set_units : List ℕ → ℕ → ℕ
 set_units bytes zero = 0
 set_units bytes (suc n) = if are_erased (take 8 bytes) then 0 else set_units (drop 8 bytes) n + 1
 
--- The status count of a trailer: there are three units for each sector of the slot.
+-- The status count of a trailer, which has three units for each sector of the slot.
 abbrev pub status_count_of : SectorMap → Chip → ℕ → Side → ℕ
 status_count_of map chip image side =
     set_units (trailer_bytes map chip image side) (3 * slot_sectors map image)
