@@ -1,4 +1,4 @@
--- A place of the log, in bytes: a record, and behind it its gate, which is a unit.
+-- A place of the log, in bytes: a record, and after it its gate, which is a unit.
 use Rattle.std.specs.Prelude.{ℕ, List, [], ◌∷◌}
 
 -- How many bytes a place has.
