@@ -1,4 +1,4 @@
--- The table of a component of a manifest (RFC 9124 names its elements; the spelling is this
+-- A component of a manifest as a JSON object (RFC 9124 names its elements; the spelling is this
 -- project's own).
 use Rattle.std.specs.Prelude.{◌≡◌, ◌⊎◌, ℕ, ◌^◌, ◌<◌, Bool, true, false, IfSome, List, [], ◌∷◌, Option, None, Some, codes}
 use Rattle.serde_json.specs.Data.{Data}
@@ -6,18 +6,18 @@ use Rattle.serde_json.specs.Find.{as_object, get}
 use Rattle.manifest.specs.declared.manifest.Component.{Component}
 use Rattle.manifest.specs.Json.{HasNames, digest_at, number_at, text_at}
 
--- The keys that a component needs, in the order of their bytes ..
+-- The keys of a component without a precursor, in the order of their bytes.
 abbrev pub component_keys : List (List ℕ)
 component_keys =
     codes "component-id" ∷ codes "kind" ∷ codes "payload-digest" ∷ codes "size" ∷ []
 
--- .. and these with the one that may be missing.
+-- The keys of a component with a precursor, in the order of their bytes.
 abbrev pub component_keys_with_precursor : List (List ℕ)
 component_keys_with_precursor =
     codes "component-id" ∷ codes "kind" ∷ codes "payload-digest" ∷ codes "precursor-digest"
     ∷ codes "size" ∷ []
 
--- What is an object has the keys of a component. What is none has no keys to judge.
+-- A value that is an object has the keys of a component.
 abbrev pub HasComponentKeys : Data → Type 0
 HasComponentKeys value = IfSome (as_object value)
     (λ members. HasNames component_keys value ⊎ HasNames component_keys_with_precursor value)
@@ -27,7 +27,7 @@ abbrev pub kind_text : Bool → List ℕ
 kind_text true = codes "permanent"
 kind_text false = codes "test"
 
--- The digest of the image that has to run, where the value names one.
+-- The digest of the image that has to run, if the value names one.
 abbrev pub IsPrecursor : Data → Option (List ℕ) → Type 0
 IsPrecursor value None = get (codes "precursor-digest") value ≡ None
 IsPrecursor value (Some digest) = digest_at (codes "precursor-digest") value ≡ Some digest

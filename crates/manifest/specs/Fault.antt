@@ -8,28 +8,26 @@ use Rattle.manifest.specs.declared.manifest.Manifest.{Manifest}
 use Rattle.manifest.specs.Json.{IsJson}
 use Rattle.manifest.specs.Manifest.{HasKeys, IsOfClass, IsOfVendor, Means, NamesEachOnce, NamesImages, Spells}
 
--- The demands on a value in the order of the refusals. Each name says that its own demand is met,
--- and all before it: the keys are those of the tables, and the values at them spell this
--- manifest ..
+-- The keys of a value are those of a manifest, and the values at them spell this manifest.
 abbrev pub MeetsTables : Data → Manifest → Type 0
 MeetsTables value manifest = HasKeys value × Spells value manifest
 
--- .. it is of the device's vendor ..
+-- A value spells this manifest, and is of the device's vendor.
 abbrev pub MeetsVendor : Identity → Data → Manifest → Type 0
 MeetsVendor identity value manifest = MeetsTables value manifest × IsOfVendor identity value
 
--- .. and of its class ..
+-- A value spells this manifest, and is of the device's vendor and class.
 abbrev pub MeetsClass : Identity → Data → Manifest → Type 0
 MeetsClass identity value manifest =
     MeetsVendor identity value manifest × IsOfClass identity value
 
--- .. and names images of the device alone.
+-- A value spells this manifest, is of the device's vendor and class, and names only its images.
 abbrev pub MeetsImages : Identity → Data → Manifest → Type 0
 MeetsImages identity value manifest =
     MeetsClass identity value manifest × NamesImages identity manifest
 
--- The lowest refusal that applies to a value: its own demand isn't met, and all before it are.
--- That bytes are no JSON, or that memory runs out, is no property of a value.
+-- The lowest refusal that applies to a value: its own demand isn't met, and all before it are. That
+-- bytes are no JSON, or that memory runs out, is no property of a value.
 abbrev pub IsLowestFault : Identity → Data → ManifestError → Type 0
 IsLowestFault identity value BadKey = HasKeys value → ⊥
 IsLowestFault identity value BadValue =
@@ -52,8 +50,7 @@ pub record IsManifest (identity : Identity) (bytes : List ℕ) (manifest : Manif
   pub json : IsJson bytes value
   pub meaning : Means identity value manifest
 
--- The lowest refusal that applies to bytes: they are the JSON text of no value, or of one to which
--- it applies.
+-- The lowest refusal that applies to bytes: they aren't JSON, or it applies to what they spell.
 pub data IsRefusal (identity : Identity) (bytes : List ℕ) (fault : ManifestError) : Type 0 where
   no_json : ((value : Data) → IsJson bytes value → ⊥)
       → fault ≡ NotJson → IsRefusal identity bytes fault

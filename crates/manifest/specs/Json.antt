@@ -1,4 +1,4 @@
--- Which JSON value bytes are (RFC 8259), and what stands at a key of an object.
+-- Which JSON value bytes are (RFC 8259), and which values an object has at its keys.
 use Rattle.std.specs.Prelude.{◌≡◌, ℕ, IsSomeAnd, IsUtf8, List, [], ◌∷◌, Option, Some, option_and_then, option_map}
 use Rattle.std.specs.Result.{result_ok}
 use Rattle.hex.specs.Hex.{decode_sized}
@@ -7,12 +7,11 @@ use Rattle.serde_json.specs.Find.{as_array, as_number, as_object, as_str, as_u64
 use Rattle.serde_json.specs.Read.{read}
 use Rattle.uuid.specs.Text.{parsed}
 
--- Bytes are the JSON text of a value: they are UTF-8, nest 127 levels deep at most, and of a name
--- that an object has twice the last value stands.
+-- Bytes are a value's JSON text: UTF-8, at most 127 levels deep; the last of repeated names counts.
 abbrev pub IsJson : List ℕ → Data → Type 0
 IsJson bytes value = IsUtf8 bytes × (read bytes ≡ Some value)
 
--- The names in an object, each once, in the order of their bytes.
+-- The names of an object's members in order: of a value that was read, each once, sorted by bytes.
 abbrev pub names_of : Members → List (List ℕ)
 names_of no_members = []
 names_of (member name value members) = name ∷ names_of members
@@ -26,12 +25,11 @@ abbrev pub values_of : Items → List Data
 values_of no_items = []
 values_of (item value items) = value ∷ values_of items
 
--- The whole number from 0 on that a value is: one that is written without a fraction or an
--- exponent.
+-- The number from 0 on that a value is, if it is written without a fraction or an exponent.
 abbrev pub whole_number : Data → Option ℕ
 whole_number value = option_and_then as_u64 (as_number value)
 
--- The whole number from 0 on at a key: one that is written without a fraction or an exponent.
+-- The number from 0 on at a key, if it is written without a fraction or an exponent.
 abbrev pub number_at : List ℕ → Data → Option ℕ
 number_at key value = option_and_then as_u64 (option_and_then as_number (get key value))
 
@@ -43,8 +41,7 @@ text_at key value = option_and_then as_str (get key value)
 abbrev pub array_at : List ℕ → Data → Option (List Data)
 array_at key value = option_map values_of (option_and_then as_array (get key value))
 
--- The UUID that the text at a key spells, in any of its forms and in either case
--- (RFC 9562, section 4).
+-- The UUID that the text at a key spells, in any form and either case (RFC 9562, section 4).
 abbrev pub uuid_at : List ℕ → Data → Option (List ℕ)
 uuid_at key value = option_and_then parsed (text_at key value)
 

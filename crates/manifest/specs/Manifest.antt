@@ -1,5 +1,5 @@
--- The table of a manifest, and what a JSON value means to a device (RFC 9124 names the elements;
--- the spelling is this project's own).
+-- What a JSON value has to be to mean a manifest to a device (RFC 9124 names the elements; the
+-- spelling is this project's own).
 use Rattle.std.specs.Prelude.{◌≡◌, ◌≢◌, ℕ, ◌^◌, ◌<◌, ◌≤◌, All, AllPairs, IfSome, IsSome, IsSomeAnd, List, [], ◌∷◌, Some, codes, length}
 use Rattle.std.specs.List.{AllByRecursion, AllZip}
 use Rattle.serde_json.specs.Data.{Data}
@@ -15,7 +15,7 @@ manifest_keys =
     codes "class-id" ∷ codes "components" ∷ codes "manifest-version" ∷ codes "sequence-number"
     ∷ codes "vendor-id" ∷ []
 
--- The value is an object with the keys of a manifest, and where its components are an array, each
+-- The value is an object with the keys of a manifest and, if its components are an array, each
 -- object there has the keys of a component.
 pub record HasKeys (value : Data) : Type 0 where
   pub manifest : HasNames manifest_keys value
@@ -33,11 +33,11 @@ pub record Spells (value : Data) (manifest : Manifest) : Type 0 where
   pub some : 0 < length manifest.components.items
   pub most : length manifest.components.items ≤ MOST_COMPONENTS
 
--- The value names this vendor ..
+-- The value names this vendor.
 abbrev pub IsOfVendor : Identity → Data → Type 0
 IsOfVendor identity value = uuid_at (codes "vendor-id") value ≡ Some identity.vendor
 
--- .. and this class of devices.
+-- The value names this class of devices.
 abbrev pub IsOfClass : Identity → Data → Type 0
 IsOfClass identity value = uuid_at (codes "class-id") value ≡ Some identity.class
 
