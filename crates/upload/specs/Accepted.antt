@@ -23,6 +23,7 @@ use Rattle.upload.specs.Withdrawal.{IsKeptOrGone}
 
 -- ---- what a manifest names
 
+-- The first component or, if there is none, the other.
 abbrev pub or_else : Option Component → Option Component → Option Component
 or_else None other = other
 or_else (Some c) other = Some c
@@ -36,7 +37,7 @@ abbrev pub is_some : Option Component → Bool
 is_some None = false
 is_some (Some c) = true
 
--- A component names the image.
+-- Whether a component names the image.
 abbrev pub is_named : List Component → ℕ → Bool
 is_named cs i = is_some (latest cs i)
 
@@ -47,7 +48,7 @@ named_parts cs (TrailerOf i side) = is_named cs i && same_side side Secondary
 named_parts cs Scratch = false
 named_parts cs Log = false
 
--- Those, and the log.
+-- The secondary slots of the named images and their trailers, and the log.
 abbrev pub accepted_parts : List Component → Part → Bool
 accepted_parts cs (Slot i side) = is_named cs i && same_side side Secondary
 accepted_parts cs (TrailerOf i side) = is_named cs i && same_side side Secondary
@@ -69,30 +70,30 @@ abbrev pub HasDigest : List ℕ → List ℕ → Type 0
 HasDigest bytes digest = (description : Desc) × IsIntact bytes description
     × (description.digest ≡ digest)
 
--- An image of this digest entry runs, where one is asked for (RFC 9124, "Precursor Image Digest
--- Condition").
+-- What runs has the digest asked for, if any (RFC 9124, "Precursor Image Digest Condition").
 abbrev pub IsPrecursor : Option (List ℕ) → Option (List ℕ) → Type 0
 IsPrecursor None running = Unit
 IsPrecursor (Some digest) None = ⊥
 IsPrecursor (Some digest) (Some bytes) = HasDigest bytes digest
 
--- Each component follows the image that runs.
+-- Each component follows the image that runs: its precursor, if it names one.
 abbrev pub AllFollow : DeviceState → List Component → Type 0
 AllFollow s cs = All (λ c. IsPrecursor c.precursor (s.running c.image)) cs
 
--- A manifest may be taken: no check of it fails.
+-- A manifest may be accepted: no check of it fails.
 pub record MayAccept (map : SectorMap) (s : DeviceState) (sequence : ℕ) (cs : List Component)
     : Type 0 where
   pub newer : s.sequence ≤ sequence
   pub fit : AllFit map cs
   pub follow : AllFollow s cs
 
--- What stands at the front of a slot is an image of this digest entry, where one is asked for.
+-- A slot begins with an image of this digest entry, if one is asked for.
 abbrev pub FrontHasDigest : List ℕ → Option (List ℕ) → Type 0
 FrontHasDigest slot None = Unit
 FrontHasDigest slot (Some digest) =
     (bytes : List ℕ) × Starts slot bytes × HasDigest bytes digest
 
+-- Each component follows the image that the primary slot of its image begins with.
 abbrev pub AllFollowAt : View → List Component → Type 0
 AllFollowAt w cs = All (λ c. FrontHasDigest (w.slot c.image Primary) c.precursor) cs
 
@@ -107,7 +108,7 @@ AreBlank map chip cs = All (λ c. IsBlank map chip c.image) cs
 
 -- ---- the step
 
--- The session that is open for a component.
+-- The session that is opened for a component.
 abbrev pub opened : Component → Session
 opened c = record {
   size = c.size;
@@ -116,16 +117,17 @@ opened c = record {
   received = [];
 }
 
+-- The session of an image after a manifest: an empty one if a component names it.
 abbrev pub session_after : Option Component → Option Session → Option Session
 session_after None before = before
 session_after (Some c) before = Some (opened c)
 
+-- The request for an image after a manifest: none if a component names it.
 abbrev pub request_after : Option Component → Option Wanted → Option Wanted
 request_after None before = before
 request_after (Some c) before = None
 
--- The manifest is taken: its sequence stands, and each named image has no request and an empty
--- session.
+-- The manifest's sequence is kept, and each named image has an empty session and no request.
 abbrev pub accepted : Machine → ℕ → List Component → Machine
 accepted m sequence cs = record m {
   kept = record m.kept {
@@ -135,8 +137,8 @@ accepted m sequence cs = record m {
   session = λ i. session_after (latest cs i) (m.session i);
 }
 
--- Taking it was cut: the old sequence and each request as it was, or the new one and each request
--- of a named image as it was or gone.
+-- After an interrupted Accept: the old sequence and all requests, or the new sequence and each
+-- request of a named image as it was or gone.
 pub record IsAcceptCut (s : DeviceState) (sequence : ℕ) (cs : List Component) (next : DeviceState)
     : Type 0 where
   pub rest : next ≡ record s { sequence = next.sequence; request = next.request }
@@ -145,10 +147,9 @@ pub record IsAcceptCut (s : DeviceState) (sequence : ℕ) (cs : List Component) 
       ⊎ ((next.sequence ≡ sequence)
       × ((i : ℕ) → (next.request i ≡ s.request i) ⊎ (next.request i ≡ None)))
 
--- The manifest is taken, or the first check that fails is answered, each made of all components:
--- its sequence isn't below the last one; each image fits its slot; each follows the image that
--- runs. Where the flash stops the call all sessions are closed: in a cut the manifest had passed
--- all checks, and nothing else changed where the flash was off.
+-- A manifest is accepted, or the first check that fails is returned: its sequence isn't below the
+-- last one, all components fit their slots, all follow what runs. If the flash stops the call, all
+-- sessions end; after a power cut all checks had passed, and if it was off nothing else changed.
 abbrev pub Accepts : SectorMap → Machine → ℕ → List Component → Result Unit UploadError → Machine
     → Type 0
 Accepts map m sequence cs (Ok done) next =
@@ -174,12 +175,12 @@ pub record IsFresh (c : Component) (upload : Upload) : Type 0 where
   pub received : upload.received ≡ 0
   pub held : upload.held.items ≡ []
 
--- The upload of an image after a component named it, or none did.
+-- The upload of an image after a manifest: a new one if a component names it.
 abbrev pub OpenedAt : Option Upload → Option Upload → Option Component → Type 0
 OpenedAt now before None = now ≡ before
 OpenedAt now before (Some c) = (upload : Upload) × (now ≡ Some upload) × IsFresh c upload
 
--- Images that aren't named are as they were, and the request of each is as it was or gone.
+-- Only images that are named are changed, and the request of each is as it was or gone.
 pub record IsOpening (old new : View) (named : ℕ → Option Component) : Type 0 where
   pub images : new.images ≡ old.images
   pub log : new.log ≡ old.log
@@ -189,7 +190,7 @@ pub record IsOpening (old new : View) (named : ℕ → Option Component) : Type 
   pub long : (j : ℕ) → length (new.slot j Secondary) ≡ length (old.slot j Secondary)
   pub either : (j : ℕ) → IsKeptOrGone old new j
 
--- Each named image has an erased slot and trailer, and a new upload.
+-- Each named image has an erased secondary slot and trailer, and a new upload.
 pub record IsOpened (old new : View) (told tnew : List (Option Upload))
     (named : ℕ → Option Component) : Type 0 where
   pub opening : IsOpening old new named

@@ -1,21 +1,20 @@
--- The state of a device, over whole images: what its flash keeps, and what it holds itself.
+-- The state of a device, over complete images: what its flash keeps, and what it holds itself.
 use Rattle.std.specs.Prelude.{ℕ, Bool, List, Option, None}
 use Rattle.trailer.specs.declared.kinds.Kind.{Kind}
 
--- What is requested: the bytes of an intact image, or none where they are damaged.
+-- A request: the bytes of an intact image, or none if they are damaged, and its kind.
 pub record Wanted : Type 0 where
   pub bytes : Option (List ℕ)
   pub kind : Kind
 
--- An upload that is open: how long the file is to be, its digest, how it will be requested, and the
--- bytes that came.
+-- An open upload: the length of the file, its digest, how it will be requested, the bytes received.
 pub record Session : Type 0 where
   pub size : ℕ
   pub digest : List ℕ
   pub kind : Kind
   pub received : List ℕ
 
--- A set on trial: its images, those confirmed, what ran before, and how many more boots it has.
+-- A set on trial: its images, those confirmed, what ran before, and how many boots are left.
 pub record Trial : Type 0 where
   pub set : ℕ
   pub confirmed : ℕ → Bool
@@ -25,16 +24,16 @@ pub record Trial : Type 0 where
 -- What a device's flash keeps.
 pub record DeviceState : Type 0 where
   pub images : ℕ
-  -- the bytes of the image that runs, or none where it is damaged
+  -- The bytes of the image that runs, or none if it is damaged.
   pub running : ℕ → Option (List ℕ)
   pub request : ℕ → Option Wanted
-  -- the floors of the security counters, eight of them
+  -- The floors of the security counters, eight of them.
   pub floors : List ℕ
-  -- the sequence number of the last manifest that was accepted
+  -- The sequence number of the last manifest that was accepted.
   pub sequence : ℕ
   pub trial : Option Trial
 
--- A device: what its flash keeps, its sessions, and whether it is up.
+-- A device: what its flash keeps, its sessions, and whether it is booted.
 pub record Machine : Type 0 where
   pub kept : DeviceState
   pub session : ℕ → Option Session
@@ -44,6 +43,6 @@ pub record Machine : Type 0 where
 abbrev pub no_session : ℕ → Option Session
 no_session image = None
 
--- Sessions are closed, and the flash keeps this.
+-- The machine with its sessions closed and with this state kept.
 abbrev pub closed : Machine → DeviceState → Machine
 closed machine kept = record machine { kept = kept; session = no_session }

@@ -15,30 +15,27 @@ use Rattle.upload.specs.Sessions.{IsWritten}
 use Rattle.upload.specs.Piece.{with_session}
 use Rattle.upload.specs.Withdrawal.{with_request}
 
--- What is requested where an upload is finished.
+-- The request for the image of a finished upload.
 abbrev pub asked : Session → Wanted
 asked session = record { bytes = Some session.received; kind = session.kind }
 
--- A whole upload: of the right length and the right digest (SHA-256, FIPS 180-4), and an intact
--- image.
+-- An upload has its length and digest (SHA-256, FIPS 180-4), and is an intact image.
 pub record IsGoodUpload (session : Session) : Type 0 where
   pub size : length session.received ≡ session.size
   pub digest : sha256 session.received ≡ session.digest
   pub image : IsImage session.received
 
--- The checks of an upload in their order. Each name says that its own check passes, and all before
--- it: the length is the manifest's ..
+-- An upload has the length that the manifest gives.
 abbrev pub HasSize : Session → Type 0
 HasSize session = length session.received ≡ session.size
 
--- .. and the digest.
+-- An upload has the length and the digest that the manifest gives.
 abbrev pub HasSizeAndDigest : Session → Type 0
 HasSizeAndDigest session = HasSize session × (sha256 session.received ≡ session.digest)
 
--- Finishing a session: the image is requested, or the first check that fails is answered; the
--- session is closed in any case. Where the flash stops the call the upload had the manifest's
--- length, and all sessions are closed: after a cut no request stands, or the one that was asked
--- for, of a good upload; nothing else changed where the flash was off.
+-- A session ends: its image is requested, or the first check that fails is returned. If the flash
+-- stops the call, the length was right, nothing was requested, and all sessions end; a power cut
+-- may leave a good upload requested, and nothing else changed.
 abbrev pub Finishes : Machine → ℕ → Session → Result Unit UploadError → Machine → Type 0
 Finishes m i session (Ok done) next = IsGoodUpload session × (next ≡ with_session
     (record m { kept = with_request m.kept i (Some (asked session)) }) i None)
@@ -55,13 +52,13 @@ Finishes m i session (Err (no.Flash flash.Off)) next =
     HasSize session × (m.kept.request i ≡ None) × (next ≡ closed m m.kept)
 Finishes m i session other next = ⊥
 
--- Finishing an image: it has no session, or that is finished.
+-- An image's upload is finished: it has no session, or that is finished.
 abbrev pub FinishRow : Machine → ℕ → Result Unit UploadError → Machine → Type 0
 FinishRow m i result next =
     ((m.session i ≡ None) × (result ≡ Err no.NoSession) × (next ≡ m))
     ⊎ ((session : Session) × (m.session i ≡ Some session) × Finishes m i session result next)
 
--- How the bytes of an upload are judged.
+-- What each result of checking an upload says of its bytes.
 abbrev pub Judges : List ℕ → List ℕ → Result Unit UploadError → Type 0
 Judges bytes digest (Ok done) = (sha256 bytes ≡ digest) × IsImage bytes
 Judges bytes digest (Err no.DigestWrong) = sha256 bytes ≢ digest
@@ -70,13 +67,13 @@ Judges bytes digest (Err (no.NotAnImage fault)) =
 Judges bytes digest (Err (no.Flash error)) = Unit
 Judges bytes digest other = ⊥
 
--- A finished upload on the flash: the image is whole, good and requested.
+-- A finished upload on the flash: its image is complete, good and requested.
 pub record IsFinishedAt (w : View) (i : ℕ) (session : Session) : Type 0 where
   pub good : IsGoodUpload session
   pub slot : IsWritten (w.slot i Secondary) session.received
   pub trailer : w.trailer i Secondary ≡ requested_fields session.kind
 
--- What finishing leaves on the flash.
+-- What finishing an upload leaves on the flash, by its result.
 abbrev pub EndsFinish : View → ℕ → Session → Result Unit UploadError → Type 0
 EndsFinish w i session (Ok done) = IsFinishedAt w i session
 EndsFinish w i session (Err no.SizeWrong) =

@@ -11,24 +11,23 @@ use Rattle.upload.specs.Device.{Machine, Session, closed}
 abbrev pub with_session : Machine → ℕ → Option Session → Machine
 with_session m i session = record m { session = λ j. if j == i then session else m.session j }
 
--- A session to which bytes came.
+-- A session that received these bytes too.
 abbrev pub appended : Session → List ℕ → Session
 appended session bytes = record session { received = session.received ++ bytes }
 
--- An upload that stands on the flash took these bytes, and stands there.
+-- An upload that is open on the flash received these bytes, and is open there.
 abbrev pub TakesMore : View → View → ℕ → Upload → Upload → List ℕ → Type 0
 TakesMore old new i before after bytes = (written : List ℕ) → IsUploadAt old i before written
     → (more : List ℕ) × IsUploadAt new i after more
     × (session_of after more ≡ appended (session_of before written) bytes)
 
--- There is room for bytes in what is left of a session.
+-- The bytes fit in what is left of a session.
 abbrev pub HasRoom : Session → List ℕ → Type 0
 HasRoom session bytes = length session.received + length bytes ≤ session.size
 
--- The bytes are appended; or the image has no session; or they are more than its size allows, and
--- the session is closed. Where the flash stops the call a session was open that has room for the
--- bytes, all sessions are closed, and what the flash keeps stays: nothing was requested for the
--- image.
+-- The bytes are appended; or the image has no session; or they exceed its size, and the session
+-- ends. If the flash stops the call, they fit in a session, all sessions end, and nothing kept
+-- changes: nothing was requested for the image.
 abbrev pub Pieces : Machine → ℕ → List ℕ → Result Unit UploadError → Machine → Type 0
 Pieces m i bytes (Ok done) next = (session : Session) × (m.session i ≡ Some session)
     × HasRoom session bytes × (next ≡ with_session m i (Some (appended session bytes)))

@@ -1,4 +1,4 @@
--- What ties a flash to a state of the device, where no swap or trial is under way.
+-- When a flash holds a state of the device without a swap or a trial.
 use Rattle.std.specs.Prelude.{◌≡◌, ℕ, ◌<◌, Bool, false, List, Option, Some, None, option_map}
 use Rattle.common.specs.Bytes.{Starts}
 use Rattle.sector_map.specs.declared.layout.Side.TheVariants.{Primary, Secondary}
@@ -17,31 +17,31 @@ use Rattle.upload.specs.Device.{DeviceState, Wanted}
 abbrev pub IsImage : List ℕ → Type 0
 IsImage bytes = (description : Desc) × IsIntact bytes description
 
--- What stands at the front of some bytes: an intact image, or none.
+-- The intact image that bytes begin with, or none.
 pub record IsFront (whole : List ℕ) (held : Option (List ℕ)) : Type 0 where
   pub image : (bytes : List ℕ) → held ≡ Some bytes → Starts whole bytes × IsImage bytes
   pub none : held ≡ None → (bytes : List ℕ) (description : Desc) → Starts whole bytes
       → IsIntact bytes description → ⊥
 
--- The request that the fields of a trailer tell of, with the bytes of its slot.
+-- The pending request by the fields of a trailer and the bytes of its slot.
 abbrev pub told_by : Fields → List ℕ → Option request.Kind
 told_by fields slot = standing_kind (trailer_of fields) (first_is_set slot)
 
--- The request that stands for an image.
+-- The pending request for an image.
 abbrev pub request_in : View → ℕ → Option request.Kind
 request_in w i = told_by (w.trailer i Secondary) (w.slot i Secondary)
 
--- What is requested for an image.
+-- What is requested by a trailer, with the image that its slot begins with.
 pub record IsRequested (fields : Fields) (slot : List ℕ) (wanted : Option Wanted) : Type 0 where
   pub kind : told_by fields slot ≡ option_map (λ w. w.kind) wanted
   pub front : (w : Wanted) → wanted ≡ Some w → IsFront slot w.bytes
 
--- An image that no swap or trial has to do with: what runs, and what is requested.
+-- An image that is in no swap or trial: what runs, and what is requested.
 pub record IsImageAt (w : View) (s : DeviceState) (i : ℕ) : Type 0 where
   pub running : IsFront (w.slot i Primary) (s.running i)
   pub request : IsRequested (w.trailer i Secondary) (w.slot i Secondary) (s.request i)
 
--- The state that the log has of a device that is in the midst of this.
+-- The record that the log has of a state, by its kind, set, permanence and boots left.
 abbrev pub logged : RecordKind → ℕ → Bool → ℕ → DeviceState → State
 logged kind mask permanent left s = record {
   kind = kind;
@@ -52,7 +52,7 @@ logged kind mask permanent left s = record {
   floors = s.floors;
 }
 
--- At rest without a trial.
+-- The flash holds a state at rest, without a trial.
 pub record IsSteadyAt (w : View) (s : DeviceState) : Type 0 where
   pub trial : s.trial ≡ None
   pub images : w.images ≡ s.images

@@ -1,4 +1,4 @@
--- What the layers above see of a flash: its parts, read.
+-- What the layers above see of a flash: the contents of its parts.
 use Rattle.std.specs.Prelude.{◌≡◌, ℕ, Bool, false, List, Option}
 use Rattle.flash_model.specs.Chip.{Chip}
 use Rattle.sector_map.specs.declared.layout.SectorMap.{SectorMap}
@@ -12,7 +12,7 @@ use Rattle.set_log.specs.Log.{state_of}
 -- The parts of a flash, its power and its counts.
 pub record View : Type 0 where
   pub images : ℕ
-  -- the sectors of each slot of an image
+  -- The number of sectors of each slot of an image.
   pub sectors : ℕ → ℕ
   pub slot : ℕ → Side → List ℕ
   pub trailer : ℕ → Side → Fields

@@ -1,4 +1,4 @@
--- The step of a machine that takes a request back.
+-- The step of a machine that withdraws a request.
 use Rattle.std.specs.Prelude.{◌≡◌, ◌≢◌, ◌⊎◌, ℕ, ◌<◌, ◌==◌, Option, None, Result, Ok, Err, if◌then◌else◌}
 use Rattle.flash_model.specs.declared.error.FlashError.TheVariants as flash
 use Rattle.sector_map.specs.declared.layout.Side.TheVariants.{Secondary}
@@ -13,9 +13,8 @@ use Rattle.upload.specs.Steady.{request_in}
 abbrev pub with_request : DeviceState → ℕ → Option Wanted → DeviceState
 with_request s i wanted = record s { request = λ j. if j == i then wanted else s.request j }
 
--- A request that stood is gone; or none stood, or there is no such image. Where the flash stops the
--- call all sessions are closed: after a cut a request that stood is as it was or gone, and nothing
--- else changed where the flash was off.
+-- A pending request is withdrawn, or none is pending, or no such image exists. If the flash stops
+-- the call, all sessions end and nothing else changes, but a power cut may remove the request.
 abbrev pub Withdraws : Machine → ℕ → Result Unit UploadError → Machine → Type 0
 Withdraws m i (Ok done) next =
     (m.kept.request i ≢ None) × (next ≡ record m { kept = with_request m.kept i None })
@@ -26,12 +25,12 @@ Withdraws m i (Err (no.Flash flash.Cut)) next = (m.kept.request i ≢ None)
 Withdraws m i (Err (no.Flash flash.Off)) next = next ≡ closed m m.kept
 Withdraws m i other next = ⊥
 
--- The request of an image is as it was, slot and trailer, or none stands.
+-- The request of an image is as it was, slot and trailer, or none is pending.
 abbrev pub IsKeptOrGone : View → View → ℕ → Type 0
 IsKeptOrGone old new i = ((new.slot i Secondary ≡ old.slot i Secondary)
     × (new.trailer i Secondary ≡ old.trailer i Secondary)) ⊎ (request_in new i ≡ None)
 
--- What withdrawing leaves on the flash.
+-- What withdrawing leaves on the flash, by its result.
 abbrev pub EndsWithdraw : View → View → ℕ → Result Unit UploadError → Type 0
 EndsWithdraw old new i (Ok done) =
     (request_in old i ≢ None) × (new.trailer i Secondary ≡ erased_fields)
