@@ -1,4 +1,4 @@
--- What ties a flash to a state of the device.
+-- When a flash and a device hold a state.
 use Rattle.std.specs.Prelude.{◌≡◌, ◌⊎◌, ℕ, ◌<◌, Bool, true, false, List, Option, Some, None}
 use Rattle.flash_model.specs.Chip.{Chip}
 use Rattle.sector_map.specs.declared.layout.SectorMap.{SectorMap}
@@ -20,7 +20,7 @@ use Rattle.machine.specs.Boots.{IsDecision, GoesBack}
 
 -- ---- at rest
 
--- An image on trial, whatever its secondary trailer holds.
+-- An image is on trial on the flash, whatever its secondary trailer holds.
 pub record IsTriedAt (w : View) (s : DeviceState) (trial : Trial) (i : ℕ) : Type 0 where
   pub running : IsFront (w.slot i Primary) (s.running i)
   pub old : IsFront (w.slot i Secondary) (Some (trial.old i))
@@ -28,7 +28,7 @@ pub record IsTriedAt (w : View) (s : DeviceState) (trial : Trial) (i : ℕ) : Ty
   pub good : (w.trailer i Primary).magic ≡ Good
   pub copied : (w.trailer i Primary).copy_done ≡ true
 
--- A trial, whatever the secondary trailers of its set hold.
+-- A trial is on the flash, whatever the secondary trailers of its set hold.
 pub record IsTrialOpen (w : View) (s : DeviceState) (t : Trial) : Type 0 where
   pub trial : s.trial ≡ Some t
   pub images : w.images ≡ s.images
@@ -37,24 +37,23 @@ pub record IsTrialOpen (w : View) (s : DeviceState) (t : Trial) : Type 0 where
   pub log : w.log ≡ Some (logged log.Trial t.set permanent t.left s)
   pub within : (i : ℕ) → is_member t.set i ≡ true → i < s.images
   pub tried : (i : ℕ) → is_member t.set i ≡ true → IsTriedAt w s t i
-  -- What was requested for the set is gone.
+  -- Nothing is requested for the set.
   pub gone : (i : ℕ) → is_member t.set i ≡ true → s.request i ≡ None
   pub others : (i : ℕ) → i < s.images → is_member t.set i ≡ false → IsImageAt w s i
 
--- At rest, on trial.
+-- A trial is at rest on the flash: the secondary trailers of its set have no magic.
 pub record IsTrialAt (w : View) (s : DeviceState) (trial : Trial) : Type 0 where
   pub opened : IsTrialOpen w s trial
   pub unset : (i : ℕ) → is_member trial.set i ≡ true
       → (w.trailer i Secondary).magic ≡ Unset
 
--- What a flash holds while the device is up.
+-- What a flash holds while the device is booted: a state at rest, without a trial or with one.
 abbrev pub IsAtRest : View → DeviceState → Type 0
 IsAtRest w s = IsSteadyAt w s ⊎ ((trial : Trial) × IsTrialAt w s trial)
 
 -- ---- an upgrade
 
--- The decision is recorded, and its set is at a place of the swap: x stood in the primary slots, y
--- in the secondary ones.
+-- A decision is recorded, its swap under way: x was in the primary slots, y in the secondary ones.
 pub record IsSwapping (map : SectorMap) (chip : Chip) (s : DeviceState) (table : Table)
     (mask : ℕ) (permanent : Bool) (x y : ℕ → List ℕ) : Type 0 where
   pub trial : s.trial ≡ None
@@ -67,7 +66,7 @@ pub record IsSwapping (map : SectorMap) (chip : Chip) (s : DeviceState) (table :
   pub others : (i : ℕ) → i < s.images → is_member mask i ≡ false
       → IsImageAt (view map chip) s i
 
--- The set is swapped: the record is Swap still, or Settle.
+-- The set of a decision is swapped, and the record is of this kind: still Swap, or Settle.
 pub record IsSwapped (w : View) (s : DeviceState) (table : Table) (kind : RecordKind) (mask : ℕ)
     (permanent : Bool) : Type 0 where
   pub trial : s.trial ≡ None
@@ -79,18 +78,17 @@ pub record IsSwapped (w : View) (s : DeviceState) (table : Table) (kind : Record
       → IsFront (w.slot i Primary) (wanted_bytes (s.request i))
   pub others : (i : ℕ) → i < s.images → is_member mask i ≡ false → IsImageAt w s i
 
--- The trailers of an image are settled.
+-- The trailers of image i are settled, with `image_ok` exactly if permanent.
 pub record IsSettledAt (w : View) (i : ℕ) (permanent : Bool) : Type 0 where
   pub both : IsSettled permanent (w.trailer i Primary) (w.trailer i Secondary)
 
--- The trailers of a set are settled.
+-- The trailers of each image of a set are settled.
 pub record AreSettled (w : View) (mask : ℕ) (permanent : Bool) : Type 0 where
   pub each : (i : ℕ) → i < w.images → is_member mask i ≡ true → IsSettledAt w i permanent
 
--- ---- going back
+-- ---- a revert
 
--- Going back is recorded, and the set is at a place of the swap back: the old images are y, of the
--- secondary slots.
+-- A revert is recorded, its swap under way: x was primary, and y, the old images, secondary.
 pub record IsSwappingBack (map : SectorMap) (chip : Chip) (s : DeviceState) (trial : Trial)
     (x y : ℕ → List ℕ) : Type 0 where
   pub goes : GoesBack s trial
@@ -104,12 +102,12 @@ pub record IsSwappingBack (map : SectorMap) (chip : Chip) (s : DeviceState) (tri
   pub others : (i : ℕ) → i < s.images → is_member trial.set i ≡ false
       → IsImageAt (view map chip) s i
 
--- The set is swapped back: the record is Back still, or BackSettle.
+-- The set of a trial is swapped back, and the record is of this kind: still Back, or BackSettle.
 pub record IsSwappedBack (w : View) (s : DeviceState) (trial : Trial) (kind : RecordKind)
     : Type 0 where
   pub goes : GoesBack s trial
   pub images : w.images ≡ s.images
-  -- Permanence means nothing in these records: they may say either.
+  -- Permanence means nothing in these records: it may say either.
   pub permanent : Bool
   pub log : w.log ≡ Some (logged kind trial.set permanent 0 s)
   pub within : (i : ℕ) → is_member trial.set i ≡ true → i < s.images
@@ -117,10 +115,9 @@ pub record IsSwappedBack (w : View) (s : DeviceState) (trial : Trial) (kind : Re
       → IsFront (w.slot i Primary) (Some (trial.old i))
   pub others : (i : ℕ) → i < s.images → is_member trial.set i ≡ false → IsImageAt w s i
 
--- ---- what stands
+-- ---- what a flash and a device hold
 
--- What a flash holds while the device isn't up: a state at rest, or one of which the record that
--- stands says how far a boot came.
+-- A flash holds a state, at rest or during a boot; the log's record says how far the boot got.
 pub data Stands (map : SectorMap) (chip : Chip) (s : DeviceState) : Type 0 where
   Rests : IsSteadyAt (view map chip) s → Stands map chip s
   Tries : (trial : Trial) → IsTrialAt (view map chip) s trial → Stands map chip s
@@ -135,14 +132,13 @@ pub data Stands (map : SectorMap) (chip : Chip) (s : DeviceState) : Type 0 where
   SettlesBack : (trial : Trial) → IsSwappedBack (view map chip) s trial log.BackSettle
       → Stands map chip s
 
--- What there is of a device: its flash, its table of uploads, and whether it is up.
+-- The state of a device: its flash, its table of uploads, and whether it is booted.
 pub record DeviceView : Type 0 where
   pub flash : Chip
   pub sessions : List (Option Upload)
   pub up : Bool
 
--- A device holds a state: its flash stands for what is kept; while it is up the flash is at rest,
--- and while it isn't no upload is open.
+-- A device holds a state: its flash and uploads do; booted it is at rest, else no upload is open.
 pub record Holds (map : SectorMap) (d : DeviceView) (m : Machine) : Type 0 where
   pub stands : Stands map d.flash m.kept
   pub is_booted : m.is_booted ≡ d.up

@@ -15,24 +15,23 @@ use Rattle.machine.specs.declared.error.Fault.TheVariants as no
 use Rattle.machine.specs.declared.reply.Reply.{Reply}
 use Rattle.machine.specs.declared.reply.Reply.TheVariants.{Done, Refused}
 
--- What a device is made with: where the parts of its flash lie, what it is to those who send it
--- updates, and how many boots a trial has, 1 to 7.
+-- What a device is made with: its map, its identity, and how many boots a trial has, 1 to 7.
 pub record Setup : Type 0 where
   pub map : SectorMap
   pub identity : Identity
   pub boots : ℕ
 
--- A device takes uploads: it is up, and nothing is on trial.
+-- A device takes uploads: it is booted, and nothing is on trial.
 pub record IsReady (m : Machine) : Type 0 where
   pub up : m.is_booted ≡ true
   pub rest : m.kept.trial ≡ None
 
--- A device is up, and a set is on trial.
+-- A device is booted, and a set is on trial.
 pub record IsTrying (m : Machine) : Type 0 where
   pub up : m.is_booted ≡ true
   pub trial : (trial : Trial) × (m.kept.trial ≡ Some trial)
 
--- The step of a call of uploads, by its result.
+-- The step of an upload call, by its result.
 abbrev pub Row : Type 1
 Row = Result Unit UploadError → Machine → Type 0
 
@@ -45,21 +44,21 @@ Uploads row m (Refused (no.Upload error)) next =
     IsReady m × (is_flash {T = Unit} (Err error) ≡ false) × row (Err error) next
 Uploads row m other next = ⊥
 
--- A step of uploads that is cut: the sessions end, and the device isn't up.
+-- An interrupted step of uploads: the sessions end, and the device isn't booted.
 abbrev pub IsUploadsCut : Row → Machine → Machine → Type 0
 IsUploadsCut row m next = IsReady m
     × ((mid : Machine) × row (Err (upload.Flash flash.Cut)) mid × (next ≡ asleep mid.kept))
 
 -- ---- manifests
 
--- The bytes are a manifest for this device, and this becomes of it.
+-- The bytes are a manifest for this device, and the step is how it accepts or refuses that.
 abbrev pub TakesManifest : Setup → Machine → List ℕ → Row
 TakesManifest setup m bytes result next = (manifest : Manifest)
     × IsManifest setup.identity bytes manifest
     × Accepts setup.map m manifest.sequence manifest.components.items result next
 
--- A manifest comes: the refusals of the device are first, then those of the manifest, then those of
--- the upload. Where memory runs out while its text is read nothing changes.
+-- A manifest arrives: refusals of the device come first, then of the manifest, then of the upload.
+-- If memory runs out while its text is read, nothing changes.
 abbrev pub TakesText : Setup → Machine → List ℕ → Reply → Machine → Type 0
 TakesText setup m bytes (Refused (no.Manifest fault)) next =
     IsReady m × IsRefusal setup.identity bytes fault × (next ≡ m)

@@ -1,5 +1,4 @@
--- What a device's calls have to leave: what stands after each passage of a boot, after a
--- confirmation, and after whole steps and runs.
+-- What each phase of a boot, a confirmation, a step and a run leave on the flash.
 use Rattle.std.specs.Prelude.{◌≡◌, ◌⊎◌, ℕ, Bool, true, false, List, Result, Ok, Err}
 use Rattle.common.specs.declared.event.Event.TheVariants as event
 use Rattle.flash_model.specs.Chip.{Chip}
@@ -26,23 +25,23 @@ use Rattle.machine.specs.declared.finding.Finding.TheVariants.{Decided, Damaged,
 use Rattle.machine.specs.declared.reply.Reply.{Reply}
 use Rattle.machine.specs.declared.reply.Reply.TheVariants.{Booted, Cut, Done, Refused}
 
--- A swap of some contents.
+-- An upgrade is at some step of the swap of some contents.
 abbrev pub IsSwappingSome : SectorMap → Chip → DeviceState → Table → ℕ → Bool → Type 0
 IsSwappingSome map chip s table mask permanent =
     (x y : ℕ → List ℕ) × IsSwapping map chip s table mask permanent x y
 
--- A swap back of some contents.
+-- A revert is at some step of the swap back of some contents.
 abbrev pub IsSwappingBackSome : SectorMap → Chip → DeviceState → Trial → Type 0
 IsSwappingBackSome map chip s trial =
     (x y : ℕ → List ℕ) × IsSwappingBack map chip s trial x y
 
--- An upgrade under way, from its record on.
+-- An upgrade is under way: its set is being swapped, or is swapped and being settled.
 abbrev pub IsUpgrading : SectorMap → Chip → DeviceState → Table → ℕ → Bool → Type 0
 IsUpgrading map chip s table mask permanent =
     IsSwappingSome map chip s table mask permanent
     ⊎ IsSwapped (view map chip) s table log.Settle mask permanent
 
--- The state after a set is taken: for good with these floors, or on trial with so many boots more.
+-- The flash is at rest with a set taken: permanently with these floors, or with `left` boots left.
 abbrev pub IsTakenAt : View → DeviceState → ℕ → Bool → ℕ → List ℕ → Type 0
 IsTakenAt w s mask true left floors = IsSteadyAt w (taken_for_good s mask floors)
 IsTakenAt w s mask false left floors =
@@ -53,39 +52,39 @@ abbrev pub IsReportedOf : DeviceState → ℕ → Table → Report → Type 0
 IsReportedOf s mask table report =
     IsReported s table report × (is_member mask ≡ taken_in report)
 
--- An upgrade that is done, with what is reported of it.
+-- An upgrade is done and reported: its set is taken permanently, or with `left` boots left.
 abbrev pub IsUpgraded : ℕ → View → DeviceState → ℕ → Bool → Type 0
 IsUpgraded left w s mask permanent = (table : Table) × (report : Report) × (floors : List ℕ)
     × IsReportedOf s mask table report
     × IsRaised s.images (running_after s mask) s.floors floors
     × IsTakenAt w s mask permanent left floors
 
--- Going back, from its record on.
+-- A revert is under way: its set is being swapped back, or is swapped back and being settled.
 abbrev pub IsGoingBack : SectorMap → Chip → DeviceState → Trial → Type 0
 IsGoingBack map chip s trial = IsSwappingBackSome map chip s trial
     ⊎ IsSwappedBack (view map chip) s trial log.BackSettle
 
--- A trial at rest, or one whose way back has begun.
+-- A trial is at rest, or its revert has begun.
 abbrev pub IsOpenOrAt : View → DeviceState → Trial → Type 0
 IsOpenOrAt w s trial = IsTrialAt w s trial ⊎ (GoesBack s trial × IsTrialOpen w s trial)
 
--- What stands after a boot that answers ..
+-- What the flash holds after a boot with this reply; at rest if that leaves the device booted.
 abbrev pub EndsBoot : SectorMap → ℕ → Chip → DeviceState → Reply → Type 0
 EndsBoot map boots chip s reply = (next : DeviceState) × Boots boots s reply next
     × Stands map chip next × (is_answer reply ≡ true → IsAtRest (view map chip) next)
 
--- .. and after one that is cut.
+-- What the flash holds after an interrupted boot.
 abbrev pub CutsBoot : SectorMap → ℕ → Chip → DeviceState → Type 0
 CutsBoot map boots chip s =
     (next : DeviceState) × IsBootCut boots s next × Stands map chip next
 
--- The reply to what is found.
+-- The reply to what a boot finds.
 abbrev pub reply_of : Finding → Bool → Reply
 reply_of (Decided table report) permanent = Booted table report permanent
 reply_of (Damaged i) permanent = Refused (RunningDamaged i)
 reply_of Invalid permanent = Refused InvalidSet
 
--- The reply to a call of uploads.
+-- The reply to an upload call.
 abbrev pub upload_reply : Result Unit UploadError → Reply
 upload_reply (Ok done) = Done
 upload_reply (Err upload.OldSequence) = Refused (Upload upload.OldSequence)
@@ -98,10 +97,10 @@ upload_reply (Err (upload.NotAnImage fault)) = Refused (Upload (upload.NotAnImag
 upload_reply (Err upload.WrongPrecursor) = Refused (Upload upload.WrongPrecursor)
 upload_reply (Err upload.NothingRequested) = Refused (Upload upload.NothingRequested)
 upload_reply (Err upload.NoMemory) = Refused (Upload upload.NoMemory)
--- A flash that is on is cut, or doesn't stop a call.
+-- A flash with power stops a call only by a power cut.
 upload_reply (Err (upload.Flash error)) = Cut
 
--- Whether an event is refused by a device that isn't up ..
+-- Whether a device that isn't booted refuses an event.
 abbrev pub needs_up : DeviceEvent → Bool
 needs_up (event.Accept bytes) = true
 needs_up (event.Piece i bytes) = true
@@ -111,7 +110,7 @@ needs_up (event.Confirm i) = true
 needs_up event.Boot = false
 needs_up event.Reset = false
 
--- .. and whether by one on which a set is on trial.
+-- Whether a device on which a set is on trial refuses an event.
 abbrev pub needs_rest : DeviceEvent → Bool
 needs_rest (event.Accept bytes) = true
 needs_rest (event.Piece i bytes) = true
@@ -119,23 +118,23 @@ needs_rest (event.Finish i) = true
 needs_rest (event.Withdraw i) = true
 needs_rest other = false
 
--- What stands after a confirmation, of an image that is on trial or of another one ..
+-- What the flash holds after a confirmation, of an image that is on trial or of another one.
 abbrev pub EndsConfirm : View → DeviceState → ℕ → Bool → Type 0
 EndsConfirm w s i true =
     (trial : Trial) × IsOnTrial s i trial × IsAtRest w (with_confirmed s trial i)
 EndsConfirm w s i false = ((trial : Trial) → IsOnTrial s i trial → ⊥) × IsAtRest w s
 
--- .. and after one that is cut.
+-- What the flash holds after an interrupted confirmation: of an image on trial, confirmed or not.
 abbrev pub CutsConfirm : View → DeviceState → ℕ → Type 0
 CutsConfirm w s i = (trial : Trial) × IsOnTrial s i trial
     × (IsAtRest w s ⊎ IsAtRest w (with_confirmed s trial i))
 
--- From a device that holds a state, a step of the machine to a state that the device holds then ..
+-- From each state that the device holds, a step of the machine leads to one that it holds then.
 abbrev pub StepsTo : Setup → DeviceView → DeviceView → DeviceEvent → Reply → Type 0
 StepsTo setup old new event reply = (m : Machine) → Holds setup.map old m
     → (next : Machine) × IsStep setup m event reply next × Holds setup.map new next
 
--- .. and a run.
+-- From each state that the device holds, a run of the machine leads to one that it holds then.
 abbrev pub RunsTo : Setup → DeviceView → DeviceView → List DeviceEvent → List Reply → Type 0
 RunsTo setup old new events replies = (m : Machine) → Holds setup.map old m
     → (last : Machine) × IsRun setup m events replies last × Holds setup.map new last

@@ -1,4 +1,4 @@
--- The states that a device comes to.
+-- The states that a device gets into.
 use Rattle.std.specs.Prelude.{◌≡◌, ℕ, ◌+◌, ◌<◌, ◌≤◌, ◌==◌, max, true, false, List, [], length, Option, Some, None}
 use Rattle.std.specs.Prelude.{option_and_then, slice_index, if◌then◌else◌}
 use Rattle.certificate.specs.declared.table.Entry.{Entry}
@@ -16,7 +16,7 @@ entry_of description = record {
   groups = description.groups;
 }
 
--- The sessions are closed, and the device isn't up.
+-- A machine with this state, no session open, and not booted.
 abbrev pub asleep : DeviceState → Machine
 asleep s = record { kept = s; session = no_session; is_booted = false }
 
@@ -28,8 +28,7 @@ wanted_bytes wanted = option_and_then (λ w. w.bytes) wanted
 pub record IsConfirmed (s : DeviceState) (trial : Trial) : Type 0 where
   pub each : (i : ℕ) → i < s.images → is_member trial.set i ≡ true → trial.confirmed i ≡ true
 
--- Floors are raised to the counters of what runs, where those are greater. A damaged image raises
--- nothing.
+-- Floors are raised to the counters of what runs, if these are greater; damaged images raise none.
 pub record IsRaised (images : ℕ) (running : ℕ → Option (List ℕ)) (old new : List ℕ) : Type 0 where
   pub size : length new ≡ length old
   pub raised : (i : ℕ) (bytes : List ℕ) (description : Desc) → i < images
@@ -39,19 +38,19 @@ pub record IsRaised (images : ℕ) (running : ℕ → Option (List ℕ)) (old ne
       → slice_index new i ≡ slice_index old i
   pub rest : (i : ℕ) → images ≤ i → slice_index new i ≡ slice_index old i
 
--- A trial is over: the set runs on, with these floors.
+-- The state after a trial is over: the set runs on, with these floors.
 abbrev pub settled : DeviceState → List ℕ → DeviceState
 settled s floors = record s { floors = floors; trial = None }
 
--- What runs where a set is taken.
+-- What an image runs after a set is taken.
 abbrev pub running_after : DeviceState → ℕ → ℕ → Option (List ℕ)
 running_after s mask i = if is_member mask i then wanted_bytes (s.request i) else s.running i
 
--- What is requested then.
+-- What is requested of an image after a set is taken: nothing if it is in the set.
 abbrev pub left_after : DeviceState → ℕ → ℕ → Option Wanted
 left_after s mask i = if is_member mask i then None else s.request i
 
--- A set is taken for good, with these floors.
+-- The state after a set is taken permanently, with these floors.
 abbrev pub taken_for_good : DeviceState → ℕ → List ℕ → DeviceState
 taken_for_good s mask floors = record s {
   running = running_after s mask;
@@ -60,7 +59,7 @@ taken_for_good s mask floors = record s {
   trial = None;
 }
 
--- A set is taken on trial.
+-- The state after a set is taken on trial.
 abbrev pub taken_on_trial : DeviceState → ℕ → Trial → DeviceState
 taken_on_trial s mask trial = record s {
   running = running_after s mask;
@@ -68,20 +67,19 @@ taken_on_trial s mask trial = record s {
   trial = Some trial;
 }
 
--- A trial of this set begins, of so many boots: nothing is confirmed, and what ran is kept. The
--- boot that begins it is the first of them.
+-- A trial of this set begins in the first of `boots` boots: nothing is confirmed, what ran is kept.
 pub record IsBegun (s : DeviceState) (mask boots : ℕ) (trial : Trial) : Type 0 where
   pub set : trial.set ≡ mask
   pub confirmed : (i : ℕ) → trial.confirmed i ≡ false
   pub old : (i : ℕ) → i < s.images → is_member mask i ≡ true → s.running i ≡ Some (trial.old i)
   pub left : trial.left + 1 ≡ boots
 
--- The bytes of an image that runs, or none where it is damaged.
+-- The bytes of an image that runs, or no bytes if it is damaged.
 abbrev pub bytes_or_none : Option (List ℕ) → List ℕ
 bytes_or_none None = []
 bytes_or_none (Some bytes) = bytes
 
--- The trial that begins, with so many boots more.
+-- The trial that begins with this set, with `left` boots left.
 abbrev pub new_trial : DeviceState → ℕ → ℕ → Trial
 new_trial s mask left = record {
   set = mask;
@@ -90,7 +88,7 @@ new_trial s mask left = record {
   left = left;
 }
 
--- The set runs its old images, and the tried ones are forgotten.
+-- The state after a revert: the set runs its old images, and the tried ones are forgotten.
 abbrev pub reverted : DeviceState → Trial → DeviceState
 reverted s trial = record s {
   running = λ i. if is_member trial.set i then Some (trial.old i) else s.running i;
@@ -98,15 +96,16 @@ reverted s trial = record s {
   trial = None;
 }
 
--- A trial with so many boots more.
+-- The state whose trial has `left` boots left.
 abbrev pub tried_again : DeviceState → Trial → ℕ → DeviceState
 tried_again s trial left = record s { trial = Some (record trial { left = left }) }
 
--- A trial of which one image more is confirmed.
+-- A trial of which image i is confirmed also.
 abbrev pub confirmed_also : Trial → ℕ → Trial
 confirmed_also trial i = record trial {
   confirmed = λ j. if j == i then true else trial.confirmed j;
 }
 
+-- The state of which image i on trial is confirmed also.
 abbrev pub with_confirmed : DeviceState → Trial → ℕ → DeviceState
 with_confirmed s trial i = record s { trial = Some (confirmed_also trial i) }

@@ -1,4 +1,4 @@
--- The steps of the machine: complete ones, cut ones, and whole runs.
+-- The steps of the machine: complete ones, interrupted ones, and runs of them.
 use Rattle.std.specs.Prelude.{◌≡◌, ◌⊎◌, ℕ, ◌+◌, true, List, [], ◌∷◌}
 use Rattle.std.specs.Borrow.{Bor}
 use Rattle.common.specs.declared.event.Event.{Event}
@@ -13,16 +13,16 @@ use Rattle.machine.specs.Intake.{Setup, Uploads, IsUploadsCut, TakesManifest, Ta
 use Rattle.machine.specs.declared.reply.Reply.{Reply}
 use Rattle.machine.specs.declared.reply.Reply.TheVariants.{Done, Booted, Reverted, TrialAgain, Refused, Cut}
 
--- What comes to a device: an event whose bytes are lent to it.
+-- An event of a device, whose bytes are borrowed.
 abbrev pub DeviceEvent : Type 0
 DeviceEvent = Event (Bor (List ℕ))
 
--- A reset: the sessions end, and the device isn't up.
+-- A reset: the sessions end, and the device isn't booted.
 abbrev pub Resets : Machine → Reply → Machine → Type 0
 Resets m Done next = next ≡ asleep m.kept
 Resets m other next = ⊥
 
--- A complete step.
+-- A complete step, by its event and reply.
 abbrev pub Completes : Setup → Machine → DeviceEvent → Reply → Machine → Type 0
 Completes setup m (event.Accept bytes) reply next = TakesText setup m bytes.now reply next
 Completes setup m (event.Piece i bytes) reply next = Uploads (Pieces m i bytes.now) m reply next
@@ -33,7 +33,7 @@ Completes setup m event.Boot reply next = Boots setup.boots m.kept reply next.ke
     × (next ≡ record { kept = next.kept; session = no_session; is_booted = is_answer reply })
 Completes setup m event.Reset reply next = Resets m reply next
 
--- A cut step: the sessions end, and the device isn't up.
+-- An interrupted step, by its event: the sessions end, and the device isn't booted.
 abbrev pub IsCutTo : Setup → Machine → DeviceEvent → Machine → Type 0
 IsCutTo setup m (event.Accept bytes) next = IsUploadsCut (TakesManifest setup m bytes.now) m next
 IsCutTo setup m (event.Piece i bytes) next = IsUploadsCut (Pieces m i bytes.now) m next
@@ -46,7 +46,7 @@ IsCutTo setup m event.Boot next =
     IsBootCut setup.boots m.kept next.kept × (next ≡ asleep next.kept)
 IsCutTo setup m event.Reset next = ⊥
 
--- A step: a complete one, or a cut one with the reply Cut.
+-- A step: an interrupted one if the reply is Cut, else a complete one.
 abbrev pub IsStep : Setup → Machine → DeviceEvent → Reply → Machine → Type 0
 IsStep setup m event Done next = Completes setup m event Done next
 IsStep setup m event (Booted table report permanent) next =
@@ -66,15 +66,15 @@ IsRunBy Steps m (event ∷ events) [] last = ⊥
 IsRunBy Steps m (event ∷ events) (reply ∷ replies) last = (next : Machine)
     × Steps m event reply next × IsRunBy Steps next events replies last
 
--- A run of the machine.
+-- A run of the machine: each step is complete or interrupted.
 abbrev pub IsRun : Setup → Machine → List DeviceEvent → List Reply → Machine → Type 0
 IsRun setup m events replies last = IsRunBy (IsStep setup) m events replies last
 
--- A run without a cut: each step is complete.
+-- A run without a power cut: each step is complete.
 abbrev pub IsUncutRun : Setup → Machine → List DeviceEvent → List Reply → Machine → Type 0
 IsUncutRun setup m events replies last = IsRunBy (Completes setup) m events replies last
 
--- How many cuts a reply tells of.
+-- 1 if the reply is Cut, else 0.
 abbrev pub cut_of : Reply → ℕ
 cut_of Done = 0
 cut_of (Booted table report permanent) = 0
