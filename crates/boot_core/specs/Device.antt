@@ -1,4 +1,4 @@
--- What contracts see of a device, and what is true of each.
+-- What contracts see of a device, and what is true of every device.
 use Rattle.std.specs.Prelude.{◌≡◌, ℕ, ◌≤◌, Bool, List, Option}
 use Rattle.common.specs.Limits.{MOST_BOOTS_LEFT}
 use Rattle.flash_model.specs.Chip.{Chip}
@@ -12,28 +12,28 @@ use Rattle.machine.specs.Intake.{Setup}
 use Rattle.upload.specs.Device.{Machine}
 use Rattle.machine.specs.Holding.{DeviceView, Holds}
 
--- A device as contracts see it: what it was made with, and what there is of it now.
+-- A device as contracts see it: what it was made with, and its state now.
 pub record Whole : Type 0 where
   pub setup : Setup
   pub here : DeviceView
 
--- What it was made with ..
+-- What a device is made with.
 abbrev pub made : SectorMap → Identity → ℕ → Setup
 made map identity boots = record { map = map; identity = identity; boots = boots }
 
--- .. and what there is of it now.
+-- The state of a device now.
 abbrev pub seen : Chip → List (Option Upload) → Bool → DeviceView
 seen chip sessions up = record { flash = chip; sessions = sessions; up = up }
 
--- A device that held a state of the machine holds one after a call.
+-- A device that held a state of the machine still holds one after a call.
 abbrev pub StaysHeld : SectorMap → DeviceView → DeviceView → Type 0
 StaysHeld map old new = (m : Machine) → Holds map old m → (next : Machine) × Holds map new next
 
--- What is true of each device.
+-- What is true of every device.
 pub record IsDevice (map : SectorMap) (identity : Identity) (chip : Chip)
     (sessions : List (Option Upload)) (left : ℕ) : Type 0 where
   pub laid_out : IsLaidOut map chip
   pub images : identity.images ≡ map.images
-  -- A trial has 7 boots at most, and the one that begins it is the first of them.
+  -- A trial has at most 7 boots, including the one that begins it.
   pub few : left ≤ MOST_BOOTS_LEFT
   pub opens : AllOpenAt (view map chip) sessions

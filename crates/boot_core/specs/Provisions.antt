@@ -1,4 +1,4 @@
--- What a call does that makes a flash a device's.
+-- What the call that provisions a device does, and what each of its steps does.
 use Rattle.std.specs.Prelude.{◌≡◌, ◌⊎◌, ℕ, Bool, true, false, List, Option, Result, Err, IfErr, OnOk}
 use Rattle.flash_model.specs.declared.error.FlashError.{FlashError}
 use Rattle.flash_model.specs.Chip.{Chip, Ends}
@@ -17,91 +17,84 @@ use Rattle.boot_core.specs.Provisioned.{IsBegunAfresh, IsRowThere, IsTrailerEras
 use Rattle.boot_core.specs.Provisioned.{RefusesMaking, any_trailer}
 use Rattle.boot_core.specs.Provisioned.{provided, running_bytes}
 
--- The row of what an image runs, or that its primary slot begins with no intact image.
+-- The row of an image that its primary slot begins with, or None if that isn't intact.
 abbrev pub IsRowIn : SectorMap → ℕ → Chip → Option Image → Type 0
 IsRowIn map image chip row = IsRowThere (running_bytes map chip image) row
 
--- A call judges what runs.
+-- A call checks the images in the primary slots.
 pub record Judges (map : SectorMap) (old new : Chip) (result : Result (List ℕ) Fault)
     : Type 0 where
-  -- The flash is as it was,
   pub same : new ≡ old
-  -- the answer is the counters of what runs, or why that is refused,
+  -- The result is the counters of these images, or why they are refused.
   pub judged : IsJudged map old result
-  -- and of a flash that is off it is that.
+  -- If the flash is off, the result says so.
   pub off : old.is_on ≡ false → result ≡ Err (Flash Off)
 
--- Both trailers of an image are erased,
+-- Both trailers of an image are erased.
 abbrev pub IsClearedIn : SectorMap → ℕ → Chip → Type 0
 IsClearedIn map image chip = (side : Side) → IsTrailerErased map chip image side
 
--- and so are those of all images.
+-- Both trailers of every image are erased.
 abbrev pub AreClearedIn : SectorMap → Chip → Type 0
 AreClearedIn map chip = AreCleared map chip map.images
 
--- A call writes these parts so that in the end something is so of the flash.
+-- A call writes only these parts and, if it is `Ok`, `says` is true of the flash.
 pub record Leaves (map : SectorMap) (touched : Part → Bool) (says : Chip → Type 0)
     (old new : Chip) {T : Type 0} (result : Result T FlashError) : Type 0 where
-  -- Nothing else is written,
   pub outside : Keeps map touched old new
-  -- and it is so in the end.
   pub ok : OnOk result (says new)
   pub ends : Ends result old new
 
--- The log isn't written before all trailers are erased: nothing but trailers was written, or each
--- is erased.
+-- Only trailers were written, or all trailers are erased: the log isn't written before that.
 abbrev pub IsInOrder : SectorMap → Chip → Chip → Type 0
 IsInOrder map old new = Keeps map any_trailer old new ⊎ AreClearedIn map new
 
--- A call erases the trailers of all images, and begins the log.
+-- A call erases all trailers, and then begins the log.
 pub record BeginsAfresh (map : SectorMap) (floors : List ℕ) (old new : Chip) {T : Type 0}
     (result : Result T FlashError) : Type 0 where
-  -- Nothing is written but the trailers and the log,
+  -- Only the trailers and the log are written.
   pub outside : Keeps map provided old new
-  -- in this order, whatever happened,
+  -- Whatever happens, the log isn't written before all trailers are erased.
   pub order : IsInOrder map old new
-  -- and in the end the trailers are erased and the log is begun.
   pub ok : OnOk result (IsBegunAfresh map floors new)
   pub ends : Ends result old new
 
--- A call makes a flash a device's where what runs is intact and valid.
+-- A call provisions a flash if its primary slots begin with intact and valid images.
 pub record MakesDevice (map : SectorMap) (old new : Chip) (result : Result Unit Fault)
     : Type 0 where
-  -- Nothing is written but the trailers and the log,
+  -- Only the trailers and the log are written.
   pub outside : Keeps map provided old new
-  -- the trailers before the log, whatever happened,
+  -- Whatever happens, the log isn't written before all trailers are erased.
   pub order : IsInOrder map old new
-  -- and they are erased in the end;
   pub erased : OnOk result (AreClearedIn map new)
-  -- the answer tells whether it is a device's, or why not,
+  -- The result says whether the flash is provisioned, or why not.
   pub answers : AnswersMaking map old new result
-  -- and of a flash that is off it is that. Nothing is written then.
+  -- If the flash is off, the result says so.
   pub off : old.is_on ≡ false → result ≡ Err (Flash Off)
   pub asleep : old.is_on ≡ false → new ≡ old
 
--- A call makes a flash a device's.
+-- A call provisions a device.
 pub record Provisions (map : SectorMap) (old new : Chip) (result : Result Unit Fault)
     : Type 0 where
-  -- Slots and scratch are as they were, whatever happened,
+  -- Slots and scratch are unchanged, whatever happens.
   pub outside : Keeps map provided old new
-  -- and the map is still laid out on the flash.
   pub laid : IsLaidOut map new
-  -- Where the call ends, the device runs what the primary slots began with, which is valid,
+  -- After `Ok` the device runs what the primary slots began with, which is valid.
   pub ok : OnOk result (IsProvisioned map old new)
-  -- and each trailer is erased, byte for byte.
+  -- After `Ok` each trailer is erased, byte for byte.
   pub erased : OnOk result (AreClearedIn map new)
-  -- Whatever happened, the log was written only after that.
+  -- Whatever happens, the log isn't written before all trailers are erased.
   pub order : IsInOrder map old new
-  -- A refusal tells why, and but for a cut nothing changed ..
+  -- A refusal says why and, unless it is a power cut, nothing changed.
   pub refused : IfErr result (RefusesMaking map old new)
-  -- .. and where it applies, that is the answer: of the lowest image that isn't intact,
+  -- If an image isn't intact, the lowest one is reported.
   pub damaged : old.is_on ≡ true → (i : ℕ) → IsFirstDamaged map old i
       → result ≡ Err (RunningDamaged i)
-  -- and of images that are intact and don't meet their dependencies.
+  -- If all images are intact but don't meet their dependencies or groups, that is reported.
   pub invalid : old.is_on ≡ true → IsInvalidThere map old → result ≡ Err InvalidSet
-  -- Where neither applies the device is made, or power failed.
+  -- If all images are intact and valid, the device is provisioned, or power failed.
   pub whole : old.is_on ≡ true → IsValidThere map old → IsDoneOrCut result
-  -- Where the flash was off, that is the answer, and nothing changed.
+  -- If the flash is off, the result says so and nothing is changed.
   pub off : old.is_on ≡ false → IsOff result old new
-  -- A cut is told where a write was cut and nowhere else, and that the flash is off where it was.
+  -- The result is Cut only if a write was interrupted, and Off only if the flash was off.
   pub ends : EndsMaking result old new
