@@ -1,4 +1,4 @@
-//! Taking a manifest.
+//! Accepting a manifest.
 
 ghost use Rattle.std.specs.Prelude.{◌≢◌, None};
 ghost use Rattle.sector_map.specs.Map.{IsLaidOut};
@@ -17,7 +17,8 @@ use manifest::{Component, Manifest};
 use sector_map::SectorMap;
 use set_log::{State, append};
 
-/// Appends the state with a new sequence number, where that is greater.
+/// Appends the log's state with a new sequence number. If the number is the same, nothing is
+/// written.
 fn record_sequence<F: Flash>(
     flash: &mut F,
     map: &SectorMap,
@@ -34,7 +35,8 @@ fn record_sequence<F: Flash>(
     append(flash, map, &State { sequence, ..*state })
 }
 
-/// Writes what a manifest asks for: its sequence number first, and then each component.
+/// Applies an accepted manifest: records its sequence number, then erases the slot of each component
+/// and opens its upload.
 fn write_manifest<F: Flash>(
     flash: &mut F,
     map: &SectorMap,
@@ -53,7 +55,7 @@ fn write_manifest<F: Flash>(
     open_all(flash, map, uploads, components)
 }
 
-/// Takes a manifest, if it may be taken.
+/// Checks a manifest, and applies it if no check fails.
 fn take_manifest<F: Flash>(
     flash: &mut F,
     map: &SectorMap,
@@ -71,23 +73,29 @@ fn take_manifest<F: Flash>(
 }
 
 impl Uploads {
-    /// Takes a manifest: stores its sequence number in the log, unless it is the one there, then
-    /// takes back what is requested for each image that it names, erases each sector of the
-    /// secondary slot that isn't erased, and opens an upload of the image. No sector is erased
-    /// twice. Where two components name an image the last one counts. Uploads of other images go
-    /// on.
+    /// Accepts a manifest: opens an upload for each image it lists, and withdraws their pending
+    /// requests.
     ///
-    /// The map is laid out on the flash, the log has a state, of which `read_state` is the test,
-    /// and each component names an image of the map.
+    /// It first stores the manifest's sequence number in the log, if that is a new number. Then it
+    /// withdraws the request of each listed image, and erases the sectors of the image's secondary
+    /// slot. A sector that is erased isn't erased again. If two components name the same image, the
+    /// last one counts. Open uploads of other images go on.
+    ///
+    /// The map has to be laid out on the flash, and the log needs a state (`read_state` tests
+    /// this). Each component has to name an image of the map.
     ///
     /// # Errors
-    /// The first check that fails, each made of all components, and nothing changed: `OldSequence`
-    /// where the sequence number is below the one in the log, `TooBig` where an image is longer
-    /// than its slot, `WrongPrecursor` where an image is to follow another than the one that runs.
-    /// `Flash` with `Cut` where power failed after all checks had passed: all uploads are closed;
-    /// the log has the old sequence number and each request is as it was, or it has the new one and
-    /// each request of a named image is as it was or gone. `Flash` with `Off` where the flash was
-    /// off: all uploads are closed, and nothing else changed.
+    /// If several checks fail, the first in this order is returned. Each check covers all
+    /// components, and a failed check changes nothing.
+    ///
+    /// - `OldSequence`: the sequence number is below the one in the log.
+    /// - `TooBig`: an image is longer than its slot.
+    /// - `WrongPrecursor`: a component requires another running image (RFC 9124, "Precursor Image
+    ///   Digest Condition").
+    /// - `Flash` with `Cut`: power failed after all checks had passed. All uploads are closed.
+    ///   Either the log has the old sequence number and no request changed; or it has the new one,
+    ///   and each request of a listed image is unchanged or withdrawn.
+    /// - `Flash` with `Off`: the flash was off. All uploads are closed, and nothing else changed.
     pub fn accept<F: Flash>(
         &mut self,
         flash: &mut F,

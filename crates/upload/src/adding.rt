@@ -1,4 +1,4 @@
-//! Bytes that come for an open upload: whole units are written, and the rest is held back.
+//! Adding bytes to an open upload: complete units are written, and the rest is held in memory.
 
 ghost use Rattle.std.specs.Prelude.{◌≡◌, ◌+◌, ◌*◌, ◌++◌, ◌<◌, ◌≤◌, ℕ, length};
 ghost use Rattle.upload.specs.Adding.{AddsBytes, HoldsBack, IsOpenFor};
@@ -9,7 +9,7 @@ use arrayvec::ArrayVec;
 use flash_model::{Flash, Result};
 use sector_map::SectorMap;
 
-/// Bytes are appended to those of a unit, where there is room for them.
+/// Appends bytes to those of a unit. They have to fit.
 pub(crate) fn extend(held: &mut ArrayVec<u8, UNIT>, bytes: &[u8])
     requires { length held.old.items + length bytes.now ≤ 8 }
     ensures { held.new.items ≡ held.old.items ++ bytes.now }
@@ -19,7 +19,7 @@ pub(crate) fn extend(held: &mut ArrayVec<u8, UNIT>, bytes: &[u8])
     }
 }
 
-/// How many of so many bytes make whole units.
+/// Returns how many of `count` bytes fill complete units.
 fn whole_units(count: usize) -> usize
     ensures units { (k : ℕ) × (result ≡ 8 * k) }
     ensures least { result ≤ count }
@@ -28,7 +28,7 @@ fn whole_units(count: usize) -> usize
     count / UNIT * UNIT
 }
 
-/// Holds bytes back that make no whole unit.
+/// Holds bytes in memory that don't complete a unit.
 fn hold(upload: &mut Upload, bytes: &[u8])
     requires few { length upload.old.held.items + length bytes.now < 8 }
     requires fits { upload.old.received + length bytes.now ≤ upload.old.size }
@@ -38,7 +38,7 @@ fn hold(upload: &mut Upload, bytes: &[u8])
     upload.received += bytes.len() as u32;
 }
 
-/// Writes the bytes that complete a unit and the whole units behind them, and holds the rest back.
+/// Writes the unit that these bytes complete and the complete units after it, and holds the rest.
 fn write_units<F: Flash>(
     flash: &mut F,
     map: &SectorMap,

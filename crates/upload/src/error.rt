@@ -1,4 +1,4 @@
-//! Why an upload is refused.
+//! Reasons why an upload is refused.
 
 ghost use Rattle.std.specs.Prelude.{◌≡◌};
 ghost use Rattle.upload.specs.Codes.{code_of, name_of};
@@ -11,7 +11,7 @@ use thiserror::Error;
 /// Why a call of [`Uploads`](crate::Uploads) is refused. The numbers are 1 to 11, in this order.
 #[derive(Clone, Copy, Debug, PartialEq, Eq, Error)]
 pub enum UploadError {
-    /// The manifest has a lower sequence number than the last one that was accepted.
+    /// The manifest has a lower sequence number than the last accepted one.
     #[error("a manifest of an older sequence number was accepted last")]
     OldSequence,
     /// An image of the manifest is longer than its slot.
@@ -20,34 +20,34 @@ pub enum UploadError {
     /// No upload of the image is open, or there is no such image.
     #[error("no upload of this image is open")]
     NoSession,
-    /// More bytes came than the manifest said.
+    /// More bytes were sent than the manifest says.
     #[error("more bytes than the manifest said")]
     TooMuch,
-    /// Fewer bytes came than the manifest said.
+    /// Fewer bytes were sent than the manifest says.
     #[error("fewer bytes than the manifest said")]
     SizeWrong,
     /// The SHA-256 of the bytes isn't the manifest's.
     #[error("another digest than the manifest said")]
     DigestWrong,
-    /// The bytes are no intact image: the first check that fails.
+    /// The bytes aren't an intact image. The field has the first check that fails.
     #[error("{0}")]
     NotAnImage(ImageError),
-    /// The image that runs isn't the one that the manifest asks for.
+    /// The running image isn't the one that the manifest requires.
     #[error("the running image isn't the one that the manifest asks for")]
     WrongPrecursor,
-    /// No request stands for the image, or there is no such image.
+    /// Nothing is requested for the image, or there is no such image.
     #[error("nothing is requested for this image")]
     NothingRequested,
     /// A call on the flash failed.
     #[error("{0}")]
     Flash(FlashError),
-    /// Memory ran out. No call answers it: none allocates.
+    /// Out of memory. No call returns it, since none allocates.
     #[error("no memory for the upload")]
     NoMemory,
 }
 
 impl UploadError {
-    /// The number of the kind, 1 to 11.
+    /// Returns the number of the kind, 1 to 11.
     pub fn code(self) -> u8
         ensures { result ≡ code_of self }
     {
@@ -66,7 +66,7 @@ impl UploadError {
         }
     }
 
-    /// The name of the kind, as it is printed.
+    /// Returns the name of the kind, as it is printed.
     pub fn name(self) -> &'static str
         ensures { result.now ≡ name_of self }
     {

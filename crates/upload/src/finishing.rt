@@ -1,4 +1,4 @@
-//! Finishing an upload.
+//! Finishing an upload: its last unit, its checks, and its request.
 
 ghost use Rattle.std.specs.Prelude.{◌≡◌, ◌-◌, ◌++◌, ◌≤◌, ◌<◌, Some, length, replicate};
 ghost use Rattle.sector_map.specs.Map.{HasImage, IsLaidOut, length_of};
@@ -22,7 +22,7 @@ use trailer::request;
 
 const ERASED_UNIT: [u8; UNIT] = [0xff, 0xff, 0xff, 0xff, 0xff, 0xff, 0xff, 0xff];
 
-/// Fills a unit with what an erased flash reads.
+/// Fills a unit with 0xFF, which is what erased flash reads.
 fn fill(unit: &mut ArrayVec<u8, UNIT>)
     requires { length unit.old.items ≤ 8 }
     ensures { unit.new.items
@@ -32,7 +32,8 @@ fn fill(unit: &mut ArrayVec<u8, UNIT>)
     extend(unit, &ERASED_UNIT[..missing]);
 }
 
-/// Writes the bytes that were held back, if any were, with their unit filled.
+/// Writes the bytes that were held in memory, with their unit filled. If there are none, nothing is
+/// written.
 fn write_last<F: Flash>(
     flash: &mut F,
     map: &SectorMap,
@@ -52,7 +53,7 @@ fn write_last<F: Flash>(
     write_slot(flash, map, image, start, unit.as_slice())
 }
 
-/// The SHA-256 of the first bytes of a secondary slot.
+/// Returns the SHA-256 of the first `size` bytes of a secondary slot.
 fn digest_incoming<F: Flash>(
     flash: &mut F,
     map: &SectorMap,
@@ -63,13 +64,13 @@ fn digest_incoming<F: Flash>(
     requires room { size ≤ length_of map.now (Slot image Secondary) }
     ensures { ReadsDigest map.now image size (F.chip flash.old) (F.chip flash.new) result }
 {
-    // A read of no bytes is answered only by a flash that is on.
+    // This read succeeds only on a flash that is on. The contract of `digest_file` doesn't say so.
     flash.read(0, &mut [])?;
     digest_file(flash, map, image, Side::Secondary, size)
 }
 
-/// Judges the first bytes of a secondary slot: their digest, and then whether they are an intact
-/// image.
+/// Checks the first `size` bytes of a secondary slot: first their digest, then whether they are an
+/// intact image.
 fn judge<F: Flash>(
     flash: &mut F,
     map: &SectorMap,
@@ -116,22 +117,30 @@ fn finish_upload<F: Flash>(
 }
 
 impl Uploads {
-    /// Finishes the upload of an image, which is told by its number from 0: writes the bytes that
-    /// were held back, their unit filled with 0xFF, checks length, digest and image, and requests
-    /// the image as the manifest says. The upload is closed in any case.
+    /// Finishes the upload of an image: checks the complete file, and requests the image as its
+    /// manifest says.
     ///
-    /// The map is laid out on the flash and is that of the [`accept`](Self::accept) which opened
-    /// the upload, and slot and trailer stand as the calls before left them.
+    /// `image` is the image's number from 0. The call writes the bytes that were held in memory,
+    /// with their unit filled with 0xFF. Then it checks the length, the digest and the image. The
+    /// upload is closed in any case.
+    ///
+    /// The map has to be laid out on the flash, and has to be that of the [`accept`](Self::accept)
+    /// which opened the upload. Slot and trailer have to be as the earlier calls left them.
     ///
     /// # Errors
-    /// `NoSession` where no upload of the image is open: nothing changed. The first check that
-    /// fails, and nothing is requested for the image: `SizeWrong` where fewer bytes came than the
-    /// manifest said, and nothing is written; `DigestWrong` where their SHA-256 isn't the
-    /// manifest's, `NotAnImage` where they are no intact image, with the first check that fails of
-    /// it, and of the flash no more is written than the unit of the bytes that were held back. Past
-    /// the check of the length, `Flash` with `Cut` where power failed: all uploads are closed, and
-    /// nothing is requested for the image, or it is requested as asked; with `Off` where the flash
-    /// was off: all uploads are closed, and nothing is requested.
+    /// If several checks fail, the first in this order is returned.
+    ///
+    /// - `NoSession`: no upload of the image is open. Nothing changed.
+    /// - `SizeWrong`: fewer bytes were sent than the manifest says. Nothing is written or
+    ///   requested.
+    /// - `DigestWrong`: the SHA-256 of the bytes isn't the manifest's. Nothing is requested, and at
+    ///   most the unit of the held bytes is written.
+    /// - `NotAnImage`: the bytes aren't an intact image. The error has the first check that fails.
+    ///   The flash is as after `DigestWrong`.
+    /// - `Flash` with `Cut`: power failed after the check of the length. All uploads are closed.
+    ///   The image has either no request or the one of its manifest.
+    /// - `Flash` with `Off`: the length was right, and the flash was off. All uploads are closed,
+    ///   and nothing is requested for the image.
     pub fn finish<F: Flash>(
         &mut self,
         flash: &mut F,

@@ -1,4 +1,4 @@
-//! Whether a manifest may be taken: the checks that come before any write.
+//! Checking a manifest before anything is written.
 
 ghost use Rattle.std.specs.Prelude.{◌≡◌, ◌≢◌, ◌↔◌, IsTrue, None};
 ghost use Rattle.sector_map.specs.Map.{HasImage, IsLaidOut};
@@ -14,7 +14,7 @@ use manifest::{Component, Manifest};
 use sector_map::{SectorMap, Side};
 use set_log::{LogError, State, read_state};
 
-/// Whether each component fits the slot of its image.
+/// Returns whether each component fits the slot of its image.
 fn all_fit(map: &SectorMap, components: &[Component]) -> bool
     requires { AreThere map.now components.now }
     ensures { IsTrue result ↔ AllFit map.now components.now }
@@ -27,14 +27,14 @@ fn all_fit(map: &SectorMap, components: &[Component]) -> bool
     true
 }
 
-/// Whether two digests are the same.
+/// Returns whether two digests are the same.
 pub(crate) fn is_same_digest(one: &[u8; 32], other: &[u8; 32]) -> bool
     ensures { IsTrue result ↔ (one.now ≡ other.now) }
 {
     one == other
 }
 
-/// Whether the image runs that a component asks for, if it asks for one.
+/// Returns whether the running image is the one that a component requires, if it requires one.
 fn follows<F: Flash>(flash: &mut F, map: &SectorMap, component: &Component) -> Result<bool>
     requires { HasImage map.now component.now.image (F.chip flash.old) }
     ensures { ReadsPrecursor map.now component.now (F.chip flash.old) (F.chip flash.new) result }
@@ -48,7 +48,7 @@ fn follows<F: Flash>(flash: &mut F, map: &SectorMap, component: &Component) -> R
     }
 }
 
-/// Whether the image runs that each component asks for.
+/// Returns whether each component follows the running image.
 fn all_follow<F: Flash>(flash: &mut F, map: &SectorMap, components: &[Component]) -> Result<bool>
     requires laid_out { IsLaidOut map.now (F.chip flash.old) }
     requires there { AreThere map.now components.now }
@@ -62,7 +62,7 @@ fn all_follow<F: Flash>(flash: &mut F, map: &SectorMap, components: &[Component]
     Ok(true)
 }
 
-/// The state of the log.
+/// Returns the state of the log.
 fn last_state<F: Flash>(flash: &mut F, map: &SectorMap) -> Result<State>
     requires laid_out { IsLaidOut map.now (F.chip flash.old) }
     requires has_state { state_of map.now (F.chip flash.old) ≢ None }
@@ -75,7 +75,7 @@ fn last_state<F: Flash>(flash: &mut F, map: &SectorMap) -> Result<State>
     }
 }
 
-/// The state of the log, where the manifest may be taken.
+/// Returns the log's state if a manifest may be accepted, else the first check that fails.
 pub(crate) fn judge_manifest<F: Flash>(
     flash: &mut F,
     map: &SectorMap,

@@ -1,4 +1,4 @@
-//! Opening the sessions of a manifest.
+//! Opening an upload for each component of a manifest.
 
 ghost use Rattle.std.specs.Prelude.{◌≡◌};
 ghost use Rattle.sector_map.specs.Map.{HasImage, IsLaidOut};
@@ -14,7 +14,7 @@ use manifest::Component;
 use sector_map::SectorMap;
 use trailer::{Kind, withdraw};
 
-/// Takes back what is requested for an image, and erases its slot.
+/// Withdraws the request of an image, and erases its secondary slot.
 fn open_slot<F: Flash>(flash: &mut F, map: &SectorMap, image: u8) -> Result<()>
     requires { HasImage map.now image (F.chip flash.old) }
     ensures { OpensSlot map.now image (F.chip flash.old) (F.chip flash.new) result }
@@ -23,7 +23,7 @@ fn open_slot<F: Flash>(flash: &mut F, map: &SectorMap, image: u8) -> Result<()>
     erase_slot(flash, map, image)
 }
 
-/// How a component asks for its image.
+/// Returns the kind of request for a component: permanent or a test.
 fn kind_of(permanent: bool) -> Kind
     ensures { result ≡ kind_of permanent }
 {
@@ -34,7 +34,7 @@ fn kind_of(permanent: bool) -> Kind
     }
 }
 
-/// An upload for a component, of which nothing came.
+/// Returns a new upload for a component, which has no bytes yet.
 fn fresh(component: &Component) -> Upload
     ensures { IsFresh component.now result }
 {
@@ -47,7 +47,7 @@ fn fresh(component: &Component) -> Upload
     }
 }
 
-/// Opens the session of one component.
+/// Opens the upload of one component.
 fn open_one<F: Flash>(
     flash: &mut F,
     map: &SectorMap,
@@ -63,7 +63,7 @@ fn open_one<F: Flash>(
     Ok(())
 }
 
-/// Opens the sessions of all components.
+/// Opens the uploads of all components, in their order.
 pub(crate) fn open_all<F: Flash>(
     flash: &mut F,
     map: &SectorMap,

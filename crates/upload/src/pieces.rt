@@ -1,4 +1,4 @@
-//! Taking a piece of an upload.
+//! Adding a piece to an upload.
 
 ghost use Rattle.std.specs.Prelude.{◌≡◌, Some};
 ghost use Rattle.sector_map.specs.Map.{IsLaidOut};
@@ -14,19 +14,22 @@ use flash_model::Flash;
 use sector_map::SectorMap;
 
 impl Uploads {
-    /// Appends bytes to the upload of an image, which is told by its number from 0. Whole units are
-    /// programmed into the secondary slot; the bytes of a unit that isn't whole are held back.
+    /// Appends bytes to the upload of an image.
     ///
-    /// The map is laid out on the flash and is that of the [`accept`](Self::accept) which opened
-    /// the upload, and slot and trailer stand as the calls before left them: what is written, and
-    /// erased behind it.
+    /// `image` is the image's number from 0. Complete units of 8 bytes are programmed into the
+    /// secondary slot. The bytes of an incomplete unit are held in memory until the next call.
+    ///
+    /// The map has to be laid out on the flash, and has to be that of the [`accept`](Self::accept)
+    /// which opened the upload. Slot and trailer have to be as the earlier calls left them: the
+    /// written bytes, and erased after them.
     ///
     /// # Errors
-    /// `NoSession` where no upload of the image is open: nothing changed. `TooMuch` where more
-    /// bytes came in all than the manifest said: the upload is closed and no other is, nothing is
-    /// written, and nothing is requested. Past both checks, `Flash` with `Cut` where power failed
-    /// or with `Off` where the flash was off: all uploads are closed, and nothing is requested for
-    /// the image. Bytes that are only held back don't ask the flash.
+    /// - `NoSession`: no upload of the image is open. Nothing changed.
+    /// - `TooMuch`: with these bytes the upload is longer than its manifest says. This upload is
+    ///   closed, and no other. Nothing is written or requested.
+    /// - `Flash` with `Cut` or `Off`: both checks passed, and power failed or the flash was off.
+    ///   All uploads are closed, and nothing is requested for the image. Bytes that complete no
+    ///   unit don't touch the flash, so these errors can't occur.
     pub fn piece<F: Flash>(
         &mut self,
         flash: &mut F,

@@ -1,4 +1,4 @@
-//! The uploads that are open.
+//! The table of open uploads.
 
 ghost use Rattle.std.specs.Prelude.{◌≡◌, ◌<◌, ◌≤◌, ◌==◌, ℕ, Option, Some, None, length, if◌then◌else◌};
 ghost use Rattle.upload.specs.Ending.{IsClosedAfter};
@@ -13,23 +13,24 @@ use trailer::Kind;
 /// The length of a unit in bytes.
 pub(crate) const UNIT: usize = 8;
 
-/// An upload that is open.
+/// An open upload.
 #[derive(Debug, Drop)]
 pub struct Upload {
-    /// How many bytes the file is to have.
+    /// The length of the complete file in bytes, from the manifest.
     pub size: u32,
-    /// Which SHA-256 it is to have.
+    /// The SHA-256 of the complete file, from the manifest.
     pub digest: [u8; 32],
     /// How the image will be requested.
     pub kind: Kind,
-    /// How many bytes came.
+    /// The number of bytes that were added so far.
     pub received: u32,
-    /// The last of them, which make no whole unit yet and aren't written.
+    /// The last of these bytes: they don't complete a unit yet, and aren't written.
     pub held: ArrayVec<u8, UNIT>,
 }
 
-/// The uploads that are open: at most one an image, told by its number. The field is public since
-/// the contracts of all calls speak of it.
+/// The open uploads, at most one an image, by image number.
+///
+/// The field is public because the contracts of all calls refer to it.
 #[derive(Debug, Drop)]
 pub struct Uploads {
     /// The upload of each image, if one is open.
@@ -37,7 +38,7 @@ pub struct Uploads {
 }
 
 impl Uploads {
-    /// No upload is open.
+    /// Returns a table without open uploads.
     pub fn new() -> Self
         ensures { AllClosed result.sessions }
     {
@@ -46,7 +47,7 @@ impl Uploads {
         }
     }
 
-    /// Takes the upload of an image out of the table.
+    /// Removes the upload of an image from the table, and returns it.
     pub(crate) fn take(&mut self, image: u8) -> Option<Upload>
         ensures value { result ≡ upload_at self.old.sessions image }
         ensures rest { IsWith image None self.old.sessions self.new.sessions }
@@ -69,7 +70,7 @@ impl Uploads {
         self.sessions[usize::from(image)] = Some(upload);
     }
 
-    /// Closes all uploads where a call stopped at the flash.
+    /// Closes all uploads if a call failed at the flash.
     pub(crate) fn close_after(&mut self, answer: &Result<(), UploadError>)
         ensures { IsClosedAfter answer.now self.old.sessions self.new.sessions }
     {

@@ -7,7 +7,7 @@ ghost use Rattle.upload.specs.Slots.{Appends, ErasesSector, ErasesSlot, HasRoomB
 use flash_model::{Flash, Result, is_erased};
 use sector_map::{SectorMap, Side};
 
-/// Programs whole units, or none, right behind what is written of a secondary slot.
+/// Programs units directly after the written bytes of a secondary slot. No bytes program nothing.
 pub(crate) fn write_slot<F: Flash>(
     flash: &mut F,
     map: &SectorMap,
@@ -26,7 +26,7 @@ pub(crate) fn write_slot<F: Flash>(
     flash.program(map.slot_start(image, Side::Secondary) + at, bytes)
 }
 
-/// Erases a sector of a secondary slot, unless it is all erased.
+/// Erases a sector of a secondary slot, unless all its bytes are erased.
 fn erase_sector<F: Flash>(flash: &mut F, map: &SectorMap, image: u8, index: u32) -> Result<()>
     requires image { HasImage map.now image (F.chip flash.old) }
     requires within { index < slot_sectors map.now image }
@@ -39,7 +39,7 @@ fn erase_sector<F: Flash>(flash: &mut F, map: &SectorMap, image: u8, index: u32)
     flash.erase(sector)
 }
 
-/// Erases each sector of a secondary slot that isn't all erased.
+/// Erases each sector of a secondary slot that isn't erased.
 pub(crate) fn erase_slot<F: Flash>(flash: &mut F, map: &SectorMap, image: u8) -> Result<()>
     requires { HasImage map.now image (F.chip flash.old) }
     ensures { ErasesSlot map.now image (F.chip flash.old) (F.chip flash.new) result }

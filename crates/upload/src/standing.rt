@@ -1,4 +1,4 @@
-//! Whether uploads that were kept elsewhere stand on a flash.
+//! Whether saved uploads match the contents of a flash.
 
 ghost use Rattle.std.specs.Prelude.{◌≡◌, ◌↔◌, ◌≤◌, ℕ, IfOk, Some, IsTrue, length, take};
 ghost use Rattle.std.specs.Prelude.{IfSome, None};
@@ -16,8 +16,8 @@ use flash_model::{Flash, Result, is_erased};
 use sector_map::{SectorMap, Side};
 use trailer::is_blank;
 
-/// How many bytes of an upload are written, where its counts fit each other and the slot of its
-/// image.
+/// Returns how many bytes of an upload are written, or none if its counts don't fit each other and
+/// the slot of its image.
 fn written_of(map: &SectorMap, image: u8, upload: &Upload) -> Option<u32>
     ensures some { IfSome result (λ written. HasCounts map.now image written upload.now) }
     ensures none { result ≡ None → (written : ℕ) → HasCounts map.now image written upload.now → ⊥ }
@@ -36,7 +36,7 @@ fn written_of(map: &SectorMap, image: u8, upload: &Upload) -> Option<u32>
     Some(written)
 }
 
-/// Whether a secondary slot is erased behind so many bytes.
+/// Returns whether a secondary slot is erased from byte `at` on.
 fn is_erased_behind<F: Flash>(flash: &mut F, map: &SectorMap, image: u8, at: u32) -> Result<bool>
     requires image { HasImage map.now image (F.chip flash.old) }
     requires within { at ≤ length_of map.now (Slot image Secondary) }
@@ -48,7 +48,7 @@ fn is_erased_behind<F: Flash>(flash: &mut F, map: &SectorMap, image: u8, at: u32
     is_erased(flash, start + at, map.slot_length(image) - at)
 }
 
-/// Whether an upload of an image stands on the flash.
+/// Returns whether an upload of an image matches the flash.
 fn stands<F: Flash>(flash: &mut F, map: &SectorMap, image: u8, upload: &Upload) -> Result<bool>
     requires { IsLaidOut map.now (F.chip flash.old) }
     ensures { TellsOpen map.now image (Some upload.now)
@@ -62,7 +62,7 @@ fn stands<F: Flash>(flash: &mut F, map: &SectorMap, image: u8, upload: &Upload) 
     Ok(is_erased && is_blank)
 }
 
-/// Whether the upload of an image stands on the flash, if one is open.
+/// Returns whether the upload of an image matches the flash, if one is open.
 fn stands_if_open<F: Flash>(
     flash: &mut F,
     map: &SectorMap,
@@ -78,7 +78,7 @@ fn stands_if_open<F: Flash>(
     }
 }
 
-/// Whether each open upload of a table, which has an entry an image, stands on the flash.
+/// Returns whether each open upload of a table matches the flash. The table has an entry an image.
 fn all_stand<F: Flash>(flash: &mut F, map: &SectorMap, sessions: &[Option<Upload>]) -> Result<bool>
     requires laid_out { IsLaidOut map.now (F.chip flash.old) }
     requires few { length sessions.now ≤ MOST_IMAGES }
@@ -94,17 +94,20 @@ fn all_stand<F: Flash>(flash: &mut F, map: &SectorMap, sessions: &[Option<Upload
 }
 
 impl Uploads {
-    /// Whether each open upload stands on the flash as the calls that opened and filled it left it:
-    /// what was written is whole units of its image's secondary slot, the slot is erased behind
-    /// them, its trailer reads as an erased one, and the bytes that came fit the slot. It is for
-    /// who keeps uploads elsewhere between calls, and can't know what became of the flash.
+    /// Returns whether each open upload matches the flash, as the calls that opened and filled it
+    /// left it.
     ///
-    /// The map is laid out on the flash. It reads the slots of the open uploads behind what was
-    /// written. Does not allocate.
+    /// That is so if the written bytes are complete units of the image's secondary slot and the
+    /// slot is erased after them. Its trailer has to read as an erased one, and the upload has to
+    /// fit the slot. It is for a caller that saves uploads between calls, and can't know what
+    /// happened to the flash meanwhile.
+    ///
+    /// The map has to be laid out on the flash. The call reads the slots of open uploads after the
+    /// written bytes. It doesn't allocate.
     ///
     /// # Errors
-    /// `Off` where the flash was off, which isn't asked before an upload is open whose counts fit
-    /// each other and the slot. Nothing changes in any case.
+    /// `Off`: the flash was off when it was read. It is read if the counts of the first open upload
+    /// fit each other and the slot. Nothing changes in any case.
     pub fn stand<F: Flash>(&self, flash: &mut F, map: &SectorMap) -> Result<bool>
         requires { IsLaidOut map.now (F.chip flash.old) }
         ensures { TellsStand map.now self.now.sessions

@@ -1,4 +1,4 @@
-//! Taking back what is requested.
+//! Withdrawing a request.
 
 ghost use Rattle.sector_map.specs.Map.{HasImage, IsLaidOut};
 ghost use Rattle.upload.specs.Withdrawing.{WithdrawsRequest, WithdrawsStanding};
@@ -9,7 +9,7 @@ use flash_model::Flash;
 use sector_map::SectorMap;
 use trailer::{standing, withdraw};
 
-/// Takes back the request of an image, where one stands.
+/// Withdraws the request of an image, if one is pending.
 #[tactic(auto, using(crate::proofs::Requested::stands_in_units))]
 fn withdraw_standing<F: Flash>(flash: &mut F, map: &SectorMap, image: u8) -> Result<(), UploadError>
     requires { HasImage map.now image (F.chip flash.old) }
@@ -23,16 +23,18 @@ fn withdraw_standing<F: Flash>(flash: &mut F, map: &SectorMap, image: u8) -> Res
 }
 
 impl Uploads {
-    /// Takes back the request of an image, which is told by its number from 0. An upload that is
-    /// open stays so, and an image with one has no request.
+    /// Withdraws the request of an image.
     ///
-    /// The map is laid out on the flash.
+    /// `image` is the image's number from 0. An open upload stays open: its image has no request.
+    ///
+    /// The map has to be laid out on the flash.
     ///
     /// # Errors
-    /// `NothingRequested` where no request stands, or there is no such image: nothing changed.
-    /// `Flash` with `Cut` where power failed: all uploads are closed, and the request that stood
-    /// stands as before or not at all; with `Off` where the flash was off: all uploads are closed,
-    /// and nothing else changed.
+    /// - `NothingRequested`: nothing is requested for the image, or there is no such image. Nothing
+    ///   changed.
+    /// - `Flash` with `Cut`: power failed. All uploads are closed, and the request is unchanged or
+    ///   withdrawn.
+    /// - `Flash` with `Off`: the flash was off. All uploads are closed, and nothing else changed.
     pub fn withdraw<F: Flash>(
         &mut self,
         flash: &mut F,
