@@ -1,4 +1,4 @@
--- What a call does that adds bytes to an open upload: each record is one call.
+-- Contracts of the calls that add bytes to an open upload: one record for each call.
 use Rattle.std.specs.Prelude.{◌≡◌, ◌≢◌, ◌+◌, ◌-◌, ◌≤◌, ◌<◌, ℕ, true, false, List, ◌++◌, length}
 use Rattle.std.specs.Prelude.{Option, Some, None, Result, Ok, Err, IfErr, IsErrOf, IsOk, OnOk}
 use Rattle.flash_model.specs.declared.error.FlashError.{FlashError}
@@ -17,7 +17,7 @@ use Rattle.upload.specs.Sessions.{AllClosed, AllOpenAt, IsOpenAt, IsUpAt, IsWith
 use Rattle.upload.specs.Ending.{EndsUpload, is_flash}
 use Rattle.upload.specs.Piece.{Pieces, TakesMore}
 
--- An upload stands on the flash, and has room for so many bytes.
+-- An upload matches the flash, and takes `n` bytes more.
 pub record IsOpenFor (map : SectorMap) (image : ℕ) (upload : Upload) (n : ℕ) (chip : Chip)
     : Type 0 where
   pub laid_out : IsLaidOut map chip
@@ -27,19 +27,19 @@ pub record IsOpenFor (map : SectorMap) (image : ℕ) (upload : Upload) (n : ℕ)
 -- A call adds bytes to an upload.
 pub record AddsBytes (map : SectorMap) (image : ℕ) (before after : Upload) (bytes : List ℕ)
     (old new : Chip) {T : Type 0} (result : Result T FlashError) : Type 0 where
-  -- No other part is written than the image's secondary slot,
+  -- Only the image's secondary slot is written.
   pub outside : Keeps map (only (Slot image Secondary)) old new
-  -- of it no more than the place of these bytes and of those that were held back,
+  -- In the slot, only the place of these bytes and of the held ones is written.
   pub range : SameOutside (start_of map (Slot image Secondary)
       + (before.received - length before.held.items))
       (length before.held.items + length bytes) old new
-  -- the upload has taken them where the call ends,
+  -- If the call succeeds, the upload has these bytes.
   pub ok : OnOk result (TakesMore (view map old) (view map new) image before after bytes)
-  -- and no sector is erased.
+  -- If the call succeeds, no sector is erased.
   pub erases : OnOk result (new.erases ≡ old.erases)
-  -- Bytes that complete no unit are held back, whether the flash is on or off,
+  -- Bytes that complete no unit are held in memory, whether the flash is on or off.
   pub held : length before.held.items + length bytes < 8 → IsOk result × (new ≡ old)
-  -- and others are taken only if it is on.
+  -- Other bytes are added only if the flash is on.
   pub on : OnOk result (8 ≤ length before.held.items + length bytes → old.is_on ≡ true)
   pub ends : Ends result old new
 
@@ -47,53 +47,52 @@ pub record AddsBytes (map : SectorMap) (image : ℕ) (before after : Upload) (by
 pub record TakesPiece (map : SectorMap) (image : ℕ) (bytes : List ℕ)
     (told tnew : List (Option Upload)) (old new : Chip) (result : Result Unit UploadError)
     : Type 0 where
-  -- No other part is written than the image's secondary slot,
+  -- Only the image's secondary slot is written.
   pub outside : Keeps map (only (Slot image Secondary)) old new
-  -- and of it, whatever happened, no more than the place of these bytes and of those that were held
-  -- back,
+  -- Even if the call fails, only the place of these bytes and of the held ones is written in the
+  -- slot.
   pub range : (u : Upload) → upload_at told image ≡ Some u
       → SameOutside (start_of map (Slot image Secondary) + (u.received - length u.held.items))
       (length u.held.items + length bytes) old new
-  -- so that the uploads of the table stand on the flash, if they did.
+  -- If all uploads of the table matched the flash, they still do.
   pub all_open : AllOpenAt (view map old) told → AllOpenAt (view map new) tnew
-  -- On any flash: what is answered, and what is left then. The upload has taken the bytes where the
-  -- call ends,
+  -- On any flash: if the call succeeds, the upload has these bytes.
   pub takes : OnOk result ((u : Upload) → upload_at told image ≡ Some u
       → (after : Upload) × (upload_at tnew image ≡ Some after)
       × TakesMore (view map old) (view map new) image u after bytes)
-  -- nothing changes where no upload is open,
+  -- If no upload of the image is open, nothing changes.
   pub none : upload_at told image ≡ None → (result ≡ Err NoSession) × (new ≡ old)
-  -- more bytes than its size allows are refused,
+  -- More bytes than the upload's size allows are refused.
   pub more : (u : Upload) → upload_at told image ≡ Some u
       → u.size < u.received + length bytes → result ≡ Err TooMuch
-  -- and the flash stays as it was where a check fails.
+  -- If a check fails, the flash doesn't change.
   pub nothing : IfErr result (λ error. is_flash {T = Unit} (Err error) ≡ false → new ≡ old)
-  -- Bytes that complete no unit are held back, whether the flash is on or off.
+  -- Bytes that complete no unit are held in memory, whether the flash is on or off.
   pub held : (u : Upload) → upload_at told image ≡ Some u → u.received + length bytes ≤ u.size
       → length u.held.items + length bytes < 8 → (result ≡ Ok tt) × (new ≡ old)
-  -- For others the answer is that the flash is off, if it is.
+  -- If other bytes fit and the flash is off, that is the result.
   pub off : old.is_on ≡ false → (u : Upload) → upload_at told image ≡ Some u
       → u.received + length bytes ≤ u.size → 8 ≤ length u.held.items + length bytes
       → IsErrOf result (Flash Off)
-  -- An upload to which too much came is closed, and no other,
+  -- An upload that received too many bytes is closed, and no other.
   pub too_much : IsErrOf result TooMuch → IsWith image None told tnew
-  -- the table stays where none is open,
+  -- If no upload of the image is open, the table doesn't change.
   pub stays : IsErrOf result NoSession → tnew ≡ told
-  -- and the uploads of other images do unless the flash stops the call:
+  -- Unless the call fails at the flash, the uploads of other images don't change.
   pub others : is_flash result ≡ false → (j : ℕ) → j ≢ image → upload_at tnew j ≡ upload_at told j
-  -- then all uploads are closed.
+  -- If the call fails at the flash, all uploads are closed.
   pub closed : is_flash result ≡ true → AllClosed tnew
-  -- On a flash that holds a state: the step of a machine that knows whole images.
+  -- On a flash that holds a state, the call is the step of a machine that knows complete images.
   pub row : (m : Machine) → IsUpAt (view map old) told m
       → (next : Machine) × Pieces m image bytes result next × IsUpAt (view map new) tnew next
-  -- No sector is erased.
+  -- If the call succeeds, no sector is erased.
   pub erases : OnOk result (new.erases ≡ old.erases)
   pub ends : EndsUpload result old new
 
--- A call holds bytes back.
+-- A call holds bytes in memory.
 pub record HoldsBack (bytes : List ℕ) (before after : Upload) : Type 0 where
-  -- Nothing changes but how many came, and what is held:
+  -- Only the number of received bytes and the held bytes change.
   pub rest : after ≡ record before
       { received = before.received + length bytes; held = after.held }
-  -- the bytes stand behind those that were.
+  -- The bytes are appended to the held ones.
   pub held : after.held.items ≡ before.held.items ++ bytes

@@ -1,4 +1,4 @@
--- What a call does that finishes an upload: each record is one call.
+-- Contracts of the calls that finish an upload: one record for each call.
 use Rattle.std.specs.Prelude.{◌≡◌, ℕ, ◌+◌, ◌-◌, true, false, List, [], length, take, Option, Some}
 use Rattle.std.specs.Prelude.{None, Result, Err, IfErr, IfOk, IsErrOf, OnOk}
 use Rattle.sha2.specs.Sha256.{sha256}
@@ -20,94 +20,93 @@ use Rattle.upload.specs.Sessions.{upload_at}
 use Rattle.upload.specs.Ending.{EndsUpload, is_flash}
 use Rattle.upload.specs.Finish.{EndsFinish, FinishRow, Judges}
 
--- A call tells the SHA-256 of the first bytes of a secondary slot.
+-- A call returns the SHA-256 of the first `size` bytes of a secondary slot.
 pub record ReadsDigest (map : SectorMap) (image size : ℕ) (old new : Chip)
     (result : Result (List ℕ) FlashError) : Type 0 where
   pub same : new ≡ old
   pub ok : IfOk result (λ digest. digest ≡ sha256 (take size (incoming_slot map old image)))
-  -- A flash that is off tells none.
+  -- The call succeeds only if the flash is on.
   pub on : OnOk result (old.is_on ≡ true)
   pub ends : Ends result old new
 
--- A call judges the first bytes of a secondary slot, and writes nothing.
+-- A call checks the first `size` bytes of a secondary slot, and writes nothing.
 pub record JudgesSlot (map : SectorMap) (image size : ℕ) (digest : List ℕ) (old new : Chip)
     (result : Result Unit UploadError) : Type 0 where
   pub same : new ≡ old
   pub judges : Judges (take size (incoming_slot map old image)) digest result
-  -- If the flash is off, that is the answer.
+  -- If the flash is off, that is the result.
   pub off : old.is_on ≡ false → IsErrOf result (Flash Off)
   pub ends : EndsUpload result old new
 
--- Nothing is written but the unit of the bytes that are held back of an upload.
+-- At most the unit of an upload's held bytes is written.
 pub record WritesLastUnit (map : SectorMap) (image : ℕ) (upload : Upload) (old new : Chip)
     : Type 0 where
-  -- It lies behind what is written of the slot,
+  -- The unit lies directly after the written bytes of the slot.
   pub unit : SameOutside (start_of map (Slot image Secondary)
       + (upload.received - length upload.held.items)) 8 old new
-  -- and isn't written where none are.
+  -- If no bytes are held, nothing is written.
   pub none : upload.held.items ≡ [] → new ≡ old
 
--- What is written where finishing an upload is refused, if one is open.
+-- What is written if finishing an upload is refused. The upload is none if none was open.
 pub record RefusesFinish (map : SectorMap) (image : ℕ) (upload : Option Upload) (old new : Chip)
     (result : Result Unit UploadError) : Type 0 where
-  -- Nothing where none is open,
+  -- If no upload is open, nothing is written.
   pub no_session : IsErrOf result NoSession → new ≡ old
-  -- and nothing where too few bytes came.
+  -- If too few bytes were received, nothing is written.
   pub size : IsErrOf result SizeWrong → new ≡ old
-  -- Unless the flash stops the call no other part is written than the image's secondary slot, so
-  -- that its trailer stays,
+  -- If a check fails, only the image's secondary slot is written, so its trailer doesn't change.
   pub slot : IfErr result (λ error. is_flash {T = Unit} (Err error) ≡ false
       → Keeps map (only (Slot image Secondary)) old new)
-  -- of the slot no more than the last unit of the upload,
+  -- If a check fails, at most the upload's last unit is written in the slot.
   pub unit : IfErr result (λ error. is_flash {T = Unit} (Err error) ≡ false
       → (u : Upload) → upload ≡ Some u → WritesLastUnit map image u old new)
-  -- and no sector is erased.
+  -- If a check fails, no sector is erased.
   pub erases : IfErr result (λ error. is_flash {T = Unit} (Err error) ≡ false
       → new.erases ≡ old.erases)
 
 -- A call finishes an upload that was taken out of the table.
 pub record FinishesTaken (map : SectorMap) (image : ℕ) (upload : Upload) (old new : Chip)
     (result : Result Unit UploadError) : Type 0 where
-  -- No other part is written than the image's secondary slot and the trailer of it.
+  -- Only the image's secondary slot and its trailer are written.
   pub outside : Keeps map (incoming_of image) old new
-  -- What is answered, and what is left then: nothing is requested but a whole image.
+  -- The result, and what the call leaves. Only a complete image is requested.
   pub finish : (written : List ℕ) → IsUploadAt (view map old) image upload written
       → EndsFinish (view map new) image (session_of upload written) result
-  -- No sector is erased.
+  -- If the call succeeds, no sector is erased.
   pub erases : OnOk result (new.erases ≡ old.erases)
-  -- A refusal writes no more than the last unit.
+  -- A refused call writes at most the last unit.
   pub refused : RefusesFinish map image (Some upload) old new result
-  -- If the flash is off, that is the answer where all bytes came.
+  -- If all bytes were received and the flash is off, that is the result.
   pub off : old.is_on ≡ false → upload.received ≡ upload.size → IsErrOf result (Flash Off)
   pub ends : EndsUpload result old new
 
 -- A call of `finish`, with the table of uploads before and after it.
 pub record FinishesUpload (map : SectorMap) (image : ℕ) (told tnew : List (Option Upload))
     (old new : Chip) (result : Result Unit UploadError) : Type 0 where
-  -- No other part is written than the image's secondary slot and the trailer of it,
+  -- Only the image's secondary slot and its trailer are written.
   pub outside : Keeps map (incoming_of image) old new
-  -- so that the uploads of the table stand on the flash, if they did.
+  -- If all uploads of the table matched the flash, they still do.
   pub all_open : AllOpenAt (view map old) told → AllOpenAt (view map new) tnew
-  -- On any flash: what is answered, and what is left then. Nothing is requested but a whole image,
+  -- On any flash: the result, and what the call leaves. Only a complete image is requested.
   pub finishes : (u : Upload) (written : List ℕ) → upload_at told image ≡ Some u
       → IsUploadAt (view map old) image u written
       → EndsFinish (view map new) image (session_of u written) result
-  -- and nothing changes where no upload is open.
+  -- If no upload of the image is open, nothing changes.
   pub none : upload_at told image ≡ None → (result ≡ Err NoSession) × (new ≡ old)
-  -- A refusal writes no more than the last unit of the image's own upload, and never its trailer.
+  -- A refused call writes at most the last unit of the image's own upload, and never its trailer.
   pub refused : RefusesFinish map image (upload_at told image) old new result
-  -- If the flash is off, that is the answer where an upload is open to which all bytes came.
+  -- If an upload is open, all its bytes were received and the flash is off, that is the result.
   pub off : old.is_on ≡ false → (u : Upload) → upload_at told image ≡ Some u
       → u.received ≡ u.size → IsErrOf result (Flash Off)
-  -- The upload is closed,
+  -- The upload is closed.
   pub closes : is_flash result ≡ false → IsWith image None told tnew
-  -- the table stays where there was none,
+  -- If no upload of the image is open, the table doesn't change.
   pub stays : IsErrOf result NoSession → tnew ≡ told
-  -- and all are closed where the flash stops the call.
+  -- If the call fails at the flash, all uploads are closed.
   pub closed : is_flash result ≡ true → AllClosed tnew
-  -- On a flash that holds a state: the step of a machine that knows whole images.
+  -- On a flash that holds a state, the call is the step of a machine that knows complete images.
   pub row : (m : Machine) → IsUpAt (view map old) told m
       → (next : Machine) × FinishRow m image result next × IsUpAt (view map new) tnew next
-  -- No sector is erased.
+  -- If the call succeeds, no sector is erased.
   pub erases : OnOk result (new.erases ≡ old.erases)
   pub ends : EndsUpload result old new

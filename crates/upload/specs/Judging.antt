@@ -1,4 +1,4 @@
--- What a call does that judges a manifest: each record is one call. None of them writes.
+-- Contracts of the calls that check a manifest: one record for each call. None of them writes.
 use Rattle.std.specs.Prelude.{◌≡◌, ◌≢◌, ◌↔◌, Bool, true, false, List, None, Some, Result, IfErr, IfOk}
 use Rattle.std.specs.Prelude.{IsErrOf, IsTrue}
 use Rattle.flash_model.specs.declared.error.FlashError.{FlashError}
@@ -20,7 +20,8 @@ use Rattle.upload.specs.Ending.{EndsUpload}
 use Rattle.upload.specs.Accepted.{AllFollowAt, AreThere, FrontHasDigest}
 use Rattle.upload.specs.Taking.{MayTake, Refuses}
 
--- A call answers whether the image runs that a component asks for, if it asks for one.
+-- A call returns whether the running image is the one that a component requires, if it requires
+-- one.
 pub record ReadsPrecursor (map : SectorMap) (component : Component) (old new : Chip)
     (result : Result Bool FlashError) : Type 0 where
   pub same : new ≡ old
@@ -28,44 +29,44 @@ pub record ReadsPrecursor (map : SectorMap) (component : Component) (old new : C
       ↔ FrontHasDigest (part_of map old (Slot component.image Primary)) component.precursor)
   pub ends : Ends result old new
 
--- A call answers whether the image runs that each component asks for.
+-- A call returns whether the running images are those that the components require.
 pub record ReadsPrecursors (map : SectorMap) (cs : List Component) (old new : Chip)
     (result : Result Bool FlashError) : Type 0 where
   pub same : new ≡ old
   pub ok : IfOk result (λ yes. IsTrue yes ↔ AllFollowAt (view map old) cs)
   pub ends : Ends result old new
 
--- A call answers the state of the log.
+-- A call returns the state of the log.
 pub record ReadsState (map : SectorMap) (old new : Chip) (result : Result State FlashError)
     : Type 0 where
   pub same : new ≡ old
   pub ok : IfOk result (λ state. state_of map old ≡ Some state)
-  -- A state that the log has keeps the table of records.
+  -- A state of the log fits the table of records.
   pub fits : (state : State) → state_of map old ≡ Some state
       → format.fits map.images state ≡ true
-  -- If the flash is off, that is the answer.
+  -- If the flash is off, that is the result.
   pub off : old.is_on ≡ false → IsErrOf result Off
   pub ends : Ends result old new
 
--- A manifest with these components can be judged: the log has a state, and each of them names an
+-- A manifest with these components can be checked: the log has a state, and each component names an
 -- image of the map.
 pub record CanJudge (map : SectorMap) (cs : List Component) (chip : Chip) : Type 0 where
   pub laid_out : IsLaidOut map chip
   pub has_state : state_of map chip ≢ None
   pub there : AreThere map cs
 
--- A call answers the state of the log where a manifest may be taken.
+-- A call returns the state of the log if a manifest may be accepted.
 pub record JudgesManifest (map : SectorMap) (manifest : Manifest) (old new : Chip)
     (result : Result State UploadError) : Type 0 where
   pub same : new ≡ old
   pub ok : IfOk result (λ state. MayTake map (view map old) state
       manifest.sequence manifest.components.items)
-  -- A state that the log has keeps the table of records.
+  -- A state of the log fits the table of records.
   pub fits : (state : State) → state_of map old ≡ Some state
       → format.fits map.images state ≡ true
-  -- Where it may not, the first check that fails is answered.
+  -- Otherwise the first check that fails is returned.
   pub refused : IfErr result (Refuses map (view map old)
       manifest.sequence manifest.components.items)
-  -- If the flash is off, that is the answer.
+  -- If the flash is off, that is the result.
   pub off : old.is_on ≡ false → IsErrOf result (Flash Off)
   pub ends : EndsUpload result old new

@@ -1,4 +1,4 @@
--- What a call does that writes a secondary slot or erases it: each record is one call.
+-- Contracts of the calls that write or erase a secondary slot: one record for each call.
 use Rattle.std.specs.Prelude.{◌≡◌, ℕ, ◌+◌, ◌*◌, ◌≤◌, ◌<◌, true, List, [], ◌++◌, length, Result}
 use Rattle.std.specs.Prelude.{OnOk}
 use Rattle.flash_model.specs.declared.error.FlashError.{FlashError}
@@ -11,8 +11,8 @@ use Rattle.trailer.specs.Standing.{incoming_slot}
 use Rattle.upload.specs.Sessions.{IsWritten}
 use Rattle.upload.specs.Wear.{one_unless_erased, sector_in, worn_slot}
 
--- A secondary slot is written up to a place, at which a unit begins, and has room for so many bytes
--- behind it.
+-- A secondary slot is written up to the place `at`, which is the start of a unit, and has at least
+-- `n` bytes after it.
 pub record HasRoomBehind (map : SectorMap) (image at n : ℕ) (chip : Chip) : Type 0 where
   pub laid_out : IsLaidOut map chip
   pub there : image < map.images
@@ -21,42 +21,42 @@ pub record HasRoomBehind (map : SectorMap) (image at n : ℕ) (chip : Chip) : Ty
   pub written : (front : List ℕ) × (length front ≡ at)
       × IsWritten (incoming_slot map chip image) front
 
--- A call appends bytes to what is written of a secondary slot, by units that take `width` bytes.
+-- A call appends bytes to the written bytes of a secondary slot. Their units take `width` bytes.
 pub record Appends (map : SectorMap) (image at : ℕ) (bytes : List ℕ) (width : ℕ) (old new : Chip)
     {T : Type 0} (result : Result T FlashError) : Type 0 where
-  -- No other part is written,
+  -- Only the image's secondary slot is written.
   pub outside : Keeps map (only (Slot image Secondary)) old new
-  -- of the slot no more than these units,
+  -- In the slot, only these units are written.
   pub range : SameOutside (start_of map (Slot image Secondary) + at) width old new
-  -- and nothing where there are none.
+  -- If there are no bytes, nothing is written.
   pub none : bytes ≡ [] → new ≡ old
-  -- They stand behind it where the call ends,
+  -- If the call succeeds, the bytes follow those that were written before.
   pub ok : OnOk result ((front : List ℕ) → length front ≡ at
       → IsWritten (incoming_slot map old image) front
       → IsWritten (incoming_slot map new image) (front ++ bytes))
-  -- and the flash was on if there are some.
+  -- If the call succeeds and there are bytes, the flash was on.
   pub on : OnOk result (0 < length bytes → old.is_on ≡ true)
-  -- No sector is erased in any case.
+  -- No sector is erased, even if the call fails.
   pub erases : new.erases ≡ old.erases
   pub ends : Ends result old new
 
--- A call erases a sector of a secondary slot, told by its index.
+-- A call erases a sector of a secondary slot, given by its index.
 pub record ErasesSector (map : SectorMap) (image index : ℕ) (old new : Chip) {T : Type 0}
     (result : Result T FlashError) : Type 0 where
-  -- No other part is touched,
+  -- Only the image's secondary slot is written.
   pub outside : Keeps map (only (Slot image Secondary)) old new
-  -- no other sector of the slot,
+  -- No other sector of the slot is written.
   pub sector : SameOutside ((first_of map (Slot image Secondary) + index) * map.sector_size)
       map.sector_size old new
-  -- and the sector is erased where the call ends.
+  -- If the call succeeds, the sector is erased.
   pub ok : OnOk result (IsErased new
       ((first_of map (Slot image Secondary) + index) * map.sector_size) map.sector_size)
-  -- Nothing changes where it was,
+  -- If the sector was erased, nothing changes.
   pub idle : IsErased old ((first_of map (Slot image Secondary) + index) * map.sector_size)
       map.sector_size → new ≡ old
-  -- so that it costs one erase at most,
+  -- If the call succeeds, at most one sector is erased.
   pub erases : OnOk result (new.erases ≤ old.erases + 1)
-  -- and one exactly where the sector wasn't erased.
+  -- If the call succeeds, one sector is erased exactly if this one wasn't erased before.
   pub worn : OnOk result (new.erases ≡ old.erases
       + one_unless_erased (sector_in map.sector_size (incoming_slot map old image) index))
   pub ends : Ends result old new
@@ -64,15 +64,15 @@ pub record ErasesSector (map : SectorMap) (image index : ℕ) (old new : Chip) {
 -- A call erases a secondary slot.
 pub record ErasesSlot (map : SectorMap) (image : ℕ) (old new : Chip) {T : Type 0}
     (result : Result T FlashError) : Type 0 where
-  -- No other part is touched,
+  -- Only the image's secondary slot is written.
   pub outside : Keeps map (only (Slot image Secondary)) old new
-  -- the slot is all erased where the call ends,
+  -- If the call succeeds, the complete slot is erased.
   pub ok : OnOk result (IsWritten (incoming_slot map new image) [])
-  -- and nothing changes where it was.
+  -- If the slot was erased, nothing changes.
   pub idle : IsErased old (start_of map (Slot image Secondary))
       (length_of map (Slot image Secondary)) → new ≡ old
-  -- No more sectors are erased than the slot has,
+  -- If the call succeeds, at most as many sectors are erased as the slot has.
   pub erases : OnOk result (new.erases ≤ old.erases + slot_sectors map image)
-  -- and none that is erased.
+  -- If the call succeeds, as many sectors are erased as weren't erased before.
   pub worn : OnOk result (new.erases ≡ old.erases + worn_slot map old image)
   pub ends : Ends result old new

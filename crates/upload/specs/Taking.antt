@@ -1,4 +1,4 @@
--- Whether a manifest may be taken, and what taking it leaves on the flash.
+-- When a manifest may be accepted, and what accepting it leaves on the flash.
 use Rattle.std.specs.Prelude.{◌≡◌, ◌⊎◌, ℕ, ◌<◌, ◌≤◌, List, [], Option, Some, Result, Ok, Err}
 use Rattle.flash_model.specs.declared.error.FlashError.TheVariants as flash
 use Rattle.sector_map.specs.declared.layout.SectorMap.{SectorMap}
@@ -16,19 +16,19 @@ use Rattle.upload.specs.Sessions.{AllOpenAt, IsUpAt, IsWritten, upload_at}
 use Rattle.upload.specs.Withdrawal.{IsKeptOrGone}
 use Rattle.upload.specs.Accepted.{AllFit, AllFollowAt, IsAcceptCut, OpenedAt, accepted, latest}
 
--- The state of the log, whose sequence number isn't above the manifest's.
+-- The log has this state, whose sequence number isn't above the manifest's.
 pub record IsNewer (w : View) (state : State) (sequence : ℕ) : Type 0 where
   pub read : w.log ≡ Some state
   pub newer : state.sequence ≤ sequence
 
--- A manifest may be taken, with this state in the log.
+-- A manifest may be accepted, and the log has this state.
 pub record MayTake (map : SectorMap) (w : View) (state : State) (sequence : ℕ)
     (cs : List Component) : Type 0 where
   pub newer : IsNewer w state sequence
   pub fit : AllFit map cs
   pub follow : AllFollowAt w cs
 
--- The first check of a manifest that fails. The checks only read, so that none is cut.
+-- The first check of a manifest that fails. The checks only read, so none ends in a power cut.
 abbrev pub Refuses : SectorMap → View → ℕ → List Component → UploadError → Type 0
 Refuses map w sequence cs no.OldSequence =
     (state : State) × (w.log ≡ Some state) × (sequence < state.sequence)
@@ -39,8 +39,8 @@ Refuses map w sequence cs no.WrongPrecursor =
 Refuses map w sequence cs (no.Flash flash.Off) = Unit
 Refuses map w sequence cs other = ⊥
 
--- A manifest was taken: its sequence number stands, each named image has an erased slot and trailer
--- and a new upload, and uploads of other images go on.
+-- A manifest is accepted: its sequence number is stored, each listed image has an erased slot and
+-- trailer and a new upload. Uploads of other images go on.
 pub record IsTaken (old new : View) (told tnew : List (Option Upload)) (sequence : ℕ)
     (cs : List Component) : Type 0 where
   pub log : (state : State) → old.log ≡ Some state
@@ -56,13 +56,14 @@ pub record IsUnchanged (old new : View) (told tnew : List (Option Upload)) : Typ
   pub flash : new ≡ old
   pub table : tnew ≡ told
 
--- From a flash that holds a state, the flash holds one that a cut may leave.
+-- If the flash held a state of the device, it holds one that a power cut may leave.
 abbrev pub CutsAccept : View → View → ℕ → List Component → Type 0
 CutsAccept old new sequence cs = (s : DeviceState) → IsSteadyAt old s
     → (next : DeviceState) × IsAcceptCut s sequence cs next × IsSteadyAt new next
 
--- Whatever a flash holds: the old sequence number stands or the new one, each request is as it was
--- or gone, and unless the new number stands each slot and trailer is as it was.
+-- For any contents of the flash: the log has the old sequence number or the new one, and each
+-- request is unchanged or withdrawn. Unless the log has the new number, no secondary slot or
+-- trailer changed.
 pub record LeavesAccept (old new : View) (sequence : ℕ) : Type 0 where
   pub log : (state : State) → old.log ≡ Some state
       → (new.log ≡ old.log) ⊎ (new.log ≡ Some (record state { sequence = sequence }))
@@ -72,7 +73,7 @@ pub record LeavesAccept (old new : View) (sequence : ℕ) : Type 0 where
       ⊎ ((j : ℕ) → (new.slot j Secondary ≡ old.slot j Secondary)
       × (new.trailer j Secondary ≡ old.trailer j Secondary))
 
--- What taking a manifest leaves on the flash and in the table.
+-- What accepting a manifest leaves on the flash and in the table.
 abbrev pub EndsAccept : SectorMap → View → View → List (Option Upload) → List (Option Upload) → ℕ
     → List Component → Result Unit UploadError → Type 0
 EndsAccept map old new told tnew sequence cs (Ok done) =
