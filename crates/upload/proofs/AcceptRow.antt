@@ -1,4 +1,4 @@
--- The row of a manifest that is taken.
+-- Accepting a manifest is a step of the machine: the successful call, and the one that is cut.
 use Rattle.std.proofs.Common.{◌≡◌, ◌⊎◌, ℕ, ◌<◌, ◌≤◌, false, List, [], length, Option, Some, None, refl, sym, ◌∙◌, ap, subst, arith, ⊎_elim, inl, inr}
 use Rattle.sector_map.specs.declared.layout.Side.TheVariants.{Primary, Secondary}
 use Rattle.sector_map.specs.Part.{Log, only}
@@ -20,16 +20,16 @@ use Rattle.upload.proofs.OpenOnes.{open_of_sessions, sessions_of_open}
 some_state : (a b : State) → Some a ≡ Some b → a ≡ b
 some_state a b e = cc
 
--- one state stands in the log
+-- A log has one state.
 pub same_state : (w : View) (a b : State) → w.log ≡ Some a → w.log ≡ Some b → a ≡ b
 same_state w a b first second = some_state a b (sym first ∙ second)
 
--- so the record with another sequence number is one
+-- So it has one state with another sequence number.
 pub same_record : (w : View) (a : State) (q : ℕ) → w.log ≡ Some a → {b : State} → w.log ≡ Some b
     → Some (record a { sequence = q }) ≡ Some (record b { sequence = q })
 same_record w a q first {b} second = ap (λ (st : State). Some (record st { sequence = q })) (same_state w a b first second)
 
--- what is left where the sequence number was being written ..
+-- What a power cut leaves while the sequence number is recorded.
 pub leaves_early : (old mid : View) (state : State) (q : ℕ) → old.log ≡ Some state → KeepsView (only Log) old mid
     → (mid.log ≡ old.log) ⊎ (mid.log ≡ Some (record state { sequence = q })) → LeavesAccept old mid q
 leaves_early old mid state q read keeps either = record {
@@ -38,7 +38,7 @@ leaves_early old mid state q read keeps either = record {
   first = λ one is. inr (λ j. (keeps.slots j Secondary refl, keeps.trailers j Secondary refl));
 }
 
--- .. and later.
+-- What a power cut leaves after the sequence number is recorded.
 pub leaves_late : (old mid new : View) (state : State) (q : ℕ) (cs : List Component) → old.log ≡ Some state
     → KeepsView (only Log) old mid → mid.log ≡ Some (record state { sequence = q })
     → IsOpening mid new (latest cs) → LeavesAccept old new q
@@ -50,7 +50,7 @@ leaves_late old mid new state q cs read keeps wrote opening = record {
   first = λ one is. inl (opening.log ∙ wrote ∙ same_record old state q read is);
 }
 
--- an image whose slots and trailer are as they were
+-- An image is unchanged if its slots and trailer are.
 pub image_same : (old new : View) (s : DeviceState) (i : ℕ) → new.slot i Primary ≡ old.slot i Primary
     → new.slot i Secondary ≡ old.slot i Secondary → new.trailer i Secondary ≡ old.trailer i Secondary
     → IsImageAt old s i → IsImageAt new s i
@@ -60,7 +60,7 @@ image_same old new s i primary slot trailer was = record {
       (subst (λ t. IsRequested t (old.slot i Secondary) (s.request i)) (sym trailer) was.request);
 }
 
--- the log alone was written
+-- Only the log was written.
 pub sequenced : (old mid : View) (state : State) (q : ℕ) (s : DeviceState) → old.log ≡ Some state
     → KeepsView (only Log) old mid → mid.log ≡ Some (record state { sequence = q }) → IsSteadyAt old s
     → IsSteadyAt mid (record s { sequence = q })
@@ -110,7 +110,7 @@ sequence_cut old mid state q cs read keeps either s was = ⊎_elim
     ))
     either
 
--- what is left of a request where an image may be named
+-- The request of an image after a cut, if the manifest may list the image.
 abbrev left_of : (old new : View) (i : ℕ) → Option Component → IsKeptOrGone old new i → Option Wanted → Option Wanted
 left_of old new i None e wanted = wanted
 left_of old new i (Some c) (inl same) wanted = wanted
@@ -235,7 +235,7 @@ module _ (old mid new : View) (cs : List Component) (told tnew : List (Option Up
         };
       }
 
-  -- the uploads stand
+  -- Uploads still match the flash.
   pub opens_all : AllOpenAt old told → AllOpenAt new tnew
   opens_all opens =
       let had = sessions_of_open old told opens in

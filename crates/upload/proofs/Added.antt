@@ -1,4 +1,4 @@
--- Bytes are added to an open upload.
+-- An open upload after bytes were added to it.
 use Rattle.std.proofs.Common.{◌≡◌, ℕ, ◌+◌, ◌*◌, ◌<◌, ◌≤◌, ◌++◌, List, length, refl, sym, ◌∙◌, ap, arith, append_assoc, length-append}
 use Rattle.sector_map.specs.declared.layout.Side.TheVariants.{Secondary}
 use Rattle.sector_map.specs.Part.{Slot, only}
@@ -20,7 +20,7 @@ session_eq a b size digest kind received =
     ∙ ap (λ k. session_made b.size b.digest k a.received) kind
     ∙ ap (λ r. session_made b.size b.digest b.kind r) received
 
--- an upload with other bytes held back
+-- An upload that differs in the received and the held bytes only.
 pub record IsHeld (old new : Upload) (count : ℕ) (bytes : List ℕ) : Type 0 where
   pub size : new.size ≡ old.size
   pub digest : new.digest ≡ old.digest

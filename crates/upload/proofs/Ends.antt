@@ -1,4 +1,4 @@
--- How a call ends that makes others.
+-- How a call of uploads ends, from how the calls in it end.
 use Rattle.std.proofs.Common.{◌≡◌, ◌+◌, ◌↔◌, ℕ, arith, Bool, IsTrue, false, refl, Result, Ok, Err, sym, ◌∙◌, ap}
 use Rattle.std.specs.Prelude.{IsErrAnd, IsErrOf}
 use Rattle.std.proofs.Common.{true≢false}
@@ -17,7 +17,7 @@ same_error a b e = ap (λ x. Err x) (one a b e) where
   one : {U : Type 0} (a b : FlashError) → IsErrOf {T = U} (Err (no.Flash a)) (no.Flash b) → a ≡ b
   one a b e = cc
 
--- a call that the flash stopped
+-- A call that failed at the flash.
 pub ends_flash : {T U : Type 0} (error : FlashError) (old new : Chip) → Ends {T = T} (Err error) old new
     → EndsUpload {T = U} (Err (no.Flash error)) old new
 ends_flash error old new ends = record {
@@ -27,12 +27,12 @@ ends_flash error old new ends = record {
   off = λ is. ends.off (same_error error Off is);
 }
 
--- a call that was made on a flash that was off
+-- If a call fails because the flash is off, nothing changed.
 pub same_off : {T : Type 0} (error : FlashError) (old new : Chip) → Ends {T = T} (Err error) old new
     → error ≡ Off → new ≡ old
 same_off error old new ends is = ends.asleep (ends.off (ap (λ e. Err e) is))
 
--- after a call that left the power as it was
+-- A call that follows one without a power cut.
 pub ends_later : {T : Type 0} (result : Result T UploadError) (old mid new : Chip) → IsUncut old mid
     → (old.is_on ≡ false → mid ≡ old) → EndsUpload result mid new → EndsUpload result old new
 ends_later result old mid new uncut asleep ends = record {
@@ -42,13 +42,13 @@ ends_later result old mid new uncut asleep ends = record {
   off = λ is. sym uncut.on ∙ ends.off is;
 }
 
--- the error that a call gave is passed on
+-- A call returns the error that an inner call returned.
 pub err_passed : {T E : Type 0} (result : Result T E) (error : E) → IsErrAnd result (λ passed. passed ≡ error)
     → result ≡ Err error
 err_passed (Ok value) error is = absurd is
 err_passed (Err passed) error is = ap (λ e. Err e) is
 
--- a call of uploads that the flash didn't stop
+-- A call of uploads that didn't fail at the flash.
 pub ends_unstopped : {T : Type 0} (result : Result T UploadError) (old new : Chip) → is_flash result ≡ false
     → (old.is_on ≡ false → new ≡ old) → IsUncut old new → EndsUpload result old new
 ends_unstopped result old new well asleep uncut = record {
@@ -58,7 +58,7 @@ ends_unstopped result old new well asleep uncut = record {
   off = λ is. absurd (true≢false (sym (ap is_flash is) ∙ well));
 }
 
--- a call that only read
+-- A call that only reads leaves the power as it was.
 uncut_same : (old new : Chip) → new ≡ old → IsUncut old new
 uncut_same old new same = record {
   on = ap (λ (chip : Chip). chip.is_on) same;
@@ -68,7 +68,7 @@ uncut_same old new same = record {
 pub reads_well : {T : Type 0} (value : T) (old new : Chip) → new ≡ old → Ends (Ok value) old new
 reads_well value old new same = ended value old new (uncut_same old new same) (λ off. same)
 
--- the same of one of uploads that didn't stop at the flash
+-- A call of uploads that only reads, and didn't fail at the flash.
 pub ends_read : {T : Type 0} (result : Result T UploadError) (old new : Chip) → is_flash result ≡ false → new ≡ old
     → EndsUpload result old new
 ends_read result old new well same = ends_unstopped result old new well (λ off. same) (uncut_same old new same)
@@ -76,14 +76,14 @@ ends_read result old new well same = ends_unstopped result old new well (λ off.
 no_more : (n m : ℕ) → n ≡ m → n ≡ m + 1 → ⊥
 no_more n m same more = omega (arith, same, more)
 
--- a call that only read wasn't cut
+-- A call that only reads can fail only because the flash is off.
 pub only_off : {T : Type 0} (error : FlashError) (old new : Chip) → new ≡ old → Ends {T = T} (Err error) old new
     → error ≡ Off
 only_off Cut old new same ends = absurd (no_more new.cuts old.cuts (ap (λ (chip : Chip). chip.cuts) same)
     (ends.cut refl).cuts)
 only_off Off old new same ends = refl
 
--- a flash that was off stops a call
+-- A call on a flash that is off fails with `Off`.
 pub off_stops : {T : Type 0} (error : FlashError) (old new : Chip) → Ends {T = T} (Err error) old new
     → old.is_on ≡ false → error ≡ Off
 off_stops error old new ends off = only_off error old new (ends.asleep off) ends
@@ -92,7 +92,7 @@ pub ends_well : {T U : Type 0} (value : T) (other : U) (old new : Chip) → Ends
     → EndsUpload (Ok other) old new
 ends_well value other old new ends = ends_unstopped (Ok other) old new refl ends.asleep ends.uncut
 
--- a test that changed nothing
+-- A test that changed nothing.
 pub decides : (answer : Bool) (fact : Type 0) (old new : Chip) → new ≡ old → (IsTrue answer ↔ fact)
     → Decides fact old new (Ok answer)
 decides answer fact old new same tells = record {
@@ -102,7 +102,7 @@ decides answer fact old new same tells = record {
   ends = reads_well answer old new same;
 }
 
--- one answer isn't another
+-- An error of the flash isn't `NoSession`.
 pub not_no_session : {T : Type 0} (error : FlashError) → IsErrOf {T = T} (Err (no.Flash error)) no.NoSession → ⊥
 not_no_session error e = cc
 

@@ -1,4 +1,4 @@
--- The row of finishing.
+-- Finishing an upload is a step of the machine.
 use Rattle.std.proofs.Common.{◌≡◌, ℕ, ◌<◌, ◌==◌, Bool, true, false, List, replicate, Option, Some, None, Result, Ok, Err, refl, sym, ◌∙◌, ap, subst, ⊎_elim, inl, inr, if◌then◌else◌}
 use Rattle.std.proofs.lemmas.Bool.{eq-eqb}
 use Rattle.std.proofs.lemmas.Option.{none-some}
@@ -36,7 +36,7 @@ some_wanted a b e = cc
 some_bytes : (a b : List ℕ) → Some a ≡ Some b → a ≡ b
 some_bytes a b e = cc
 
--- what stands after a finished upload
+-- The request of a finished upload.
 pub asks : (w : View) (i : ℕ) (s : Session) → IsFinishedAt w i s
     → IsRequested (w.trailer i Secondary) (w.slot i Secondary) (Some (asked s))
 asks w i s fin =
@@ -82,7 +82,7 @@ module _ (i : ℕ) (old new : View) (keeps : KeepsView (incoming_of i) old new)
       (erased_stands (old.trailer i Secondary) (old.slot i Secondary) at.trailer)
       (up.rest.each i (subst (λ n. i < n) up.rest.images at.there)).request
 
-  -- refused: the session is closed
+  -- A refused call only closes the session.
   left : (m : Machine) (written : List ℕ) → IsUploadAt old i u written
       → new.trailer i Secondary ≡ erased_fields → tnew ≡ tmid → IsUpAt old told m
       → IsUpAt new tnew (with_session m i None)
@@ -141,7 +141,7 @@ module _ (i : ℕ) (old new : View) (keeps : KeepsView (incoming_of i) old new)
       let (next, row, now) = finishes result after m up written at (ends written at) in
       (next, inr (session_of u written, is, row), now)
 
--- the other uploads stand
+-- The other uploads still match the flash.
 module _ (i : ℕ) (old new : View) (keeps : KeepsView (incoming_of i) old new) (told tmid tnew : List (Option Upload))
     (out : IsWith i None told tmid) where
   pub finish_open : (result : Result Unit UploadError) → IsClosedAfter result tmid tnew → AllOpenAt old told

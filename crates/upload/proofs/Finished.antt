@@ -1,4 +1,4 @@
--- What finishing leaves on the flash.
+-- What finishing an upload leaves on the flash.
 use Rattle.std.proofs.Common.{◌≡◌, ◌⊎◌, ℕ, ◌+◌, ◌&&◌, ◌++◌, false, List, length, take, replicate, Some, None, Result, Ok, Err, refl, sym, ◌∙◌, ap, subst, arith, length-append, ⊎_elim, inl, inr, not, if◌then◌else◌}
 use Rattle.std.proofs.Math.Seq.{take-append_seam}
 use Rattle.flash_model.specs.declared.error.FlashError.{FlashError}
@@ -21,7 +21,7 @@ pub not_good_stands : (t : Fields) (l : List ℕ) → is_good t.magic ≡ false 
 not_good_stands t l e = ap (λ g. if g && (not t.withdrawn && first_is_set l) then Some
     (kind_of t.image_ok) else None) e
 
--- the judged slot is refused, or the flash stops the call before the request is written
+-- The checked slot is refused, or the flash fails before the request is written.
 pub refused : (w : View) (i : ℕ) (s : Session) (e : UploadError) → length s.received ≡ s.size
     → w.trailer i Secondary ≡ erased_fields → Judges s.received s.digest (Err e) → EndsFinish w i s (Err e)
 refused w i s no.DigestWrong long trailer j = (long, j, trailer)
@@ -32,7 +32,7 @@ refused w i s (no.Flash flash.Off) long trailer j =
     (long, erased_stands (w.trailer i Secondary) (w.slot i Secondary) trailer)
 refused w i s other long trailer j = absurd j
 
--- the last unit is written, and the slot is judged
+-- The last unit is written, then the slot is checked.
 module _ (i start : ℕ) (old mid judged : View) (u : Upload)
     (keeps : KeepsView (only (Slot i Secondary)) old mid) (same : judged ≡ mid)
     (wrote : (front : List ℕ) → length front ≡ start → IsWritten (old.slot i Secondary) front

@@ -1,4 +1,4 @@
--- What is left of a device at rest when one image's secondary slot and trailer are written.
+-- What doesn't change in a device at rest if one image's secondary slot and trailer are written.
 use Rattle.std.proofs.Common.{◌≡◌, ◌≢◌, ℕ, ◌<◌, ◌≤◌, ◌==◌, ◌&&◌, Bool, true, false, List, length, Option, Some, None, refl, sym, ◌∙◌, ap, subst, if◌then◌else◌}
 use Rattle.std.proofs.Math.Bool.{and-false}
 use Rattle.std.proofs.lemmas.Bool.{eqb-true, ne_eqb}
@@ -12,7 +12,7 @@ use Rattle.upload.specs.Steady.{IsFront, IsRequested, IsImageAt, IsSteadyAt, tol
 use Rattle.upload.specs.Sessions.{upload_at, IsWith, AllClosed, IsWritten, IsUploadAt, session_of, HasSession, HasSessions, IsUpAt}
 use Rattle.upload.specs.declared.sessions.Upload.{Upload}
 
--- an image's slots and trailer, seen from the others
+-- All images but one are unchanged, and so is this one's primary slot.
 pub record IsOthersKept (i : ℕ) (old new : View) : Type 0 where
   pub images : new.images ≡ old.images
   pub log : new.log ≡ old.log
@@ -38,7 +38,7 @@ others_slot i old new keeps = record {
   trailers = λ j e. keeps.trailers j Secondary refl;
 }
 
--- a request that doesn't stand
+-- If the trailer has no request, the state has none.
 pub not_asked : (t : Fields) (l : List ℕ) (wanted : Option Wanted) → told_by t l ≡ None
     → IsRequested t l wanted → wanted ≡ None
 not_asked t l None none was = refl
@@ -51,7 +51,7 @@ unasked t l none = record { kind = none; front = λ w e. absurd (none-some w e) 
 pub erased_stands : (t : Fields) (l : List ℕ) → t ≡ erased_fields → told_by t l ≡ None
 erased_stands t l e = ap (λ t. told_by t l) e
 
--- an open upload depends on the secondary slot and its trailer
+-- An open upload depends only on the secondary slot and its trailer.
 pub session_kept : (old new : View) (i : ℕ) (o : Option Upload) (s : Option Session) → new.images ≡ old.images
     → new.slot i Secondary ≡ old.slot i Secondary → new.trailer i Secondary ≡ old.trailer i Secondary
     → HasSession old i o s → HasSession new i o s
@@ -73,7 +73,7 @@ session_kept old new i (Some u) (Some s) images slot trailer (written, was, is) 
   is,
 )
 
--- at rest with other requests
+-- A device at rest after the requests changed.
 module _ (i : ℕ) (old new : View) (keeps : IsOthersKept i old new) where
   at_image : (s : DeviceState) (request : ℕ → Option Wanted) (j : ℕ) (b : Bool) → (j == i) ≡ b
       → ((j == i) ≡ false → request j ≡ s.request j)
@@ -105,7 +105,7 @@ module _ (i : ℕ) (old new : View) (keeps : IsOthersKept i old new) where
     each = λ j lt. at_image s request j (j == i) refl (others j) asked (was.each j lt);
   }
 
-  -- nothing was requested, and nothing is
+  -- The image had no request, and still has none.
   pub steady_unasked : (s : DeviceState) → i < old.images
       → told_by (old.trailer i Secondary) (old.slot i Secondary) ≡ None
       → told_by (new.trailer i Secondary) (new.slot i Secondary) ≡ None → IsSteadyAt old s
@@ -147,7 +147,7 @@ pub sessions_closed : (w : View) (sessions : List (Option Upload)) → AllClosed
     → HasSessions w sessions no_session
 sessions_closed w sessions none = record { each = λ j. subst (λ u. HasSession w j u None) (sym (none j)) tt }
 
--- a machine whose uploads are all closed
+-- A machine whose uploads are all closed.
 pub closed_up : (w : View) (sessions : List (Option Upload)) (m : Machine) (s : DeviceState) → m.is_booted ≡ true
     → IsSteadyAt w s → AllClosed sessions → IsUpAt w sessions (closed m s)
 closed_up w sessions m s up rest none = record {
@@ -161,7 +161,7 @@ pub opened_as : (w : View) (i : ℕ) (u : Upload) (s : Option Session) → HasSe
 opened_as w i u None was = absurd was
 opened_as w i u (Some s) (written, was, is) = (written, was, ap (λ x. Some x) is)
 
--- a session that is taken out and put back
+-- A session that is taken out of the table and put back.
 pub with_with : (i : ℕ) (first second : Option Upload) (a b c : List (Option Upload)) → IsWith i first a b
     → IsWith i second b c → IsWith i second a c
 with_with i first second a b c one two j = twice (j == i) (upload_at a j) (upload_at b j) (upload_at c j)
@@ -171,7 +171,7 @@ with_with i first second a b c one two j = twice (j == i) (upload_at a j) (uploa
       twice true x y z e f = f
       twice false x y z e f = f ∙ e
 
--- other images' uploads are as they were
+-- The uploads of other images don't change.
 pub with_others : (i j : ℕ) (upload : Option Upload) (a b : List (Option Upload)) → j ≢ i → IsWith i upload a b
     → upload_at b j ≡ upload_at a j
 with_others i j upload a b away now = now j ∙ ap (λ is. if is then upload else upload_at a j) (ne_eqb j i away)

@@ -1,4 +1,4 @@
--- Opening the sessions of one component after another.
+-- Opening the uploads of the components, one after the other.
 use Rattle.std.proofs.Common.{◌≡◌, ◌⊎◌, ℕ, zero, suc, ◌+◌, ◌<◌, ◌==◌, ◌&&◌, Bool, true, false, List, [], ◌∷◌, length, take, get_or, Option, Some, None, refl, sym, ◌∙◌, ap, subst, arith, add-one, ⊎_elim, inl, inr, if◌then◌else◌}
 use Rattle.std.specs.Prelude.{All}
 use Rattle.std.proofs.lemmas.Bool.{eq-eqb, eqb-true, false≢true}
@@ -24,7 +24,7 @@ if_same : (b : Bool) (x : Component) (o f : Option Component)
 if_same true x o f = refl
 if_same false x o f = refl
 
--- one component more
+-- The last component that names an image, with one component more.
 pub latest_more : (cs : List Component) (i : ℕ) (x : Component) (j : ℕ) → i < length cs → x ≡ get_or cs i x
     → latest (take (suc i) cs) j ≡ (if x.image == j then Some x else latest (take i cs) j)
 latest_more [] i x j lt is = absurd (omega arith)
@@ -33,7 +33,7 @@ latest_more (c ∷ cs) (suc i) x j lt is =
     ap (λ o. or_else o (if c.image == j then Some c else None)) (latest_more cs i x j (omega arith) is)
     ∙ if_same (x.image == j) x (latest (take i cs) j) (if c.image == j then Some c else None)
 
--- a standing request that is kept or gone, twice
+-- A request is unchanged or withdrawn after two calls, if it is after each.
 either_trans : (old mid new : View) (j : ℕ) → IsKeptOrGone old mid j → IsKeptOrGone mid new j → IsKeptOrGone old new j
 either_trans old mid new j first second = ⊎_elim
     (λ (same : (new.slot j Secondary ≡ mid.slot j Secondary)
@@ -50,7 +50,7 @@ either_trans old mid new j first second = ⊎_elim
 pub opening_none : (w : View) (named : ℕ → Option Component) → IsOpening w w named
 opening_none w named = record { images = refl; log = refl; primary = λ j. refl; slots = λ j e. refl; trailers = λ j e. refl; long = λ j. refl; either = λ j. inl (refl, refl) }
 
--- tests of images, the other way round
+-- Comparing two image numbers is symmetric.
 eqb_sym : (i j : ℕ) (b : Bool) → (j == i) ≡ b → (i == j) ≡ b
 eqb_sym i j true e = eq-eqb i j (sym (eqb-true j i e))
 eqb_sym i j false e = ⊎_elim (λ (yes : (i == j) ≡ true). absurd
@@ -59,13 +59,13 @@ eqb_sym i j false e = ⊎_elim (λ (yes : (i == j) ≡ true). absurd
       either_bool true = inl refl
       either_bool false = inr refl
 
--- one image is opened, or partly so
+-- One image is opened, completely or in part.
 module _ (old mid new : View) (named after : ℕ → Option Component) (x : Component) (next : (j : ℕ)
     → after j ≡ (if x.image == j then Some x else named j))
     (keeps : KeepsView (incoming_of x.image) mid new)
     (long : length (new.slot x.image Secondary) ≡ length (mid.slot x.image Secondary))
     (either : IsKeptOrGone mid new x.image) where
-  -- an image that isn't named isn't this one, and wasn't named before
+  -- If an image isn't named, it isn't this one, and it wasn't named before.
   other : (j : ℕ) → after j ≡ None → ((j == x.image) ≡ false) × (named j ≡ None)
   other j none = by_case (x.image == j) refl (sym (next j) ∙ none) where
     by_case : (b : Bool) → (x.image == j) ≡ b → (if b then Some x else named j) ≡ None
@@ -131,7 +131,7 @@ or_none : (o f : Option Component) → or_else o f ≡ None → (o ≡ None) × 
 or_none None f e = (refl, e)
 or_none (Some c) f e = absurd (none-some c (sym e))
 
--- who isn't named by all isn't named by the first
+-- If no component names an image, none of the first `k` does.
 pub latest_less : (cs : List Component) (k j : ℕ) → latest cs j ≡ None → latest (take k cs) j ≡ None
 latest_less [] zero j e = refl
 latest_less [] (suc k) j e = refl
@@ -175,7 +175,7 @@ pub latest_at : (cs : List Component) (i : ℕ) (d : Component) → i < length c
 latest_at cs i d lt j = ap (λ n. latest (take n cs) j) (add-one i) ∙ latest_more cs i (get_or cs i d) j lt
     (get_or_any cs i d (get_or cs i d) lt)
 
--- what a component asks for, of the last one that names an image
+-- What holds for all components holds for the last one that names an image.
 pub named_has : (P : Component → Type 0) (cs : List Component) (i : ℕ) (c : Component) → All P cs
     → latest cs i ≡ Some c
     → P c × (c.image ≡ i)
@@ -197,7 +197,7 @@ named_has P (d ∷ cs) i c all is =
 
 -- ---- the parts that are touched
 
--- a test that is a conjunction, of less
+-- If `a` implies `b` and `b && c` is false, so is `a && c`.
 less_false : (a b c : Bool) → (a ≡ true → b ≡ true) → (b && c) ≡ false → (a && c) ≡ false
 less_false true true c le e = e
 less_false true false c le e = absurd (false≢true (le refl))
@@ -209,7 +209,7 @@ some_before cs k j before = by_case (latest cs j) refl where
   by_case (Some c) e = refl
   by_case None e = absurd (false≢true (sym (ap is_some (latest_less cs k j e)) ∙ before))
 
--- the first components touch no more than all
+-- The parts of the first components are parts of all.
 pub first_parts : (cs : List Component) (k : ℕ) (part : Part) → named_parts cs part ≡ false
     → named_parts (take k cs) part ≡ false
 first_parts cs k (Slot i side) e =
@@ -246,14 +246,14 @@ module _ (cs ds : List Component) (x : Component)
   own_parts Scratch e = refl
   own_parts Log e = refl
 
-  -- one component more touches its own image more
+  -- One component more adds the parts of its own image.
   pub keeps_more : (map : SectorMap) (old mid new : Chip) → Keeps map (named_parts cs) old mid
       → Keeps map (incoming_of x.image) mid new → Keeps map (named_parts ds) old new
   keeps_more map old mid new first second = keeps_trans map (named_parts ds) old mid new
       (keeps_wider map (named_parts cs) (named_parts ds) old mid before_parts first)
       (keeps_wider map (incoming_of x.image) (named_parts ds) mid new own_parts second)
 
--- what the named images and the log touch
+-- The parts of the named images are among the accepted parts, which also have the log.
 pub parts_and_log : (cs : List Component) (part : Part) → accepted_parts cs part ≡ false → named_parts cs part ≡ false
 parts_and_log cs (Slot i side) e = e
 parts_and_log cs (TrailerOf i side) e = e

@@ -1,4 +1,4 @@
--- The row of a piece.
+-- Adding a piece is a step of the machine.
 use Rattle.std.proofs.Common.{◌≡◌, ℕ, ◌+◌, ◌<◌, ◌≤◌, ◌==◌, true, List, length, Option, Some, None, Ok, Err, refl, sym, ◌∙◌, ap, subst, arith, length-append, if◌then◌else◌}
 use Rattle.std.proofs.lemmas.Bool.Decides.{nat_tests}
 use Rattle.std.proofs.lemmas.Option.{same_Some}
@@ -15,7 +15,7 @@ use Rattle.upload.specs.declared.error.UploadError.TheVariants as no
 use Rattle.upload.proofs.Views.{view_refl}
 use Rattle.upload.proofs.Frames.{others_slot, steady_unasked, erased_stands, sessions_to, closed_up, opened_as, with_with}
 
--- the session of an upload in the table
+-- The session of an upload in the table.
 pub session_here : (w : View) (i : ℕ) (u : Upload) (sessions : List (Option Upload)) (m : Machine)
     → Some u ≡ upload_at sessions i → IsUpAt w sessions m
     → (written : List ℕ) × IsUploadAt w i u written × (m.session i ≡ Some (session_of u written))
@@ -28,7 +28,7 @@ long_session u written w i was = length-append written u.held.items ∙ sym was.
 
 module _ (i : ℕ) (old new : View) (keeps : KeepsView (only (Slot i Secondary)) old new)
     (told : List (Option Upload)) (u : Upload) (here : Some u ≡ upload_at told i) where
-  -- the slot of an open upload may be written
+  -- A write to the slot of an open upload keeps the device at rest: the image has no request.
   pub rests : (m : Machine) → IsUpAt old told m → (m.kept.request i ≡ None) × IsSteadyAt new m.kept
   rests m up =
       let (written, at, is) = session_here old i u told m here up in
@@ -101,7 +101,7 @@ some_upload a b e = cc
 same_image : (i : ℕ) → (i == i) ≡ true
 same_image i = grind (arith, nat_tests)
 
--- an upload that took more is in the table
+-- The table has the upload that received more bytes.
 pub took_more : (i : ℕ) (old new : View) (told tmid tnew : List (Option Upload)) (before after : Upload)
     (bytes : List ℕ) → Some before ≡ upload_at told i → IsWith i (Some after) tmid tnew
     → TakesMore old new i before after bytes → (u : Upload) → upload_at told i ≡ Some u
@@ -112,7 +112,7 @@ took_more i old new told tmid tnew before after bytes was put takes u is = (
   subst (λ v. TakesMore old new i v after bytes) (some_upload before u (was ∙ is)) takes,
 )
 
--- there is room for bytes in an upload, and none
+-- Bytes can't both fit an upload and exceed its size.
 pub no_room : (a b : Upload) (n : ℕ) → Some a ≡ Some b → b.received + n ≤ b.size → a.size < a.received + n → ⊥
 no_room a b n same fits long =
     let is = same_Some a b same in

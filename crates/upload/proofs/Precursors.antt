@@ -1,11 +1,11 @@
--- The digest of the image at the front of a slot.
+-- The digest of the image at the start of a slot.
 use Rattle.std.proofs.Common.{◌≡◌, List, ℕ, Option, Some, subst, sym}
 use Rattle.image_reading.specs.declared.desc.Desc.{Desc}
 use Rattle.image_reading.specs.Image.{BeginsIntact}
 use Rattle.upload.specs.Accepted.{FrontHasDigest}
 
 module _ (slot : List ℕ) (precursor : Option (List ℕ)) (digest : List ℕ) (asks : precursor ≡ Some digest) where
-  -- what is described has the digest
+  -- The described image has the required digest.
   pub has_front : (d : Desc) → BeginsIntact slot d → d.digest ≡ digest → FrontHasDigest slot precursor
   has_front d (front, rest, parts, intact) same =
       subst (λ asked. FrontHasDigest slot asked) (sym asks) (front, (rest, parts), (d, intact, same))

@@ -1,4 +1,4 @@
--- What is written where finishing an upload is refused.
+-- What is written if finishing an upload is refused.
 use Rattle.std.proofs.Common.{◌≡◌, ◌+◌, ◌-◌, ℕ, List, length, Option, Some, Ok, Err, Result, sym, ◌∙◌, subst}
 use Rattle.std.specs.Prelude.{IsErrOf}
 use Rattle.flash_model.specs.Chip.{Chip, SameOutside}
@@ -21,7 +21,7 @@ use Rattle.std.proofs.Common.{true≢false}
 use Rattle.flash_model.proofs.Ending.{no_error}
 
 module _ (map : SectorMap) (image : ℕ) (old new : Chip) where
-  -- the flash stopped the call
+  -- The call failed at the flash.
   pub stopped_finish : (upload : Option Upload) (error : FlashError)
       → RefusesFinish map image upload old new (Err (no.Flash error))
   stopped_finish upload error = record {
@@ -32,7 +32,7 @@ module _ (map : SectorMap) (image : ℕ) (old new : Chip) where
     erases = λ plain. absurd (true≢false plain);
   }
 
-  -- the call ended
+  -- The call succeeded.
   pub done_finish : (upload : Option Upload) → RefusesFinish map image upload old new (Ok tt)
   done_finish upload = record {
     no_session = λ is. absurd (no_error tt no.NoSession is);
@@ -42,7 +42,7 @@ module _ (map : SectorMap) (image : ℕ) (old new : Chip) where
     erases = tt;
   }
 
-  -- the slot was judged after the last unit was written
+  -- The slot was checked after the last unit was written.
   pub judged_finish : (u : Upload) (error : UploadError) (bytes digest : List ℕ)
       → Judges bytes digest (Err error) → Keeps map (only (Slot image Secondary)) old new
       → WritesLastUnit map image u old new → new.erases ≡ old.erases
@@ -55,7 +55,7 @@ module _ (map : SectorMap) (image : ℕ) (old new : Chip) where
     erases = λ plain. erases;
   }
 
--- the last unit lies where the bytes that are held back begin
+-- The last unit lies where the held bytes begin.
 pub last_unit : {T : Type 0} (map : SectorMap) (image held : ℕ) (u : Upload) (old mid new : Chip)
     (result : Result T FlashError) → held ≡ length u.held.items → new ≡ mid
     → Appends map image (u.received - held) u.held.items 8 old mid result → WritesLastUnit map image u old new
@@ -66,7 +66,7 @@ last_unit map image held u old mid new result long same wrote = record {
   none = λ none. same ∙ wrote.none none;
 }
 
--- an upload that is open isn't said to be none
+-- A call on an open upload doesn't return `NoSession`.
 pub some_refusal : (old new : View) (image : ℕ) (u : Upload) (result : Result Unit UploadError)
     → IsOpenAt old image u
     → ((written : List ℕ) → IsUploadAt old image u written → EndsFinish new image (session_of u written) result)

@@ -1,4 +1,4 @@
--- Where a request stands, the first unit of the slot is set, and the trailer isn't erased.
+-- If a request is pending, the first unit of the slot is set, and the trailer isn't erased.
 use Rattle.std.proofs.Common.{◌≡◌, ℕ, ◌+◌, ◌<◌, Bool, true, false, not, Some, None, refl, sym, ap, ◌∙◌, arith}
 use Rattle.std.specs.Prelude.{◌&&◌, if◌then◌else◌}
 use Rattle.flash_model.specs.Chip.{Chip}
@@ -12,7 +12,7 @@ use Rattle.trailer.specs.Fields.{Fields, erased_fields, fields_at, trailer_bytes
 use Rattle.trailer.specs.Standing.{first_is_set, incoming_slot, is_good, kind_of, standing_kind, standing_of}
 use Rattle.trailer.proofs.Erased.{erased_fields_at}
 
--- none stands where the slot begins with an erased unit
+-- No request is pending if the slot begins with an erased unit.
 unfilled : (is_good is_kept : Bool) (own kind : Kind)
     → (if is_good && (is_kept && false) then Some own else None) ≡ Some kind → ⊥
 unfilled true true own kind is = cc
@@ -25,7 +25,7 @@ filled trailer true kind is = refl
 filled trailer false kind is =
     absurd (unfilled (is_good trailer.magic) (not trailer.withdrawn) (kind_of trailer.image_ok) kind is)
 
--- none stands by an erased trailer
+-- No request is pending if the trailer is erased.
 unasked : (is_filled : Bool) (kind : Kind) → standing_kind (trailer_of erased_fields) is_filled ≡ Some kind → ⊥
 unasked is_filled kind is = cc
 
@@ -44,7 +44,7 @@ stands_in_units map chip image kind laid there stands = (
         (ap (λ (fields : Fields). standing_kind (trailer_of fields) (first_is_set (incoming_slot map chip image)))
         (sym (erased_fields_at map chip image Secondary is laid there)) ∙ stands))
 
--- what an erase of each of the two costs
+-- Erasing both costs two sectors.
 pub two : (n m : ℕ) (is_filled is_erased : Bool) → is_filled ≡ true → is_erased ≡ false
     → m ≡ n + (if is_filled then 1 else 0) + (if is_erased then 0 else 1) → m ≡ n + 2
 two n m true false set kept costs = omega (arith, costs)

@@ -1,4 +1,4 @@
--- Uploads that were kept elsewhere, and what has to be so of the flash for them to stand.
+-- When saved uploads match a flash.
 use Rattle.std.proofs.Common.{◌≡◌, ℕ, ◌+◌, ◌<◌, ◌≤◌, ◌↔◌, ◌&&◌, Bool, false, IsTrue, Option, Some, Ok, List, ◌++◌, length, take, drop, replicate, arith, refl, sym, ◌∙◌, ap, subst, length-drop}
 use Rattle.std.proofs.lemmas.Bool.{and_parts}
 use Rattle.std.proofs.lemmas.List.{ext_get_or, get_or-drop, get_or-replicate, length-replicate, length-take-le, take-append-drop}
@@ -20,14 +20,14 @@ use Rattle.upload.specs.declared.sessions.Upload.{Upload}
 use Rattle.upload.proofs.Ends.{decides}
 use Rattle.upload.proofs.Writing.{behind_erased}
 
--- the secondary slot of an image lies inside the flash
+-- The secondary slot of an image lies inside the flash.
 pub incoming_inside : (map : SectorMap) (chip : Chip) (image : ℕ) → HasImage map image chip
     → start_of map (Slot image Secondary) + length_of map (Slot image Secondary) ≤ size_of chip
 incoming_inside map chip image has =
     part_inside map chip (Slot image Secondary) has.laid_out
     (some_slot map image Secondary has.laid_out.is_map has.there)
 
--- a slot that is erased from a place on is what it begins with, and erased behind it
+-- A slot that is erased from a place on holds its first bytes, and is erased after them.
 pub erased_is_written : (map : SectorMap) (chip : Chip) (image at n : ℕ) → IsLaidOut map chip
     → at + n ≡ length_of map (Slot image Secondary)
     → IsErased chip (start_of map (Slot image Secondary) + at) n
@@ -45,7 +45,7 @@ erased_is_written map chip image at n laid whole erased =
     ∙ sym (get_or-replicate n k 0xff 0 below)) in
     record { left = n; is = sym (take-append-drop at slot) ∙ ap (λ l. take at slot ++ l) tail }
 
--- a test of the bytes behind a place is one of what the slot begins with
+-- Testing whether the slot is erased from a place on tests what the slot holds.
 pub tells_written : (map : SectorMap) (chip : Chip) (image at n : ℕ) (told : Bool) → IsLaidOut map chip
     → at + n ≡ length_of map (Slot image Secondary)
     → (IsTrue told ↔ IsErased chip (start_of map (Slot image Secondary) + at) n)
@@ -58,7 +58,7 @@ tells_written map chip image at n told laid whole tells =
           (length-take-le at slot (omega (arith, long))) written (omega arith)),
     )
 
--- an upload of such counts stands where the slot is so and the trailer reads as an erased one
+-- An upload with such counts matches the flash if the slot does and the trailer reads as erased.
 pub counts_open : (map : SectorMap) (chip : Chip) (image written : ℕ) (upload : Upload) → IsLaidOut map chip
     → HasCounts map image written upload
     → IsWritten (incoming_slot map chip image) (take written (incoming_slot map chip image))
@@ -81,7 +81,7 @@ counts_open map chip image written upload laid counts slot blank =
       },
     )
 
--- and one that stands has such counts, ..
+-- An upload that matches the flash has such counts.
 pub open_counts : (map : SectorMap) (chip : Chip) (image : ℕ) (upload : Upload) (written : List ℕ) → IsLaidOut map chip
     → IsUploadAt (view map chip) image upload written → HasCounts map image (length written) upload
 open_counts map chip image upload written laid stands = record {
@@ -93,19 +93,19 @@ open_counts map chip image upload written laid stands = record {
   room = omega (arith, stands.room, length_part map chip (Slot image Secondary) laid);
 }
 
--- .. of which there is one, ..
+-- The number of written bytes is unique.
 pub one_count : (map : SectorMap) (image a b : ℕ) (upload : Upload) → HasCounts map image a upload
     → HasCounts map image b upload → a ≡ b
 one_count map image a b upload first second = omega (arith, first.count, second.count)
 
--- .. and what is written of it is what the slot begins with
+-- The written bytes are the first bytes of the slot.
 pub written_front : (slot written : List ℕ) → IsWritten slot written → IsWritten slot (take (length written) slot)
 written_front slot written was =
     let front : take (length written) slot ≡ written =
     ap (λ l. take (length written) l) was.is ∙ take-append_seam written (replicate was.left 0xff) in
     subst (λ l. IsWritten slot l) (sym front) was
 
--- an upload stands where such counts, slot and trailer are found, and nowhere else
+-- An upload matches the flash exactly if its counts, slot and trailer do.
 tells_open : (map : SectorMap) (chip : Chip) (image written : ℕ) (upload : Upload) (erased blank : Bool)
     → IsLaidOut map chip → HasCounts map image written upload
     → (IsTrue erased ↔ IsWritten (incoming_slot map chip image) (take written (incoming_slot map chip image)))
@@ -123,13 +123,13 @@ tells_open map chip image written upload erased blank laid counts slot trailer =
       ),
 )
 
--- an upload without such counts doesn't stand
+-- An upload without such counts doesn't match the flash.
 pub no_counts : (map : SectorMap) (chip : Chip) (image : ℕ) (upload : Upload) → IsLaidOut map chip
     → ((written : ℕ) → HasCounts map image written upload → ⊥) → IsOpenAt (view map chip) image upload → ⊥
 no_counts map chip image upload laid never stands =
     never (length stands.0) (open_counts map chip image upload stands.0 laid stands.1)
 
--- of one upload, and of it if it is there
+-- A result for an open upload is a result for the table's entry.
 pub tells_one : (w : View) (image : ℕ) (told : Option Upload) (upload : Upload) (answer : Bool) → told ≡ Some upload
     → (IsTrue answer ↔ IsOpenAt w image upload)
     → IsTrue answer ↔ ((u : Upload) → told ≡ Some u → IsOpenAt w image u)
@@ -138,7 +138,7 @@ tells_one w image told upload answer is tells = (
   λ all. tells.1 (all upload is),
 )
 
--- an upload that was judged by a flash that is on, or whose counts don't fit
+-- A result for an upload, from a flash that is on, or for one whose counts don't fit.
 pub open_told : (map : SectorMap) (image : ℕ) (upload : Upload) (answer : Bool) (old new : Chip) → new ≡ old
     → (IsTrue answer ↔ IsOpenAt (view map old) image upload)
     → (old.is_on ≡ false → (written : ℕ) → HasCounts map image written upload → ⊥)
@@ -154,7 +154,7 @@ open_told map image upload answer old new same tells asked =
       ends = told.ends;
     }
 
--- an upload of such counts, whose slot and trailer were both tested by a flash that is on
+-- A result for an upload whose slot and trailer were both tested on a flash that is on.
 pub counts_told : (map : SectorMap) (image written : ℕ) (upload : Upload) (erased blank answer : Bool) (old new : Chip)
     → IsLaidOut map old → HasCounts map image written upload
     → (IsTrue erased ↔ IsWritten (incoming_slot map old image) (take written (incoming_slot map old image)))
@@ -171,7 +171,7 @@ counts_told map image written upload erased blank answer old new laid counts slo
           both ∙ ap (λ b. b && blank) passed.0 ∙ passed.1,
     ) (λ off. absurd (on off))
 
--- a table whose uploads were judged
+-- A result for a complete table.
 pub table_told : (map : SectorMap) (sessions : List (Option Upload)) (answer : Bool) (old new : Chip) → new ≡ old
     → (IsTrue answer ↔ AllOpenAt (view map old) sessions)
     → (old.is_on ≡ false → (image : ℕ) (upload : Upload) → IsFirstOpen map sessions image upload → ⊥)

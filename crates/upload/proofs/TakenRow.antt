@@ -1,4 +1,4 @@
--- The row of accepting a manifest, by what taking it answered.
+-- Accepting a manifest is a step of the machine, for each result of the call.
 use Rattle.std.proofs.Common.{◌≡◌, ℕ, ◌<◌, ◌≤◌, false, List, length, Option, Some, None, Ok, Err, Result, refl, sym, ◌∙◌, ap, subst, arith}
 use Rattle.std.specs.Prelude.{All, IfErr, slice_index_or}
 use Rattle.sector_map.specs.declared.layout.SectorMap.{SectorMap}
@@ -31,7 +31,7 @@ use Rattle.upload.proofs.Opened.{named_has}
 
 -- ---- the image that runs
 
--- what stands at the front of the primary slot is what runs
+-- If the primary slot begins with the required image, that image is the running one.
 precursor_runs : (slot : List ℕ) (digest running : Option (List ℕ)) → IsFront slot running
     → FrontHasDigest slot digest
     → IsPrecursor digest running
@@ -62,7 +62,7 @@ module _ (map : SectorMap) (w : View) (s : DeviceState) (cs : List Component) (w
   all_follow_at each = λ k c lt. let d = slice_index_or cs k c in
       runs_at_front (w.slot d.image Primary) d.precursor (s.running d.image) (runs d (there k c lt)) (each k c lt)
 
--- the sequence number of the log is the device's
+-- The sequence number of the log is the device's.
 sequence_is : (w : View) (state : State) (s : DeviceState) → w.log ≡ Some state → IsSteadyAt w s
     → state.sequence ≡ s.sequence
 sequence_is w state s read was =
@@ -75,7 +75,7 @@ not_older w state s q newer was = let same = sequence_is w state s newer.read wa
 
 module _ (map : SectorMap) (old new : View) (told tmid tnew : List (Option Upload)) (q : ℕ) (cs : List Component)
     (there : All (λ (c : Component). c.image < old.images) cs) where
-  -- what the log and the slots let be taken the device lets be taken
+  -- A manifest that passes the checks of log and slots passes those of the device's state.
   may_accept : (s : DeviceState) (state : State) → IsSteadyAt old s → MayTake map old state q cs → MayAccept map s q cs
   may_accept s state was may = record {
     newer = not_older old state s q may.newer was;
@@ -138,7 +138,7 @@ module _ (map : SectorMap) (old new : View) (told tmid tnew : List (Option Uploa
   accept_open (Err (no.Flash error)) ends after opens = open_none new tnew (after.closed refl)
   accept_open (Err other) ends after opens = absurd ends
 
--- what is left stands after the table is closed, where the flash stopped the call
+-- What accepting leaves still holds after a failure at the flash has closed the table.
 module _ (map : SectorMap) (old new : View) (told tmid tnew : List (Option Upload)) (q : ℕ) (cs : List Component) where
   same_table : IsUnchanged old new told tmid → tnew ≡ tmid → IsUnchanged old new told tnew
   same_table same after = record { flash = same.flash; table = after ∙ same.table }
@@ -154,7 +154,7 @@ module _ (map : SectorMap) (old new : View) (told tmid tnew : List (Option Uploa
   accept_ends (Err (no.Flash flash.Off)) ends after = ends
   accept_ends (Err other) ends after = absurd ends
 
--- an equal sequence number takes no record
+-- An equal sequence number doesn't change the log.
 pub equal_log : (map : SectorMap) (old mid new : Chip) (state found : State) (q : ℕ) → mid ≡ old
     → state_of map old ≡ Some state → (view map old).log ≡ Some found → state.sequence ≡ q
     → (found.sequence ≡ q → part_of map new Log ≡ part_of map mid Log) → part_of map new Log ≡ part_of map old Log
@@ -162,7 +162,7 @@ equal_log map old mid new state found q same read is equal kept =
     let one = same_state (view map old) state found read is in
     kept (ap (λ (st : State). st.sequence) (sym one) ∙ equal) ∙ ap (λ chip. part_of map chip Log) same
 
--- .. and where nothing came in nothing is written
+-- An equal sequence number writes nothing if all listed slots and trailers are erased.
 pub equal_blank : (map : SectorMap) (old mid new : Chip) (state found : State) (q : ℕ) (named cs : List Component)
     → mid ≡ old → named ≡ cs → state_of map old ≡ Some state → (view map old).log ≡ Some found → state.sequence ≡ q
     → AreBlank map old cs → (found.sequence ≡ q → AreBlank map mid named → new ≡ mid) → new ≡ old
@@ -171,7 +171,7 @@ equal_blank map old mid new state found q named cs same are read is equal blank 
     kept (ap (λ (st : State). st.sequence) (sym one) ∙ equal)
     (subst (λ chip. AreBlank map chip named) (sym same) (subst (λ xs. AreBlank map old xs) (sym are) blank)) ∙ same
 
--- what the checks refuse
+-- A failed check is the same refusal of the machine.
 pub refuses : (map : SectorMap) (w : View) (sessions : List (Option Upload)) (q : ℕ) (cs : List Component)
     (e : UploadError) → Refuses map w q cs e → EndsAccept map w w sessions sessions q cs (Err e)
 refuses map w sessions q cs no.OldSequence because = (because, record { flash = refl; table = refl })
@@ -181,14 +181,14 @@ refuses map w sessions q cs (no.Flash flash.Cut) because = absurd because
 refuses map w sessions q cs (no.Flash flash.Off) because = refl
 refuses map w sessions q cs other because = absurd because
 
--- the flash stops a manifest that is being taken
+-- The call fails at the flash while it applies a manifest.
 pub stopped : (map : SectorMap) (old new : View) (told tnew : List (Option Upload)) (q : ℕ) (cs : List Component)
     (error : FlashError) (state : State) → MayTake map old state q cs → LeavesAccept old new q
     → CutsAccept old new q cs → (error ≡ flash.Off → new ≡ old) → EndsAccept map old new told tnew q cs (Err (no.Flash error))
 stopped map old new told tnew q cs flash.Cut state may leaves cuts off = ((state, may), leaves, cuts)
 stopped map old new told tnew q cs flash.Off state may leaves cuts off = off refl
 
--- each named image is there, and its file fits the slot
+-- Each listed image exists, and its file fits the slot.
 pub named_fit : (map : SectorMap) (chip : Chip) (cs : List Component) → IsLaidOut map chip → AreThere map cs
     → AllFit map cs → (i : ℕ) (c : Component) → latest cs i ≡ Some c
     → (i < map.images) × (c.size ≤ length (part_of map chip (Slot i Secondary)))
@@ -200,7 +200,7 @@ named_fit map chip cs laid there fit i c is =
           (subst (λ k. c.size ≤ length_of map (Slot k Secondary)) at.1 long.0),
     )
 
--- the table stays after a refusal that isn't of the flash
+-- The table doesn't change after a refusal that isn't of the flash.
 pub table_stays : (result : Result Unit UploadError) (told tmid tnew : List (Option Upload))
     → IfErr result (λ error. is_flash {T = Unit} (Err error) ≡ false → tmid ≡ told)
     → IsClosedAfter result tmid tnew

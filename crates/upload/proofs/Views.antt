@@ -1,4 +1,4 @@
--- What a call that keeps parts leaves of what is seen of a flash.
+-- What the layers above see of a flash after a call that keeps some of its parts.
 use Rattle.std.proofs.Common.{◌≡◌, ℕ, Bool, length, refl, sym, ◌∙◌, ap, subst}
 use Rattle.flash_model.specs.Chip.{Chip}
 use Rattle.sector_map.specs.declared.layout.SectorMap.{SectorMap}
@@ -14,7 +14,7 @@ use Rattle.set_log.specs.Log.{state_of, state_said}
 use Rattle.set_log.specs.Ring.{register}
 use Rattle.upload.specs.View.{View, KeepsView, view}
 
--- parts that are kept read as they did
+-- Parts that are kept read as before.
 pub view_kept : (map : SectorMap) (touched : Part → Bool) (old new : Chip) → Keeps map touched old new
     → KeepsView touched (view map old) (view map new)
 unfolding fields_at state_of
@@ -38,19 +38,19 @@ view_refl touched w = record {
   log = λ e. refl;
 }
 
--- a part stays as long as it was
+-- Each part keeps its length.
 pub long_kept : (map : SectorMap) (touched : Part → Bool) (old new : Chip) (part : Part) → IsLaidOut map old
     → Keeps map touched old new → length (part_of map new part) ≡ length (part_of map old part)
 long_kept map touched old new part laid keeps =
     length_part map new part (laid_out_kept map touched old new laid keeps) ∙ sym (length_part map old part laid)
 
--- a slot stays as long as it was
+-- Each slot keeps its length.
 pub view_long : (map : SectorMap) (touched : Part → Bool) (old new : Chip) (image : ℕ) (side : Side)
     → IsLaidOut map old
     → Keeps map touched old new → length ((view map new).slot image side) ≡ length ((view map old).slot image side)
 view_long map touched old new image side laid keeps = long_kept map touched old new (Slot image side) laid keeps
 
--- a write into the slot, and then one into its trailer
+-- A write to the slot, then one to its trailer.
 pub slot_then_trailer : (map : SectorMap) (image : ℕ) (old mid read new : Chip)
     → Keeps map (only (Slot image Secondary)) old mid → read ≡ mid
     → Keeps map (only (TrailerOf image Secondary)) read new → Keeps map (incoming_of image) old new

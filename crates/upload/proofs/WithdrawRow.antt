@@ -1,4 +1,4 @@
--- The row of withdrawing.
+-- Withdrawing a request is a step of the machine.
 use Rattle.std.proofs.Common.{◌≡◌, ◌≢◌, ℕ, ◌<◌, ◌==◌, Bool, true, false, List, Option, Some, None, Result, Ok, Err, refl, sym, ◌∙◌, ap, subst, ⊎_elim, inl, inr, if◌then◌else◌}
 use Rattle.std.specs.Prelude.{option_map}
 use Rattle.std.proofs.lemmas.Bool.{eq-eqb, eqb-true}
@@ -18,7 +18,7 @@ use Rattle.upload.specs.declared.error.UploadError.TheVariants as no
 use Rattle.upload.proofs.OpenOnes.{open_none, open_of_sessions, sessions_of_open}
 use Rattle.upload.proofs.Frames.{others_kept, steady_to, session_same, closed_up, erased_stands, not_asked, unasked}
 
--- an image without a session
+-- An image without a session still has none.
 still_none : (old new : View) (i : ℕ) (o : Option Upload) (s : Option Session)
     → ((u : Upload) → o ≡ Some u → ⊥) → HasSession old i o s → HasSession new i o s
 still_none old new i None None none was = tt
@@ -104,7 +104,7 @@ module _ (i : ℕ) (old new : View) (lt : i < old.images) (keeps : KeepsView (in
       either
   withdraw_row (Err other) ends after m up = absurd ends
 
--- the uploads that stood stand on, or all are closed
+-- Uploads that matched the flash still do, or all are closed.
 module _ (i : ℕ) (old new : View) (lt : i < old.images) (keeps : KeepsView (incoming_of i) old new)
     (told tnew : List (Option Upload)) where
   pub withdraw_open : (result : Result Unit UploadError) → EndsWithdraw old new i result

@@ -1,4 +1,4 @@
--- How many sectors aren't erased where what comes in is written.
+-- The number of sectors that accepting a manifest erases.
 use Rattle.std.proofs.Common.{◌≡◌, ℕ, zero, suc, ◌+◌, ◌*◌, ◌<◌, ◌≤◌, ◌==◌, ◌&&◌, Bool, true, false, not, List, [], ◌∷◌, length, drop, get_or, slice_index, slice_range, IsTrue, ◌↔◌, arith, add-one, refl, sym, ◌∙◌, ap, subst, Option, Some, None, if◌then◌else◌}
 use Rattle.std.proofs.lemmas.Bool.{eqb-true}
 use Rattle.std.proofs.lemmas.List.{drop_all, drop_more}
@@ -25,12 +25,12 @@ use Rattle.upload.specs.Wear.{ErasesWorn, erases_of_record, one_unless_erased, s
 use Rattle.upload.proofs.AcceptRow.{same_state}
 use Rattle.upload.proofs.Writing.{behind_at, next_sector, sector_place}
 
--- a sector ends in its slot
+-- A sector of a slot ends inside the slot.
 sector_ends : (map : SectorMap) (image index : ℕ) → index < slot_sectors map image
     → (index + 1) * map.sector_size ≤ length_of map (Slot image Secondary)
 sector_ends map image index lt = mul_le (index + 1) (slot_sectors map image) map.sector_size (omega arith)
 
--- a test of a sector of the flash is a test of the slot's
+-- A test of a sector of the flash is a test of the slot's sector.
 pub sector_told : (map : SectorMap) (chip : Chip) (image index at : ℕ) (told : Bool)
     → (IsTrue told ↔ IsErased chip at map.sector_size) → IsLaidOut map chip → index < slot_sectors map image
     → at ≡ (first_of map (Slot image Secondary) + index) * map.sector_size
@@ -40,7 +40,7 @@ sector_told map chip image index at told tells laid lt is =
     ((index + 1) * map.sector_size) told tells laid (sector_ends map image index lt)
     (is ∙ sector_place map image index) (sym (next_sector map index))
 
--- a sector is as it was where its bytes are
+-- A sector of a slot is unchanged if the flash is unchanged from its start on.
 pub sector_same : (map : SectorMap) (old new : Chip) (image index : ℕ) → IsLaidOut map old → IsLaidOut map new
     → index < slot_sectors map image → length new.bytes ≡ length old.bytes
     → ((k : ℕ) → start_of map (Slot image Secondary) + index * map.sector_size ≤ k
@@ -56,7 +56,7 @@ sector_same map old new image index before after lt long same =
     ∙ range_same (start_of map part + low) (start_of map part + high) old.bytes new.bytes long (λ k at below. same k at)
     ∙ sym (range_of_part map old part low high before ends)
 
--- one more sector is counted
+-- The count after one sector more.
 pub worn_more : (map : SectorMap) (old mid : Chip) (image index : ℕ) (count now : ℕ) → IsLaidOut map old
     → IsLaidOut map mid → index < slot_sectors map image → length mid.bytes ≡ length old.bytes
     → ((k : ℕ) → start_of map (Slot image Secondary) + index * map.sector_size ≤ k
@@ -78,7 +78,7 @@ at_most_one bytes = by (are_erased bytes) where
   by true = omega arith
   by false = omega arith
 
--- behind its first sector a slot has the sectors that it had
+-- If a slot is unchanged after its first sector, so are its later sectors.
 behind_first : (size : ℕ) (old new : List ℕ) (index : ℕ) → length new ≡ length old
     → ((k : ℕ) → size ≤ k → slice_index new k ≡ slice_index old k)
     → sector_in size new (suc index) ≡ sector_in size old (suc index)
@@ -86,7 +86,7 @@ behind_first size old new index long same =
     let low = mul_le 1 (suc index) size (omega arith) in
     range_same (suc index * size) ((suc index + 1) * size) old new long (λ k at below. same k (omega (arith, low, at)))
 
--- so that the counts differ by the first one
+-- So the counts differ by the first sector only.
 worn_behind : (size : ℕ) (old new : List ℕ) (n : ℕ) → length new ≡ length old
     → ((k : ℕ) → size ≤ k → slice_index new k ≡ slice_index old k)
     → worn_in size new (suc n) + one_unless_erased (sector_in size old 0)
@@ -95,7 +95,7 @@ worn_behind size old new zero long same = omega arith
 worn_behind size old new (suc n) long same =
     omega (arith, worn_behind size old new n long same, ap one_unless_erased (behind_first size old new n long same))
 
--- where a slot's first unit is set its first sector isn't erased
+-- If the first unit of a slot is set, its first sector isn't erased.
 first_worn : (map : SectorMap) (chip : Chip) (image : ℕ) → IsLaidOut map chip → 0 < slot_sectors map image
     → (if first_is_set (incoming_slot map chip image) then 1 else 0)
     ≤ one_unless_erased (sector_in map.sector_size (incoming_slot map chip image) 0)
@@ -125,14 +125,14 @@ first_worn map chip image laid some = by (are_erased first) refl where
       omega (arith, ap {B = ℕ} (λ t. if not t then 1 else 0) unit)
   by false e = omega (arith, small (first_is_set slot), ap {B = ℕ} (λ t. if t then 0 else 1) e)
 
--- the first sector of a slot, as the trailer has it
+-- The first sector of a slot, as `trailer` defines it.
 first_is : (size : ℕ) (bytes : List ℕ) → sector_in size bytes 0 ≡ first_sector size bytes
 first_is size bytes =
     let none : 0 * size ≡ 0 = omega arith in
     let one : (0 + 1) * size ≡ size = omega arith in
     ap (λ k. slice_range bytes k ((0 + 1) * size)) none ∙ ap (λ k. slice_range bytes 0 k) one
 
--- how many sectors are erased then
+-- The number of erased sectors after a slot is opened.
 pub open_erases : (map : SectorMap) (old mid : Chip) (image now : ℕ) → IsLaidOut map old → IsLaidOut map mid
     → image < map.images → KeepsBehindFirst map image Secondary old mid
     → (first_is_set (incoming_slot map old image) ≡ true
@@ -195,7 +195,7 @@ none_in size bytes (suc n) all =
           (erased_range bytes (n * size) ((n + 1) * size) all),
     )
 
--- where all is erased no sector isn't
+-- An erased slot and trailer have no sector that isn't erased.
 pub none_worn : (map : SectorMap) (chip : Chip) (image : ℕ) → IsWritten (incoming_slot map chip image) []
     → are_erased (trailer_bytes map chip image Secondary) ≡ true → worn map chip image ≡ 0
 none_worn map chip image was trailer =
@@ -205,7 +205,7 @@ none_worn map chip image was trailer =
 
 -- ---- one component after another
 
--- an image whose slot and trailer are kept
+-- An image whose slot and trailer are kept has the same count.
 worn_kept : (map : SectorMap) (touched : Part → Bool) (old new : Chip) (image : ℕ) → Keeps map touched old new
     → touched (Slot image Secondary) ≡ false → touched (TrailerOf image Secondary) ≡ false
     → worn map new image ≡ worn map old image
@@ -214,7 +214,7 @@ worn_kept map touched old new image keeps slot trailer =
     (keeps.parts (Slot image Secondary) slot) in
     omega (arith, here, ap one_unless_erased (keeps.parts (TrailerOf image Secondary) trailer))
 
--- an image is named by one component more
+-- The first component names its image.
 named_here : (cs : List Component) (c : Component) (i : ℕ) → (c.image == i) ≡ true → is_named (c ∷ cs) i ≡ true
 named_here cs c i e =
     ap (λ t. is_some (or_else (latest cs i) (if t then Some c else None))) e ∙ by (latest cs i) where
@@ -238,7 +238,7 @@ no_more : (named : Bool) (n : ℕ) → n ≡ 0 → ◌≡◌ {A = ℕ} (if named
 no_more true n none = refl
 no_more false n none = none
 
--- once an image is erased the others have as much to erase, and it has nothing
+-- After an image is erased, the other images have the same count, and it has 0.
 worn_less : (map : SectorMap) (old new : Chip) (image : ℕ) (cs : List Component) → Keeps map (incoming_of image) old new
     → worn map new image ≡ 0
     → worn_of map old cs ≡ worn_of map new cs + (if is_named cs image then worn map old image else 0)
@@ -269,7 +269,7 @@ worn_less map old new image (c ∷ cs) keeps none =
             ap {B = ℕ} (λ t. if t then worn map old image else 0) (named_besides cs c image e),
           )
 
--- one component more
+-- The count after one component more.
 pub worn_next : (map : SectorMap) (old mid new : Chip) (cs : List Component) (i : ℕ) (d : Component) → i < length cs
     → Keeps map (incoming_of (get_or cs i d).image) mid new → worn map new (get_or cs i d).image ≡ 0
     → new.erases ≡ mid.erases + worn map mid (get_or cs i d).image
@@ -287,12 +287,12 @@ worn_next map old mid new cs i d lt keeps none one before =
       one_of (is_named later image) (worn map mid image),
     )
 
--- no component is left
+-- No component is left to count.
 pub worn_last : (map : SectorMap) (chip : Chip) (cs : List Component) (i : ℕ) → length cs ≤ i
     → worn_of map chip (drop i cs) ≡ 0
 worn_last map chip cs i le = ap (λ l. worn_of map chip l) (drop_all i cs le)
 
--- the log has no part in it
+-- Recording a sequence number doesn't change the count.
 worn_as : (map : SectorMap) (old new : Chip) (cs : List Component) → Keeps map (only Log) old new
     → worn_of map new cs ≡ worn_of map old cs
 worn_as map old new [] keeps = refl
@@ -304,14 +304,14 @@ worn_as map old new (c ∷ cs) keeps =
       worn_as map old new cs keeps,
     )
 
--- first the sequence number is recorded
+-- The count if the sequence number is recorded first.
 pub worn_erased : (map : SectorMap) (old mid new : Chip) (recorded sequence : ℕ) (cs : List Component)
     → Keeps map (only Log) old mid → mid.erases ≡ old.erases + erases_of_record map old recorded sequence
     → new.erases ≡ mid.erases + worn_of map mid cs → ErasesWorn map old new recorded sequence cs
 worn_erased map old mid new recorded sequence cs keeps first rest =
     omega (arith, first, rest, worn_as map old mid cs keeps)
 
--- by the state that the log has, whoever read it
+-- The same for the log's state, which two calls read.
 pub worn_of_state : (map : SectorMap) (old mid new : Chip) (state found : State) (sequence : ℕ)
     (named cs : List Component) → mid ≡ old → named ≡ cs → state_of map old ≡ Some state
     → (view map old).log ≡ Some found → ErasesWorn map mid new found.sequence sequence named

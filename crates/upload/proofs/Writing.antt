@@ -23,7 +23,7 @@ use Rattle.upload.specs.Sessions.{IsWritten}
 abbrev slot_of : SectorMap → Chip → ℕ → List ℕ
 slot_of map chip image = part_of map chip (Slot image Secondary)
 
--- what is left of a slot
+-- The number of bytes after the written ones.
 left_is : (slot front : List ℕ) (was : IsWritten slot front) → length slot ≡ length front + was.left
 left_is slot front was = ap length was.is ∙ length-append front (replicate was.left 0xff)
     ∙ ap (λ n. length front + n) (length-replicate was.left 0xff)
@@ -34,7 +34,7 @@ behind_at slot front was o le lt = ap (λ l. slice_index l o) was.is
     ∙ get_or-append_right front (replicate was.left 0xff) (length front) o 0 refl le
     ∙ get_or-replicate was.left (o - length front) 0xff 0 (omega (arith, left_is slot front was))
 
--- behind what is written a slot is erased
+-- A slot is erased after its written bytes.
 pub behind_erased : (map : SectorMap) (chip : Chip) (image at n : ℕ) (front : List ℕ) → IsLaidOut map chip
     → length front ≡ at → IsWritten (slot_of map chip image) front → at + n ≤ length_of map (Slot image Secondary)
     → IsErased chip (start_of map (Slot image Secondary) + at) n
@@ -49,18 +49,18 @@ behind_erased map chip image at n front laid long was room = record { each = λ 
       ∙ behind_at (slot_of map chip image) front was (k - start) (omega (arith, long))
       (omega (arith, length_part map chip (Slot image Secondary) laid))
 
--- there are some bytes, and none
+-- A list can't both be empty and have bytes.
 pub no_bytes : (bytes : List ℕ) → bytes ≡ [] → 0 < length bytes → ⊥
 no_bytes bytes none some = let long = ap length none in omega (arith, long, some)
 
--- a whole unit of a slot lies at a whole unit of the flash
+-- A unit of a slot is a unit of the flash.
 pub slot_aligned : (map : SectorMap) (image at k : ℕ) → IsMap map → at ≡ 8 * k
     → (start_of map (Slot image Secondary) + at) % 8 ≡ 0
 slot_aligned map image at k fits is =
     let start = aligned (first_of map (Slot image Secondary)) map.sector_size (units_of map fits) in
     omega (arith, start)
 
--- bytes are written behind what is written
+-- Bytes are written directly after the written ones.
 pub written_more : (map : SectorMap) (old new : Chip) (image at place : ℕ) (front bytes : List ℕ) → IsLaidOut map old
     → SameOutside place (length bytes) old new → Reads new place bytes
     → place ≡ start_of map (Slot image Secondary) + at → at + length bytes ≤ length_of map (Slot image Secondary)
@@ -83,7 +83,7 @@ written_more map old new image at place front bytes laid same reads is room long
           ∙ sym (append_assoc front bytes (replicate (was.left - length bytes) 0xff));
     }
 
--- a slot that is erased throughout
+-- A slot that is completely erased holds no bytes.
 pub slot_erased : (map : SectorMap) (chip : Chip) (image : ℕ) → IsLaidOut map chip
     → IsErased chip (start_of map (Slot image Secondary)) (length_of map (Slot image Secondary))
     → IsWritten (slot_of map chip image) []
@@ -94,7 +94,7 @@ slot_erased map chip image laid erased =
           (Slot image Secondary) laid erased;
     }
 
--- a sector of a slot
+-- A sector of a slot lies in the slot.
 pub in_slot : (map : SectorMap) (image index : ℕ) → index < slot_sectors map image
     → IsIn map (Slot image Secondary) (first_of map (Slot image Secondary) + index)
 in_slot map image index lt = record { low = omega arith; high = omega arith }
@@ -104,7 +104,7 @@ pub slot_sector : (map : SectorMap) (image index : ℕ) → IsMap map → index 
 slot_sector map image index fits lt =
     within map (Slot image Secondary) (first_of map (Slot image Secondary) + index) fits (in_slot map image index lt)
 
--- where a sector of a slot lies
+-- The place of a slot's sector.
 pub sector_place : (map : SectorMap) (image index : ℕ)
     → (first_of map (Slot image Secondary) + index) * map.sector_size
     ≡ start_of map (Slot image Secondary) + index * map.sector_size
@@ -114,7 +114,7 @@ pub next_sector : (map : SectorMap) (index : ℕ) → (index + 1) * map.sector_s
     ≡ index * map.sector_size + map.sector_size
 next_sector map index = grind arith
 
--- one more sector of a slot is erased
+-- One sector more of a slot is erased.
 pub erased_more : (map : SectorMap) (old new : Chip) (image index : ℕ)
     → IsErased old (start_of map (Slot image Secondary)) (index * map.sector_size)
     → SameOutside ((first_of map (Slot image Secondary) + index) * map.sector_size) map.sector_size old new
@@ -129,14 +129,14 @@ erased_more map old new image index was same now =
     subst (λ n. IsErased new start n) (sym (next_sector map index))
     (erased_joined new start (index * map.sector_size) map.sector_size before here)
 
--- a slot has whole units
+-- A slot consists of complete units.
 pub slot_units : (map : SectorMap) (image : ℕ) → IsMap map
     → (k : ℕ) × (length_of map (Slot image Secondary) ≡ 8 * k)
 slot_units map image fits =
     let unit = aligned (slot_sectors map image) map.sector_size (units_of map fits) in
     (length_of map (Slot image Secondary) / 8, omega (arith, unit))
 
--- so many erased bytes
+-- `n` erased bytes.
 abbrev pub filler : ℕ → List ℕ
 filler n = replicate n 0xff
 
@@ -148,7 +148,7 @@ filled_twice (suc a) b =
 pub length_filler : (n : ℕ) → length (filler n) ≡ n
 length_filler n = length-replicate {A = ℕ} n 0xff
 
--- of a unit that was filled up, what isn't filler is written
+-- The filler of a filled unit doesn't count as written.
 pub written_less : (slot front bytes all : List ℕ) (n : ℕ) → all ≡ bytes ++ filler n
     → IsWritten slot (front ++ all) → IsWritten slot (front ++ bytes)
 written_less slot front bytes all n is was = record {
@@ -162,7 +162,7 @@ written_less slot front bytes all n is was = record {
 pub take_filler : (k n : ℕ) → k ≤ n → take k (filler n) ≡ filler k
 take_filler k n le = take-replicate k n 0xff le
 
--- a sector of an erased slot is erased
+-- A sector of an erased slot is erased.
 pub sector_erased_too : (map : SectorMap) (chip : Chip) (image index : ℕ) → index < slot_sectors map image
     → IsErased chip (start_of map (Slot image Secondary)) (length_of map (Slot image Secondary))
     → IsErased chip ((first_of map (Slot image Secondary) + index) * map.sector_size) map.sector_size
@@ -175,7 +175,7 @@ sector_erased_too map chip image index lt blank =
           (omega (arith, below, high, end_of map (Slot image Secondary)));
     }
 
--- a slot that is erased stays as it is, sector by sector
+-- An erased slot doesn't change while its sectors are visited one by one.
 pub sectors_idle : (map : SectorMap) (old mid new : Chip) (image index : ℕ) → index < slot_sectors map image
     → (IsErased old (start_of map (Slot image Secondary)) (length_of map (Slot image Secondary)) → mid ≡ old)
     → (IsErased mid ((first_of map (Slot image Secondary) + index) * map.sector_size) map.sector_size → new ≡ mid)
@@ -185,7 +185,7 @@ sectors_idle map old mid new image index lt before next blank =
     next (subst (λ chip. IsErased chip ((first_of map (Slot image Secondary) + index) * map.sector_size) map.sector_size)
     (sym same) (sector_erased_too map old image index lt blank)) ∙ same
 
--- the first unit of an erased slot isn't set
+-- The first unit of an erased slot isn't set.
 pub front_blank : (map : SectorMap) (chip : Chip) (image : ℕ) → IsLaidOut map chip → image < map.images
     → IsErased chip (start_of map (Slot image Secondary)) (length_of map (Slot image Secondary))
     → first_is_set (slot_of map chip image) ≡ false
