@@ -14,7 +14,7 @@ use Rattle.decision.specs.Found.{AreReadable, IsDamagedAt, IsLowestAt, IsReading
 pub readable_none : (map : SectorMap) (w : Chip) (mask : ℕ) → AreReadable (view map w) mask 0
 readable_none map w mask k lt damaged = absurd (omega (arith, lt))
 
--- what a row says of the image that it is of
+-- What a row says of its image.
 row_says : (map : SectorMap) (old mid : Chip) (mask i : ℕ) (b : Bool) (read : Option Image) → mid ≡ old
     → b ≡ is_member mask i → IsRowAt (view map mid) b i read → IsRowAt (view map old) (is_member mask i) i read
 row_says map old mid mask i b read same is at = subst (λ m. IsRowAt (view map old) m i read) is
@@ -42,7 +42,7 @@ lowest_at map old mid mask i b read same is lt at none below = record {
   lowest = below;
 }
 
--- a table that was read tells that each image can be
+-- If a table was read, each image can be read.
 pub read_here : (map : SectorMap) (w : Chip) (mask : ℕ) (read : Reading) (table : Table)
     → IsReadingAt (view map w) mask read → read ≡ Read table → AreReadable (view map w) mask (view map w).images
 read_here map w mask read table at is = subst (λ r. IsReadingAt (view map w) mask r) is at

@@ -1,4 +1,4 @@
--- What a call does that reads an image, a row or a table of the flash.
+-- Contracts of the calls that read an image, a row or a table of the flash.
 use Rattle.std.specs.Prelude.{◌≡◌, ℕ, Bool, List, Option, Result, IfOk}
 use Rattle.flash_model.specs.declared.error.FlashError.{FlashError}
 use Rattle.flash_model.specs.Chip.{Chip, Ends}
@@ -18,15 +18,15 @@ use Rattle.machine.specs.Reading.{CanRead, CanReadAt, HasRows, IsReadOf, IsReadi
 use Rattle.machine.specs.declared.finding.Reading.{Reading}
 use Rattle.decision.specs.Found.{IsEntryAt, IsReadingAt, IsRowAt}
 
--- A call reads what a decision knows of the image that a slot begins with.
+-- A call reads what a decision uses of the image at the start of a slot.
 pub record ReadsSlot (map : SectorMap) (image : ℕ) (side : Side) (old new : Chip)
     (result : Result (Option Entry) FlashError) : Type 0 where
-  -- The flash is as it was,
+  -- The flash doesn't change.
   pub same : new ≡ old
-  -- what is read is of the image that the slot holds,
+  -- The result belongs to the image that the slot holds.
   pub ok : IfOk result (λ entry. (held : Option (List ℕ))
       → IsFront (slot_bytes map old image side) held → IsReadOf held entry)
-  -- and there is something exactly where that is intact.
+  -- The result is some entry exactly if that image is intact.
   pub front : IfOk result (IsEntryAt (slot_bytes map old image side))
   pub ends : Ends result old new
 
@@ -39,25 +39,25 @@ IsRequestIn map image chip request = (wanted : Option Wanted)
 -- A call reads the row of an image, whose slots are swapped or not.
 pub record ReadsRow (map : SectorMap) (image : ℕ) (is_swapped : Bool) (floor : ℕ) (old new : Chip)
     (result : Result (Option Image) FlashError) : Type 0 where
-  -- The flash is as it was,
+  -- The flash doesn't change.
   pub same : new ≡ old
-  -- the row is that of the device's state,
+  -- The row is that of the state that the flash holds.
   pub ok : IfOk result (λ row. (s : DeviceState) → CanReadAt (view map old) s is_swapped image
       → IsRowRead (s.running image) (s.request image) floor row)
-  -- and there is one exactly where the images in the slots that it needs are intact.
+  -- The result is a row exactly if the images that it needs are intact.
   pub front : IfOk result (IsRowAt (view map old) is_swapped image)
   pub ends : Ends result old new
 
--- A call reads the table of a device, where the slots of the images of a mask are swapped.
+-- A call reads the table of a device. The slots of the mask's images are swapped.
 pub record ReadsTable (map : SectorMap) (mask : ℕ) (floors : List ℕ) (old new : Chip)
     (result : Result Reading FlashError) : Type 0 where
-  -- The flash is as it was,
+  -- The flash doesn't change.
   pub same : new ≡ old
-  -- the table is that of the device's state, or the lowest damaged image is told,
+  -- The result is the table of the state that the flash holds, or its lowest damaged image.
   pub ok : IfOk result (λ reading. (s : DeviceState) → CanRead (view map old) s mask floors
       → IsReading s reading)
-  -- the table has a row for each image,
+  -- The table has a row for each image.
   pub whole : IfOk result (HasRows map.images)
-  -- and on any flash there is one exactly where all rows can be read.
+  -- On any flash: the result is a table exactly if all rows can be read.
   pub front : IfOk result (IsReadingAt (view map old) mask)
   pub ends : Ends result old new

@@ -1,4 +1,4 @@
-//! The decision of a device: what is found of the table that was read.
+//! The decision of a boot, from the table that it reads.
 
 ghost use Rattle.sector_map.specs.Map.{IsLaidOut};
 ghost use Rattle.decision.specs.Deciding.{FindsDecision};
@@ -11,11 +11,15 @@ use flash_model::{Flash, Result};
 use machine::{Finding, Reading};
 use sector_map::SectorMap;
 
-/// The decision of a device where the slots of the images of a mask are swapped, those of none at
-/// rest, with these floors.
+/// Reads the table of a device, and returns the decision on its requests.
+///
+/// The decision is the right report with the greatest set, if the running images are intact and
+/// valid. Otherwise it is the lowest damaged image, or that the running set isn't valid. `mask` has
+/// bit i set if the slots of image i are swapped. `floors` are the security counters below which no
+/// image is taken, one for each image. The map has to be laid out on the flash.
 ///
 /// # Errors
-/// `Off` where the flash was off. Nothing changes in any case.
+/// `Off`: the flash was off. Nothing changes in any case.
 pub fn find<F: Flash>(
     flash: &mut F,
     map: &SectorMap,

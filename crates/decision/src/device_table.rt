@@ -1,4 +1,4 @@
-//! Reading the table of what runs and what is requested.
+//! Reading the table of running and requested images from the flash.
 
 ghost use Rattle.std.specs.Prelude.{◌≡◌, true, false};
 ghost use Rattle.sector_map.specs.Map.{HasImage, IsLaidOut};
@@ -15,7 +15,7 @@ use machine::Reading;
 use sector_map::{SectorMap, Side, is_member};
 use trailer::standing;
 
-/// What a decision knows of an image, by its description.
+/// Returns what a decision uses of an image's description.
 pub fn entry_of(description: Desc) -> Entry
     ensures { result ≡ entry_of description }
 {
@@ -27,7 +27,12 @@ pub fn entry_of(description: Desc) -> Entry
     }
 }
 
-/// What a decision knows of the image that a slot begins with, if it begins with an intact one.
+/// Returns what a decision uses of the image at the start of a slot, or none if that isn't intact.
+///
+/// `image` is the image's number from 0, and the map has to have it.
+///
+/// # Errors
+/// `Off`: the flash was off. Nothing changes in any case.
 pub fn read_slot<F: Flash>(
     flash: &mut F,
     map: &SectorMap,
@@ -43,7 +48,7 @@ pub fn read_slot<F: Flash>(
     }
 }
 
-/// What is requested for an image.
+/// Returns what is requested for an image.
 fn read_request<F: Flash>(flash: &mut F, map: &SectorMap, image: u8) -> Result<Request>
     requires { HasImage map.now image (F.chip flash.old) }
     ensures { Tells (IsRequestIn map.now image) (F.chip flash.old) (F.chip flash.new) result }
@@ -57,8 +62,8 @@ fn read_request<F: Flash>(flash: &mut F, map: &SectorMap, image: u8) -> Result<R
     }
 }
 
-/// The row of an image at rest: what its primary slot begins with runs. There is none where that
-/// isn't intact.
+/// Returns the row of an image at rest, or none if the running image isn't intact. It runs from the
+/// primary slot.
 fn read_row_at_rest<F: Flash>(
     flash: &mut F,
     map: &SectorMap,
@@ -81,8 +86,8 @@ fn read_row_at_rest<F: Flash>(
     }
 }
 
-/// The row of an image whose slots are swapped: what its secondary slot begins with ran, and what
-/// its primary slot begins with was requested. There is none where either isn't intact.
+/// Returns the row of an image whose slots are swapped, or none if the image in either slot isn't
+/// intact. The secondary slot has what ran, and the primary slot what was requested.
 fn read_swapped_row<F: Flash>(
     flash: &mut F,
     map: &SectorMap,
@@ -105,7 +110,7 @@ fn read_swapped_row<F: Flash>(
     }
 }
 
-/// The row of an image, at rest or swapped.
+/// Returns the row of an image, at rest or swapped.
 fn read_row<F: Flash>(
     flash: &mut F,
     map: &SectorMap,
@@ -123,11 +128,15 @@ fn read_row<F: Flash>(
     }
 }
 
-/// The table of a device, where the slots of the images of a mask are swapped, with these floors.
-/// Each slot is read once, and a secondary one at rest only where something is requested.
+/// Reads the table of a device: what runs, and what is requested.
+///
+/// If an image that the table needs isn't intact, the result is the lowest such image instead.
+/// `mask` has bit i set if the slots of image i are swapped. `floors` has the security counter's
+/// floor for each image. Each slot is read at most once, and the secondary slot of an image at rest
+/// only if something is requested for it. The map has to be laid out on the flash.
 ///
 /// # Errors
-/// `Off` where the flash was off. Nothing changes in any case.
+/// `Off`: the flash was off. Nothing changes in any case.
 pub fn read_table<F: Flash>(
     flash: &mut F,
     map: &SectorMap,

@@ -1,4 +1,4 @@
-//! What a flash says of running and requested images, and the choice among them.
+//! Reads the running and requested images from the flash, and decides which requests to take.
 //!
 //! - Promises: The table of a device is read exactly, or the lowest image is reported whose running
 //!   bytes aren't intact. The decision is the right report with the greatest set. Nothing is

@@ -1,4 +1,4 @@
--- Each boot of a run that answers a report starts the greatest set.
+-- Each boot of a run that returns a report starts the greatest set.
 use Rattle.std.proofs.Common.{◌≡◌, ◌⊎◌, ℕ, ◌/◌, ◌%◌, ◌^◌, ◌<◌, Bool, true, false, List, [], ◌∷◌, drop, Some, None}
 use Rattle.std.proofs.Common.{refl, sym, ◌∙◌, ap, subst, arith, slice_get, ⊎_elim, inl, inr, zero, suc, if◌then◌else◌}
 use Rattle.std.proofs.lemmas.Bool.Decides.{nat_tests}
@@ -184,7 +184,7 @@ boot_starts boots s table report permanent next (read, reads, steady, (told, eit
 
 -- ---- in a run
 
--- a step that answers a report is a boot
+-- A step that replies with a report is a boot.
 booted_step : (setup : Setup) (m next : Machine) (happened : DeviceEvent) (table : Table) (report : Report)
     (permanent : Bool) → IsStep setup m happened (Booted table report permanent) next
     → (happened ≡ event.Boot) × StartsGreatest setup.boots m.kept table report permanent next.kept
@@ -234,9 +234,9 @@ booted_at setup m (e ∷ events) (r ∷ replies) last (suc place) table report p
           (subst (λ n. IsRun setup later.after (drop n events) (drop n replies) last) (add-one place) later.goes_on);
     }
 
--- ---- however often it was cut on the way
+-- ---- after any number of power cuts
 
--- a state as it is read that is on trial is the state itself
+-- If a state is on trial after it is read, it was read unchanged.
 pub read_same : (s t : DeviceState) (trial : Trial) → t.trial ≡ Some trial → IsReadAs s t → t ≡ s
 read_same s t trial tried reads = ⊎_elim
     (λ (plain : (s.trial ≡ None) × (t ≡ s)). plain.1)
@@ -248,7 +248,7 @@ read_same s t trial tried reads = ⊎_elim
     begun.2)
     reads
 
--- a complete boot that did nothing leaves the state as it is read
+-- A complete boot that does nothing leaves the state as it was read.
 finished : (boots : ℕ) (s : DeviceState) (reply : Reply) (next : DeviceState) → Boots boots s reply next
     → IsReadAs s next ⊎ DoesSomething reply
 finished boots s (Booted table report permanent) next (read, reads, steady, (told, either)) = ⊎_elim
@@ -263,7 +263,7 @@ finished boots s (Refused (no.RunningDamaged i)) next (reads, steady, damaged) =
 finished boots s (Refused no.InvalidSet) next (reads, steady, invalid) = inl reads
 finished boots s other next never = absurd never
 
--- what is read of a state as it is read
+-- Reading a state that was read adds nothing.
 read_again : (s t r : DeviceState) → IsReadAs s t → IsReadAs t r → IsReadAs s r
 read_again s t r first second = ⊎_elim
     (λ (plain : (t.trial ≡ None) × (r ≡ t)). subst (λ k. IsReadAs s k) (sym plain.1) first)

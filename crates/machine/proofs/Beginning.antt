@@ -1,4 +1,4 @@
--- A swap begins.
+-- A swap begins: its set is recorded and prepared.
 use Rattle.std.proofs.Common.{◌≡◌, ℕ, ◌<◌, ◌≤◌, ◌⊎◌, Bool, true, false, List, length, take, Option, Some, None, refl}
 use Rattle.std.proofs.Common.{sym, ◌∙◌, ap, subst, arith, inl, inr, slice_get, IsSomeAnd}
 use Rattle.std.proofs.Common.{⊎_elim, get_or}
@@ -42,7 +42,7 @@ pub some_of : {X : Type 0} (o : Option X) (P : X → Type 0) → IsSomeAnd o P �
 some_of None P h = absurd h
 some_of (Some x) P h = (x, refl, h)
 
--- a table has a row for each image
+-- A table has a row for each image.
 pub row_at : (s : DeviceState) (table : Table) (i : ℕ) → IsTableOf s table → i < s.images → (row : Image)
     × (slice_get table.images.items i ≡ Some row)
 row_at s table i rows lt = ⊎_elim
@@ -68,7 +68,7 @@ request_bytes (Some w) request.Damaged entry is intact = absurd (none-some entry
 request_bytes (Some w) (request.Entry given) entry is intact = let found = entry_bytes w.bytes given is in
     (w, found.0, refl, found.1)
 
--- a member of a valid combination has an intact request
+-- A member of a valid combination has an intact request.
 pub valid_bytes : (s : DeviceState) (table : Table) (taken : ℕ → Bool) (i : ℕ) → IsTableOf s table
     → IsValid table taken → taken i ≡ true
     → (w : Wanted) × (bytes : List ℕ) × (s.request i ≡ Some w) × (w.bytes ≡ Some bytes)
@@ -87,7 +87,7 @@ pub member_bytes : (s : DeviceState) (table : Table) (mask : ℕ) (permanent : B
 member_bytes s table mask permanent i decision member = valid_bytes s table
     (is_member mask) i decision.chosen.rows decision.chosen.greatest.valid member
 
--- what the front of a slot begins with, where it is as long as the image
+-- The first `n` bytes of a slot hold the slot's image if it isn't longer.
 pub front_take : (n : ℕ) (whole : List ℕ) (held : Option (List ℕ)) (bytes : List ℕ) → held ≡ Some bytes
     → IsFront whole held → length bytes ≤ n → IsFront (take n whole) held
 front_take n whole held bytes is front le = record {
@@ -101,13 +101,13 @@ front_take n whole held bytes is front le = record {
 pub le_trans : (a b c : ℕ) → a ≤ b → b ≤ c → a ≤ c
 le_trans a b c ab bc = omega arith
 
--- an image at the front is as short as what has room for it
+-- The image at the start of a slot isn't longer than a size that fits it.
 pub front_short : (whole : List ℕ) (held : Option (List ℕ)) (bytes : List ℕ) (n : ℕ) → held ≡ Some bytes
     → IsFront whole held → IsRoomFor whole n → length bytes ≤ n
 front_short whole held bytes n is front room =
     let found = front.image bytes is in room.each bytes found.1.0 found.0 found.1.1
 
--- with the record of the decision the set is at a place of the swap
+-- With the record of the decision, the set is at a place of the swap.
 pub swap_begins : (map : SectorMap) (old new : Chip) (laid : IsLaidOut map old) (s : DeviceState)
     (table : Table) (mask : ℕ) (permanent : Bool) (written : State)
     → IsSteadyAt (view map old) s → IsDecision s table mask permanent
@@ -167,7 +167,7 @@ begun_record map w s state mask permanent read was =
     let is = same_state map w state (logged log.Steady 0 false 0 s) read was.log in
     ap (λ (st : State). swaps_with st mask permanent) is
 
--- the passage, where it ends well
+-- Beginning the swap, if the calls succeed.
 pub begin_ok : (map : SectorMap) (old mid new : Chip) (laid : IsLaidOut map old) (state : State) (mask : ℕ)
     (permanent : Bool) → (view map old).log ≡ Some state → Keeps map (trailers_on mask Primary) old mid
     → ((i : ℕ) → i < (view map old).images → is_member mask i ≡ true → IsPrepared (view map mid) Primary i)
@@ -185,7 +185,7 @@ begin_ok map old mid new laid state mask permanent read first prepared keeps rec
           (begun_record map old s state mask permanent read was),
     )
 
--- the passage, however it ends
+-- Beginning the swap, even if a call fails.
 pub begin_either : (map : SectorMap) (old mid new : Chip) (laid : IsLaidOut map old) (state : State)
     (mask : ℕ) (permanent : Bool) → (view map old).log ≡ Some state → Keeps map (trailers_on mask Primary) old mid
     → ((i : ℕ) → i < (view map old).images → is_member mask i ≡ true → IsPrepared (view map mid) Primary i)

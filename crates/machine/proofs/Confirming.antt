@@ -1,4 +1,4 @@
--- An image of a trial is confirmed.
+-- Confirming an image of a trial.
 use Rattle.std.proofs.Common.{◌≡◌, ◌⊎◌, ℕ, ◌<◌, ◌≤◌, ◌==◌, ◌&&◌, Bool, true, false, List, Option, Some, None, refl}
 use Rattle.std.proofs.Common.{sym, ◌∙◌, ap, subst, arith, ⊎_elim, inl, inr, if◌then◌else◌, not}
 use Rattle.std.proofs.Math.Bool.{and-false}
@@ -27,7 +27,7 @@ use Rattle.machine.proofs.Reverting.{tried_same}
 use Rattle.machine.proofs.Ending.{image_outside, member_or}
 use Rattle.set_log.specs.declared.state.RecordKind.TheVariants as log
 
--- another image's trailer, or what the own trailer says besides image-ok
+-- An image on trial stays so if only its image-ok and the state's other fields change.
 tried_kept : (map : SectorMap) (old new : Chip) (s t : DeviceState) (trial after : Trial) (j : ℕ)
     → t.running j ≡ s.running j → after.old j ≡ trial.old j
     → (view map new).slot j Primary ≡ (view map old).slot j Primary
@@ -133,7 +133,7 @@ confirm_none map old new s trial i keeps at was = record {
       ((view_kept map _ _ _ keeps).trailers j Secondary (and-false (j == i))) ∙ was.unset j member;
 }
 
--- the image is on trial where the record's mask has it
+-- An image of the map is on trial if the record's mask has it.
 pub on_trial : (map : SectorMap) (w : Chip) (s : DeviceState) (trial : Trial) (state : State) (i : ℕ)
     → (view map w).log ≡ Some state → IsTrialAt (view map w) s trial → i < (view map w).images
     → is_member state.mask i ≡ true → IsOnTrial s i trial
@@ -193,7 +193,7 @@ unset_asks trailer slot unset = record {
   front = λ w e. absurd (none-some w e);
 }
 
--- a trial that is over: with the raised floors the set runs on
+-- A trial is over: the set stays, with the raised floors.
 pub trial_over : (map : SectorMap) (old new : Chip) (s : DeviceState) (trial : Trial) (floors : List ℕ)
     → Keeps map (only Log) old new → (view map new).log ≡ Some (logged log.Steady 0 false 0 (settled s floors))
     → IsTrialAt (view map old) s trial → IsSteadyAt (view map new) (settled s floors)
@@ -222,7 +222,7 @@ pub rest_stands : (map : SectorMap) (w : Chip) (s : DeviceState) → IsAtRest (v
 rest_stands map w s rest = ⊎_elim (λ (was : IsSteadyAt (view map w) s). Rests was)
     (λ (tried : (trial : Trial) × IsTrialAt (view map w) s trial). Tries tried.0 tried.1) rest
 
--- a confirmation, by the record that is read
+-- The log's record has the kind `Trial`.
 pub trial_kind : (map : SectorMap) (w : Chip) (s : DeviceState) (trial : Trial) (state : State)
     → (view map w).log ≡ Some state → IsTrialAt (view map w) s trial → state.kind ≡ log.Trial
 trial_kind map w s trial state read was = ap (λ (st : State). st.kind)

@@ -30,7 +30,7 @@ pub if_false : {X : Type 0} (b : Bool) (x y : X) → b ≡ false → (if b then 
 if_false true x y e = cc
 if_false false x y e = refl
 
--- an image outside a set that is taken
+-- An image outside a set that is taken is unchanged.
 pub image_outside : (map : SectorMap) (w : Chip) (s t : DeviceState) (i : ℕ) → t.running i ≡ s.running i
     → t.request i ≡ s.request i → IsImageAt (view map w) s i → IsImageAt (view map w) t i
 image_outside map w s t i runs asks was = record {
@@ -39,11 +39,11 @@ image_outside map w s t i runs asks was = record {
       ((view map w).slot i Secondary) wanted) (sym asks) was.request;
 }
 
--- what ran is kept for a trial
+-- The image that ran is kept for a trial.
 pub old_kept : (held : Option (List ℕ)) (bytes : List ℕ) → held ≡ Some bytes → Some (bytes_or_none held) ≡ held
 old_kept held bytes is = ap (λ h. Some (bytes_or_none h)) is ∙ sym is
 
--- an erased trailer asks for nothing
+-- An erased trailer has no request.
 pub none_asked : (trailer : Fields) (slot : List ℕ) → trailer ≡ erased_fields → IsRequested trailer slot None
 none_asked trailer slot erased = subst (λ t. IsRequested t slot None) (sym erased)
     (record { kind = refl; front = λ w e. absurd (none-some w e) })
@@ -189,7 +189,7 @@ good_either map old new state floors read keeps either s table mask was settled 
     (λ recorded. inr (good_ok map old new state floors read keeps recorded s table mask was settled))
     either
 
--- A set that is settled is recorded as one that stays, or as one on trial.
+-- A settled set is recorded as one that stays, or as one on trial.
 pub conclude : (map : SectorMap) (old mid new : Chip) (mask : ℕ) (permanent good : Bool) (left : ℕ)
     (floors : List ℕ) → permanent ≡ good → Keeps map (trailers_in mask) old mid
     → AreSettled (view map mid) mask permanent

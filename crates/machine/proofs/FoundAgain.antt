@@ -1,4 +1,4 @@
--- A decision that is found again.
+-- A decision is found again from its record.
 use Rattle.std.proofs.Common.{◌≡◌, ℕ, Bool, sym, ◌∙◌, subst}
 use Rattle.std.proofs.lemmas.Option.{none-some}
 use mathlib.Core.Path.{fun_ext}
@@ -13,7 +13,7 @@ use Rattle.machine.specs.Boots.{IsTableOf, IsDecision, IsReported, IsLowestDamag
 use Rattle.machine.proofs.Beginning.{running_bytes}
 use Rattle.machine.proofs.Unique.{one_greatest}
 
--- no running image of a decided state is damaged
+-- A state with a decision has no damaged running image.
 pub none_damaged : (s : DeviceState) (table : Table) (mask : ℕ) (permanent : Bool) (i : ℕ)
     → IsDecision s table mask permanent → IsLowestDamaged s i → ⊥
 none_damaged s table mask permanent i decision damaged =
@@ -24,7 +24,7 @@ pub valid_again : (found table : Table) (s : DeviceState) (mask : ℕ) (permanen
     → IsDecision s table mask permanent → IsValid found running_set
 valid_again found table s mask permanent same decision = subst (λ t. IsValid t running_set) (sym same) decision.chosen.valid
 
--- the set that is chosen is that of the decision
+-- The chosen set is that of the decision.
 pub chosen_again : (found table : Table) (s : DeviceState) (mask : ℕ) (permanent : Bool) (report : Report)
     → found ≡ table → IsDecision s table mask permanent → IsGreatest found (taken_in report)
     → (i : ℕ) → is_member mask i ≡ taken_in report i

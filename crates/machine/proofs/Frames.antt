@@ -1,4 +1,4 @@
--- What is left of a state when parts of the flash are written.
+-- What doesn't change in a state if some parts of the flash are written.
 use Rattle.std.proofs.Common.{◌≡◌, ℕ, ◌+◌, ◌≤◌, Bool, false, List, length, take, Some, refl, sym, ◌∙◌, ap, subst, arith}
 use Rattle.std.proofs.Math.Bool.{and-false}
 use Rattle.std.proofs.Common.{◌-◌, ◌++◌, drop}
@@ -18,7 +18,7 @@ use Rattle.upload.proofs.Views.{view_kept}
 use Rattle.upload.specs.Device.{DeviceState}
 use Rattle.upload.specs.Steady.{IsFront, IsRequested, IsImageAt, IsSteadyAt}
 
--- an image depends on its slots and its secondary trailer
+-- An image depends on its slots and its secondary trailer only.
 pub image_same : (map : SectorMap) (old new : Chip) (s : DeviceState) (i : ℕ)
     → (view map new).slot i Primary ≡ (view map old).slot i Primary
     → (view map new).slot i Secondary ≡ (view map old).slot i Secondary
@@ -30,7 +30,7 @@ image_same map old new s i first second trailer was = record {
       (subst (λ t. IsRequested t ((view map old).slot i Secondary) (s.request i)) (sym trailer) was.request);
 }
 
--- parts that Steady doesn't look at
+-- Parts that a device at rest doesn't depend on.
 pub record IsAside (touched : Part → Bool) : Type 0 where
   pub slots : (i : ℕ) (side : Side) → touched (Slot i side) ≡ false
   pub secondary : (i : ℕ) → touched (TrailerOf i Secondary) ≡ false
@@ -48,7 +48,7 @@ steady_kept map touched old new s keeps aside was = record {
       ((view_kept map _ _ _ keeps).trailers i Secondary (aside.secondary i)) (was.each i lt);
 }
 
--- the log alone was written, and says what it said
+-- Only the log was written, and its state is unchanged.
 pub steady_logged : (map : SectorMap) (old new : Chip) (s : DeviceState) → Keeps map (only Log) old new
     → (view map new).log ≡ (view map old).log → IsSteadyAt (view map old) s → IsSteadyAt (view map new) s
 steady_logged map old new s keeps recorded was = record {
@@ -63,7 +63,7 @@ steady_logged map old new s keeps recorded was = record {
 pub primary_aside : (mask : ℕ) → IsAside (trailers_on mask Primary)
 primary_aside mask = record { slots = λ i side. refl; secondary = λ i. and-false (is_member mask i); log = refl }
 
--- the record of a device at rest, with these floors
+-- The record of a device at rest, with these floors.
 abbrev pub rests_with : State → List ℕ → State
 rests_with state floors = record {
   kind = log.Steady;
@@ -74,7 +74,7 @@ rests_with state floors = record {
   floors = floors;
 }
 
--- the record of a swap that begins
+-- The record of a swap that begins.
 abbrev pub swaps_with : State → ℕ → Bool → State
 swaps_with state mask permanent = record {
   kind = log.Swap;
@@ -85,12 +85,12 @@ swaps_with state mask permanent = record {
   floors = state.floors;
 }
 
--- two readings of one log
+-- Two readings of one log are the same.
 pub same_state : (map : SectorMap) (w : Chip) (a b : State) → (view map w).log ≡ Some a
     → (view map w).log ≡ Some b → a ≡ b
 same_state map w a b first second = let e : Some a ≡ Some b = sym first ∙ second in cc
 
--- what a longer front begins with
+-- The first `n` bytes begin with an image that isn't longer.
 pub starts_take : (n : ℕ) (whole bytes : List ℕ) → Starts whole bytes → length bytes ≤ n → Starts (take n whole) bytes
 starts_take n whole bytes (rest, is) le =
     let long : n ≡ length bytes + (n - length bytes) = omega arith in (

@@ -1,4 +1,4 @@
--- Making a set ready.
+-- Preparing a set for its swap.
 use Rattle.std.proofs.Common.{◌≡◌, ℕ, ◌==◌, ◌&&◌, Bool, true, false, Some, refl, sym, ◌∙◌, ap}
 use Rattle.std.proofs.Common.{subst}
 use Rattle.std.proofs.lemmas.Bool.{eqb-true}
@@ -40,7 +40,7 @@ and_no : (a b : Bool) → a ≡ false → (a && b) ≡ false
 and_no true b e = cc
 and_no false b e = refl
 
--- an image that is ready stays so while another trailer is made ready
+-- A prepared image stays so while another image's trailer is prepared.
 pub prepared_kept : (map : SectorMap) (i j : ℕ) (side on : Side) (old new : Chip) → (i ≡ j → ⊥)
     → Keeps map (only (TrailerOf j on)) old new → IsPrepared (view map old) side i → IsPrepared (view map new) side i
 prepared_kept map i j side on old new ne keeps was =

@@ -1,4 +1,4 @@
--- Floors are raised.
+-- Raising floors to the security counters of what runs.
 use Rattle.std.proofs.Common.{◌≡◌, ℕ, ◌<◌, ◌≤◌, Bool, true, false, List, length, Option, Some, None, refl, sym, ◌∙◌}
 use Rattle.std.proofs.Common.{ap, subst, slice_index, max, if◌then◌else◌}
 use Rattle.std.proofs.lemmas.Option.{none-some}

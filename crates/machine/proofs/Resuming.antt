@@ -29,7 +29,7 @@ read_at : (map : SectorMap) (w : Chip) (s : DeviceState) (i : ℕ) (b : Bool)
 read_at map w s i true swapped rest = swapped refl
 read_at map w s i false swapped rest = rest refl
 
--- what is swapped can be read back
+-- The table of a swapped set can be read.
 pub can_read_back : (map : SectorMap) (w : Chip) (s : DeviceState) (table : Table) (kind : RecordKind) (mask : ℕ)
     (permanent : Bool) → IsSwapped (view map w) s table kind mask permanent → CanRead (view map w) s mask s.floors
 can_read_back map w s table kind mask permanent was = record {
@@ -44,14 +44,14 @@ can_read_back map w s table kind mask permanent was = record {
       (λ other. was.others i lt other);
 }
 
--- the floors of the record are those of the state
+-- The floors of the record are those of the state.
 pub record_floors : (map : SectorMap) (w : Chip) (state : State) (kind : RecordKind) (mask : ℕ) (permanent : Bool)
     (s : DeviceState) → (view map w).log ≡ Some state
     → (view map w).log ≡ Some (logged kind mask permanent 0 s) → s.floors ≡ state.floors
 record_floors map w state kind mask permanent s read is = ap (λ (st : State). st.floors)
     (sym (same_state map w state (logged kind mask permanent 0 s) read is))
 
--- the decision is found again in what is swapped
+-- The decision is found again on a swapped set.
 pub swapped_found : (map : SectorMap) (w : Chip) (state : State) (kind : RecordKind) (mask : ℕ) (finding : Finding)
     → (view map w).log ≡ Some state
     → ((s : DeviceState) (table : Table) (permanent : Bool) → CanRead (view map w) s mask state.floors
@@ -122,7 +122,7 @@ module _ (map : SectorMap) (old mid new : Chip) (state : State) (left : ℕ) (fi
         (sym same) was)),
   )
 
--- nothing else is found
+-- Nothing but the decision is found.
 pub never_found : (map : SectorMap) (old : Chip) (state : State) (finding other : Finding)
     → (view map old).log ≡ Some state
     → ((s : DeviceState) (table : Table) (permanent : Bool)
@@ -179,7 +179,7 @@ swap_finishes map old settled new state left settles ends s table was = ⊎_elim
     (λ (done : IsUpgraded left (view map new) s state.mask state.permanent). inr done)
     (ends s table (settles s table was))
 
--- in Swap too nothing else is found
+-- Nothing but the decision is found, with the record `Swap` too.
 pub never_swapped : (map : SectorMap) (old mid : Chip) (state : State) (finding other : Finding)
     → (view map old).log ≡ Some state → (view map mid).log ≡ (view map old).log
     → ((s : DeviceState) (table : Table) (permanent : Bool)

@@ -1,4 +1,4 @@
--- Going back is settled, and ends.
+-- A reverted set is settled, and the device is at rest.
 use Rattle.std.proofs.Common.{◌≡◌, ◌⊎◌, ℕ, ◌<◌, Bool, true, false, Option, Some, None}
 use Rattle.std.proofs.Common.{refl, sym, ◌∙◌, ap, subst, inl, inr, ⊎_elim}
 use Rattle.swap_scratch.proofs.Staying.{stays}
@@ -26,7 +26,7 @@ module _ (map : SectorMap) (old new : Chip) (s : DeviceState) (trial : Trial)
   kept : KeepsView (only Log) (view map old) (view map new)
   kept = view_kept map (only Log) old new keeps
 
-  -- the log alone was written, and says what it said
+  -- Only the log was written, and its state is unchanged.
   pub back_logged : (laid : IsLaidOut map old) → (view map new).log ≡ (view map old).log
       → IsSwappingBackSome map old s trial → IsSwappingBackSome map new s trial
   back_logged laid same (x, y, was) = (
@@ -45,7 +45,7 @@ module _ (map : SectorMap) (old new : Chip) (s : DeviceState) (trial : Trial)
     },
   )
 
-  -- .. and says another kind
+  -- Only the log was written, and its state has another kind.
   pub swapped_logged : (from to : RecordKind) (permanent : Bool)
       → (view map new).log ≡ Some (logged to trial.set permanent 0 s)
       → IsSwappedBack (view map old) s trial from → IsSwappedBack (view map new) s trial to
@@ -59,7 +59,7 @@ module _ (map : SectorMap) (old new : Chip) (s : DeviceState) (trial : Trial)
     others = others_logged map trial.set old new s keeps was.others;
   }
 
-  -- an image of the set: its old image runs, and nothing is requested
+  -- An image of the set: its old image runs, and nothing is requested.
   returned_member : (i : ℕ) → i < s.images → is_member trial.set i ≡ true
       → IsSwappedBack (view map old) s trial log.BackSettle → AreSettled (view map old) trial.set true
       → IsImageAt (view map new) (reverted s trial) i
@@ -77,7 +77,7 @@ module _ (map : SectorMap) (old new : Chip) (s : DeviceState) (trial : Trial)
             (kept.trailers i Secondary refl ∙ erased));
       }
 
-  -- an image outside the set
+  -- An image outside the set is unchanged.
   returned_other : (i : ℕ) → i < s.images → is_member trial.set i ≡ false
       → IsSwappedBack (view map old) s trial log.BackSettle → IsImageAt (view map new) (reverted s trial) i
   returned_other i lt other was = image_outside map new s (reverted s trial) i
@@ -98,7 +98,7 @@ module _ (map : SectorMap) (old new : Chip) (s : DeviceState) (trial : Trial)
         (member_or (is_member trial.set i));
   }
 
--- trailers of the set are written
+-- Trailers of the set are written.
 pub returning_kept : (map : SectorMap) (old new : Chip) (mask : ℕ) (s : DeviceState) (trial : Trial) (kind : RecordKind)
     → mask ≡ trial.set → Keeps map (trailers_in mask) old new → IsSwappedBack (view map old) s trial kind
     → IsSwappedBack (view map new) s trial kind
@@ -170,7 +170,7 @@ module _ (map : SectorMap) (old new : Chip) (state : State) (read : (view map ol
       (return_ok recorded s trial was settled))
       either
 
--- going back, from its record to its end
+-- Reverting, from its record to its end.
 pub back_finishes : (map : SectorMap) (new : Chip) (s : DeviceState) (trial : Trial)
     → IsSwappedBack (view map new) s trial log.BackSettle ⊎ IsSteadyAt (view map new) (reverted s trial)
     → IsGoingBack map new s trial ⊎ IsSteadyAt (view map new) (reverted s trial)

@@ -1,4 +1,4 @@
--- A trial goes back.
+-- A trial is reverted.
 use Rattle.std.proofs.Common.{◌≡◌, ℕ, ◌<◌, ◌&&◌, ◌⊎◌, Bool, true, false, List, take, Some, refl, sym, ◌∙◌, ap, subst}
 use Rattle.std.proofs.Common.{inl, inr, ⊎_elim}
 use Rattle.std.proofs.Math.Bool.{and-false}
@@ -45,7 +45,7 @@ tried_same map old new s trial i first second trailer was = record {
   copied = ap (λ (t : Fields). t.copy_done) trailer ∙ was.copied;
 }
 
--- secondary trailers of the set are written
+-- Secondary trailers of the set are written.
 pub open_kept : (map : SectorMap) (old new : Chip) (s : DeviceState) (trial : Trial)
     → Keeps map (trailers_on trial.set Secondary) old new → IsTrialOpen (view map old) s trial
     → IsTrialOpen (view map new) s trial
@@ -82,7 +82,7 @@ open_logged map old new s trial keeps same was = record {
       ((view_kept map _ _ _ keeps).trailers i Secondary refl) (was.others i lt other);
 }
 
--- with the record Back the set is at a place of the swap back
+-- With the record `Back`, the set is at a place of the swap back.
 pub back_begins : (map : SectorMap) (old new : Chip) (laid : IsLaidOut map old) (s : DeviceState)
     (trial : Trial) (permanent : Bool) → GoesBack s trial → IsTrialOpen (view map old) s trial
     → ((i : ℕ) → i < (view map old).images → is_member trial.set i ≡ true
@@ -167,7 +167,7 @@ back_either map old mid new laid state read first prepared keeps either s trial 
     (λ recorded. inr (back_ok map old mid new laid state read first prepared keeps recorded s trial goes was))
     either
 
--- the swap back stays at a place, and where it is done the old images stand in the primary slots
+-- The swap back stays at one of its places. Once it is done, the primary slots hold the old images.
 pub back_resumes : (map : SectorMap) (old new : Chip) (mask : ℕ) → Keeps map (swap_of mask Secondary) old new
     → ((x y : ℕ → List ℕ) → IsSwapAt map old Secondary mask x y → IsSwapAt map new Secondary mask x y)
     → (s : DeviceState) (trial : Trial) → mask ≡ trial.set → IsSwappingBackSome map old s trial

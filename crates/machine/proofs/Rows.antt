@@ -1,4 +1,4 @@
--- Rows of tables, as they are read.
+-- The rows of a table, as they are read.
 use Rattle.std.proofs.Common.{◌≡◌, ◌⊎◌, ℕ, ◌+◌, ◌<◌, ◌≤◌, Bool, List, [], ◌∷◌, ◌++◌, length, Option, Some, None, refl}
 use Rattle.std.proofs.Common.{sym, ◌∙◌, ap, subst, arith, slice_get, slice_index, ⊎_elim, inl, inr, zero, suc, get_or}
 use Rattle.std.proofs.Common.{length-append}
@@ -76,7 +76,7 @@ intact_request map old mid i answer kind read entry some is same reads given wan
     let intact : IsEntryOf found.0.bytes entry = subst (λ r. IsReadOf found.0.bytes r) given found.2 in
     subst (λ w. IsRequestOf w (request.Entry entry)) (sym found.1) intact
 
--- an element of a list with one more at its end
+-- An element of a list that has one element more at its end.
 push_cases : {X : Type 0} (xs : List X) (y : X) (k : ℕ) (x : X) → slice_get (xs ++ y ∷ []) k ≡ Some x
     → (slice_get xs k ≡ Some x) ⊎ ((k ≡ length xs) × (y ≡ x))
 push_cases [] y zero x e = inr (refl, value_of y x e)

@@ -1,4 +1,4 @@
--- Runs go on, are joined, and are cut into parts.
+-- Runs are continued, joined and split.
 use Rattle.std.proofs.Common.{◌≡◌, ℕ, ◌+◌, List, [], ◌∷◌, ◌++◌, length, take, drop, refl, sym, ◌∙◌, ap, subst, arith}
 use Rattle.std.proofs.Common.{zero, suc, zero-add}
 use Rattle.common.specs.declared.event.Event.TheVariants as event
@@ -10,7 +10,7 @@ use Rattle.machine.specs.Passing.{StepsTo, RunsTo}
 use Rattle.machine.specs.declared.reply.Reply.{Reply}
 use Rattle.machine.specs.declared.reply.Reply.TheVariants.{Cut}
 
--- ---- a run goes on by a run, and is two runs wherever its events are cut
+-- ---- runs are joined, and split at any event
 
 pub run_joins : (setup : Setup) (m mid last : Machine) (events more : List DeviceEvent) (replies answered : List Reply)
     → IsRun setup m events replies mid → IsRun setup mid more answered last
@@ -38,7 +38,7 @@ run_splits setup m last (e ∷ events) more (r ∷ all) (next, step, run) =
       parts.5,
     )
 
--- the state at each place of a run
+-- The state at each place of a run.
 pub run_prefix : (setup : Setup) (m last : Machine) (events : List DeviceEvent) (replies : List Reply) (k : ℕ)
     → IsRun setup m events replies last
     → (mid : Machine) × IsRun setup m (take k events) (take k replies) mid
@@ -51,7 +51,7 @@ run_prefix setup m last (e ∷ events) (r ∷ replies) (suc k) (next, step, run)
     let parts = run_prefix setup next last events replies k run in
     (parts.0, (next, step, parts.1), parts.2)
 
--- a run has a reply for each event
+-- A run has a reply for each event.
 pub run_answers : (setup : Setup) (m last : Machine) (events : List DeviceEvent) (replies : List Reply)
     → IsRun setup m events replies last → length replies ≡ length events
 run_answers setup m last [] [] run = refl
@@ -66,7 +66,7 @@ pub run_more : (setup : Setup) (m mid last : Machine) (events : List DeviceEvent
 run_more setup m mid last events replies event reply run step =
     run_joins setup m mid last events (event ∷ []) replies (reply ∷ []) run (last, step, refl)
 
--- ---- between what there is of a device before and after
+-- ---- runs of a device, from its view before and after
 
 pub runs_none : (setup : Setup) (w : DeviceView) → RunsTo setup w w [] []
 runs_none setup w = λ m holds. (m, refl, holds)
@@ -79,8 +79,7 @@ runs_more setup old mid new events replies event reply runs steps = λ m holds.
     let after = steps before.0 before.2 in
     (after.0, run_more setup m before.0 after.0 events replies event reply before.1 after.1, after.2)
 
--- as a loop over events has it: of what the device was made with, of the events so far, and of the
--- replies
+-- A run continues by one step, as a loop over events needs it.
 pub runs_on : (setup here : Setup) (old mid new : DeviceView) (events more : List DeviceEvent)
     (replies answered : List Reply) (event : DeviceEvent) (reply : Reply) → here ≡ setup
     → more ≡ events ++ event ∷ [] → answered ≡ replies ++ reply ∷ []
@@ -91,7 +90,7 @@ runs_on setup here old mid new events more replies answered event reply same is 
     (runs_more setup old mid new events replies event reply runs
     (subst (λ s. StepsTo s mid new event reply) same steps)))
 
--- ---- cuts
+-- ---- power cuts
 
 pub cuts_join : (replies answered : List Reply) → cuts_in (replies ++ answered) ≡ cuts_in replies + cuts_in answered
 cuts_join [] answered = sym (zero-add _)
@@ -104,13 +103,13 @@ cuts_on replies answered reply first mid last is before after =
     ap cuts_in is ∙ cuts_join replies (reply ∷ []) in
     omega arith
 
--- a step whose reply isn't Cut is complete
+-- A step whose reply isn't `Cut` is complete.
 uncut_step : (setup : Setup) (m next : Machine) (event : DeviceEvent) (reply : Reply) → cut_of reply ≡ 0
     → IsStep setup m event reply next → Completes setup m event reply next
 uncut_step setup m next event Cut none step = absurd (omega (arith, none))
 uncut_step setup m next event other none step = step
 
--- .. and a complete step is one whose reply isn't Cut
+-- A complete step is a step whose reply isn't `Cut`.
 pub complete_step : (setup : Setup) (m next : Machine) (event : DeviceEvent) (reply : Reply)
     → Completes setup m event reply next → IsStep setup m event reply next × (cut_of reply ≡ 0)
 complete_step setup m next event.Boot Cut step = absurd step.0

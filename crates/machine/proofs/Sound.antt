@@ -1,4 +1,4 @@
--- What runs stays intact and valid, through every step.
+-- Running images stay intact and valid if a valid combination replaces them.
 use Rattle.std.proofs.Common.{◌≡◌, ℕ, Bool, false, not, List, [], ◌∷◌, length, Option, Some, None}
 use Rattle.std.proofs.Common.{refl, sym, ◌∙◌, ap, subst, zero, suc, slice_get, slice_index}
 use Rattle.std.specs.Prelude.{IfSome, IsTrue, ◌&&◌, ◌||◌}
@@ -27,7 +27,7 @@ none_at : {X : Type 0} (k : ℕ) (x : X) → slice_get [] k ≡ Some x → ⊥
 none_at zero x e = cc
 none_at (suc k) x e = cc
 
--- a list that is made of another, element by element
+-- A list is made from another one, element by element.
 pub record IsMadeOf (R : ℕ → Image → Image → Type 0) (xs ys : List Image) : Type 0 where
   pub size : length ys ≡ length xs
   pub back : (k : ℕ) (y : Image) → slice_get ys k ≡ Some y → (x : Image) × (slice_get xs k ≡ Some x) × R k x y
@@ -95,7 +95,7 @@ same_option (Some x) (Some y) f g to back =
     let found = to x refl in
     found.2 ∙ ap g (sym (the_one y found.0 found.1))
 
--- The row of an image in the state after, from that before: what runs is what the combination had.
+-- The row of an image in the next state: the entry of the combination runs.
 abbrev IsRowAfter : (ℕ → Bool) → DeviceState → ℕ → Image → Image → Type 0
 IsRowAfter taken t k x y = (y.running ≡ entry_in x (taken k))
     × IsRowOf (t.running k) (t.request k) (slice_index t.floors k) y
@@ -138,7 +138,7 @@ module _ (table : Table) (taken : ℕ → Bool) (t : DeviceState) (ys : List Ima
         sym (same_meets y.running) ∙ ap (meets_all table taken) found.2.0 ∙ had);
   }
 
--- a state that runs what a combination of another had, where that is valid
+-- A state is sound if it runs a valid combination of another state.
 pub sound_to : (s t : DeviceState) (table : Table) (taken : ℕ → Bool) → t.images ≡ s.images → IsTableOf s table
     → ((j : ℕ) → HasMetDependencies table taken j)
     → ((i : ℕ) (row : Image) → slice_get table.images.items i ≡ Some row

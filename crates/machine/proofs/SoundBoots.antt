@@ -1,4 +1,4 @@
--- What runs stays intact and valid, through boots and confirmations.
+-- Running images stay intact and valid after boots and confirmations.
 use Rattle.std.proofs.Common.{◌≡◌, ◌⊎◌, ℕ, ◌<◌, ◌≤◌, Bool, true, false, List, [], ◌∷◌, length, Option, Some, None}
 use Rattle.std.proofs.Common.{refl, sym, ◌∙◌, ap, subst, zero, suc, arith, slice_get, ⊎_elim, inl, inr, if◌then◌else◌}
 use Rattle.std.specs.Prelude.{IsSomeAnd, unwrap_or}
@@ -24,7 +24,7 @@ use Rattle.machine.proofs.Answered.{read_same}
 use Rattle.machine.proofs.Beginning.{some_of}
 use Rattle.machine.proofs.Sound.{sound_to, the_one}
 
--- ---- the same runs, and less is requested
+-- ---- the same images run, and fewer are requested
 
 below : {X : Type 0} (xs : List X) (k : ℕ) (x : X) → slice_get xs k ≡ Some x → k < length xs
 below [] zero x e = absurd (none-some x e)
@@ -32,7 +32,7 @@ below [] (suc k) x e = absurd (none-some x e)
 below (y ∷ xs) zero x e = omega arith
 below (y ∷ xs) (suc k) x e = let rest = below xs k x e in omega arith
 
--- What is requested is as it was, or is fit to be in a table.
+-- A request is unchanged, or a table can have it.
 abbrev pub IsAskedAlike : DeviceState → DeviceState → ℕ → Type 0
 IsAskedAlike s t i = (t.request i ≡ s.request i) ⊎ ((asked : Request) × IsRequestOf (t.request i) asked)
 
@@ -47,7 +47,7 @@ sound_alike s t images runs asks (table, rows, valid) = sound_to s t table runni
     (λ (new : (asked : Request) × IsRequestOf (t.request i) asked). new)
     (asks i))
 
--- what a state without a trial has to show
+-- A state without a trial needs only its running images to be sound.
 pub all_sound : (s : DeviceState) → s.trial ≡ None → IsSound s → IsAllSound s
 all_sound s none sound = record { now = sound; before = λ trial e. absurd (none-some trial (sym none ∙ e)) }
 
@@ -67,7 +67,7 @@ read_sound s read reads sound = ⊎_elim
     begun.2)
     reads
 
--- a sound state is sound as a boot reads it
+-- A sound state is sound as a boot reads it.
 pub sound_reads : (s : DeviceState) → IsAllSound s → IsReadSound s
 sound_reads s all = record { each = λ read reads. read_sound s read reads all.now }
 
@@ -82,7 +82,7 @@ all_read s read reads all = record {
 
 -- ---- a set is taken
 
--- the requested entry of a member
+-- The requested entry of a member.
 asked_entry : (wanted : Option Wanted) (asked : Request) (running entry : Entry) → IsRequestOf wanted asked
     → intact_entry asked ≡ Some entry → IsEntryOf (wanted_bytes wanted) (unwrap_or (intact_entry asked) running)
 asked_entry None asked running entry is intact = absurd (none-some entry (sym (ap intact_entry is) ∙ intact))
@@ -92,7 +92,7 @@ asked_entry (Some w) (request.Entry given) running entry is intact = is
 
 module _ (read : DeviceState) (table : Table) (mask : ℕ) (permanent : Bool)
     (decision : IsDecision read table mask permanent) where
-  -- an entry of what runs after
+  -- The entry of an image that runs afterwards.
   entry_after : (i : ℕ) (row : Image) → slice_get table.images.items i ≡ Some row → (b : Bool)
       → is_member mask i ≡ b
       → IsEntryOf (if b then wanted_bytes (read.request i) else read.running i) (entry_in row b)
@@ -124,7 +124,7 @@ module _ (read : DeviceState) (table : Table) (mask : ℕ) (permanent : Bool)
       let q = asks_after i row at (is_member mask i) in
       (q.0, subst (λ w. IsRequestOf w q.0) (sym (asks i)) q.1))
 
-  -- what runs where the trial that begins is given up
+  -- What runs if the trial that begins is reverted.
   old_running : (boots : ℕ) (trial : Trial) → IsBegun read mask boots trial → (i : ℕ) → i < read.images
       → (b : Bool) → is_member mask i ≡ b
       → (if b then Some (trial.old i) else running_after read mask i) ≡ read.running i

@@ -1,4 +1,4 @@
--- What runs stays intact and valid, through uploads, and so through whole runs.
+-- Running images stay intact and valid after uploads, and so in complete runs.
 use Rattle.std.proofs.Common.{◌≡◌, ◌⊎◌, ℕ, ◌==◌, Bool, true, false, List, [], ◌∷◌, Option, Some, None, Result, Ok, Err}
 use Rattle.std.proofs.Common.{refl, sym, ◌∙◌, ap, subst, ⊎_elim, inl, inr, if◌then◌else◌}
 use Rattle.common.specs.declared.event.Event.TheVariants as event
@@ -24,9 +24,9 @@ use Rattle.machine.specs.declared.reply.Reply.TheVariants.{Done, Booted, Reverte
 use Rattle.machine.proofs.SoundBoots.{IsAskedAlike, all_sound, boot_cut_sound, booted_sound}
 use Rattle.machine.proofs.SoundBoots.{confirmed_sound, sound_alike}
 
--- ---- states that differ in what is requested alone
+-- ---- states that differ only in their requests
 
--- The same runs, and what is requested anew is fit to be in a table.
+-- The same images run, and a table can have each new request.
 pub record IsAlike (s t : DeviceState) : Type 0 where
   pub images : t.images ≡ s.images
   pub trial : t.trial ≡ s.trial
@@ -39,7 +39,7 @@ alike_refl s = record { images = refl; trial = refl; running = λ i. refl; asks 
 alike_same : (s t : DeviceState) → t ≡ s → IsAlike s t
 alike_same s t is = subst (λ k. IsAlike s k) (sym is) (alike_refl s)
 
--- a machine whose flash keeps what it kept
+-- The state of the flash is unchanged.
 kept_same : (m next other : Machine) → other.kept ≡ m.kept → next ≡ other → IsAlike m.kept next.kept
 kept_same m next other kept is = alike_same m.kept next.kept (ap (λ (k : Machine). k.kept) is ∙ kept)
 
@@ -47,7 +47,7 @@ alike_sound : (s t : DeviceState) → IsAlike s t → s.trial ≡ None → IsAll
 alike_sound s t alike none all = all_sound t (alike.trial ∙ none)
     (sound_alike s t alike.images (λ i lt. alike.running i) alike.asks all.now)
 
--- another request for one image
+-- Another request for one image.
 alike_with : (s : DeviceState) (i : ℕ) (wanted : Option Wanted) → (fit : Request) × IsRequestOf wanted fit
     → IsAlike s (with_request s i wanted)
 alike_with s i wanted fits = record {
@@ -90,7 +90,7 @@ withdraws_alike m next i (Err (upload.Flash flash.Cut)) (stood, either) = ⊎_el
 withdraws_alike m next i (Err (upload.Flash flash.Off)) is = kept_same m next _ refl is
 withdraws_alike m next i (Err other) never = absurd never
 
--- a good upload is fit to be requested
+-- A table can have the request of a good upload.
 good_fits : (session : Session) → IsGoodUpload session
     → (fit : Request) × IsRequestOf (Some (asked session)) fit
 good_fits session good = (
@@ -223,7 +223,7 @@ completes_sound setup m next event.Boot reply (booted, is) all =
     booted_sound setup.boots m.kept reply next.kept booted all
 completes_sound setup m next event.Reset reply at all = resets_sound m next reply at all
 
--- ---- steps that are cut
+-- ---- steps with a power cut
 
 uploads_cut_sound : (row : Row) (m next : Machine)
     → ((mid : Machine) (result : Result Unit UploadError) → row result mid → IsAlike m.kept mid.kept)

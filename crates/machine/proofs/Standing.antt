@@ -1,4 +1,4 @@
--- Which record stands, and what a boot comes to from it.
+-- Which record the log has, and what a boot results in from it.
 use Rattle.std.proofs.Common.{◌≡◌, ◌⊎◌, ℕ, ◌+◌, Bool, false, Some, None, refl, subst, inl, inr, ⊎_elim}
 use Rattle.flash_model.specs.Chip.{Chip}
 use Rattle.sector_map.specs.declared.layout.SectorMap.{SectorMap}
@@ -21,9 +21,9 @@ use Rattle.machine.specs.declared.reply.Reply.TheVariants.{Reverted}
 use Rattle.machine.proofs.Frames.{same_state}
 use Rattle.machine.proofs.Upgrading.{ended_cut, found_boots}
 
--- ---- the record that stands
+-- ---- the record of the log
 
--- a flash stands for a state by a record of this kind
+-- A flash holds a state by a record of this kind.
 abbrev pub StandsAs : SectorMap → Chip → DeviceState → State → RecordKind → Type 0
 StandsAs map w s state log.Steady = IsSteadyAt (view map w) s
 StandsAs map w s state log.Swap = (table : Table) × IsSwappingSome map w s table state.mask state.permanent
@@ -36,7 +36,7 @@ StandsAs map w s state log.Back =
 StandsAs map w s state log.BackSettle =
     (trial : Trial) × (state.mask ≡ trial.set) × IsSwappedBack (view map w) s trial log.BackSettle
 
--- what is said of one reading of the log is said of another
+-- What holds for one reading of the log holds for another.
 as_read : (map : SectorMap) (w : Chip) (s : DeviceState) (is state : State) → (view map w).log ≡ Some is
     → (view map w).log ≡ Some state → StandsAs map w s is is.kind → StandsAs map w s state state.kind
 as_read map w s is state recorded read stands =
@@ -142,7 +142,7 @@ module _ (map : SectorMap) (old new : Chip) (state : State) (left : ℕ) (read :
       found_boots map new s swapped.0 state.mask left state.permanent finding swapped.1.trial swapped.1.decision
       (ends s swapped.0 swapped.1)
 
--- ---- a boot from a record of going back
+-- ---- a boot from a record of a revert
 
 going_stands : (map : SectorMap) (w : Chip) (s : DeviceState) (trial : Trial) → IsGoingBack map w s trial
     → Stands map w s

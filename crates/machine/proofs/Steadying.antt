@@ -1,4 +1,4 @@
--- A boot from Steady.
+-- A boot of a device at rest.
 use Rattle.std.proofs.Common.{◌≡◌, ℕ, ◌<◌, ◌≤◌, ◌%◌, ◌^◌, ◌==◌, true, false, length, Some, refl, sym, ◌∙◌, ap, subst}
 use Rattle.std.proofs.Common.{⊎_elim, inl}
 use Rattle.std.proofs.lemmas.Option.{slice_get_past}
@@ -40,7 +40,7 @@ taken_below report n i long taken = ⊎_elim
     (slice_get_past report.images.items i le)) ∙ taken)))
     (cases_lt i (length report.images.items))
 
--- at rest all can be read
+-- The table of a device at rest can be read.
 pub can_read : (map : SectorMap) (w : Chip) (s : DeviceState) (state : State) → (view map w).log ≡ Some state
     → IsSteadyAt (view map w) s → CanRead (view map w) s 0 state.floors
 can_read map w s state read was = record {
@@ -91,7 +91,7 @@ pub invalid_boots : (map : SectorMap) (boots : ℕ) (w : Chip) (s : DeviceState)
     → IsFinding s Invalid → EndsBoot map boots w s (Refused InvalidSet)
 invalid_boots map boots w s was invalid = (s, (inl (was.trial, refl), was.trial, invalid), Rests was, λ e. inl was)
 
--- what was found at rest, on a flash that was only read
+-- The result of reading a flash at rest.
 module _ (map : SectorMap) (boots : ℕ) (old mid : Chip) (state : State) (finding : Finding)
     (read : (view map old).log ≡ Some state) (same : mid ≡ old)
     (finds : (s : DeviceState) → CanRead (view map old) s 0 state.floors → IsFinding s finding) where

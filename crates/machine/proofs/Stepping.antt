@@ -1,4 +1,4 @@
--- What the calls of a device leave, as steps of the machine: boots, confirmations and resets.
+-- Boots, confirmations and resets of a device are steps of the machine.
 use Rattle.std.proofs.Common.{◌≡◌, ℕ, ◌==◌, Bool, true, false, List, Option, Some, None, Result, Ok}
 use Rattle.std.proofs.Common.{Err, IfOk, refl, sym, ◌∙◌, ap, subst}
 use Rattle.std.proofs.Math.Bool.{and-false}
@@ -41,7 +41,7 @@ use Rattle.machine.proofs.Confirming.{rest_stands}
 
 -- ---- power
 
--- what stands doesn't depend on power and counts
+-- What the flash holds doesn't depend on its power and its counts.
 pub stands_logged : (map : SectorMap) (old new : Chip) (s : DeviceState) → IsLaidOut map old
     → Keeps map (only Log) old new → (view map new).log ≡ (view map old).log → Stands map old s → Stands map new s
 stands_logged map old new s laid keeps same (Rests was) = Rests (steady_logged map old new s keeps same was)
@@ -67,13 +67,13 @@ keeps_powered map touched old new is = keeps_bytes map touched old new
     (ap (λ (chip : Chip). chip.fixed) is)
     (ap (λ (chip : Chip). chip.bytes) is)
 
--- what stands when power fails stands when it is back
+-- What the flash holds when power fails, it holds when power is back.
 pub powered : (map : SectorMap) (old new : Chip) (s : DeviceState) → IsLaidOut map old
     → new ≡ record old { is_on = true } → Stands map old s → Stands map new s
 powered map old new s laid is = stands_logged map old new s laid (keeps_powered map (only Log) old new is)
     ((view_kept map (λ part. false) old new (keeps_powered map (λ part. false) old new is)).log refl)
 
--- a device that is reset, and has power, holds what stands
+-- A device that is reset, and has power, holds the same state.
 pub holds_asleep : (map : SectorMap) (mid new : Chip) (told : List (Option Upload)) (s : DeviceState)
     → IsLaidOut map mid → new ≡ record mid { is_on = true } → AllClosed told → Stands map mid s
     → Holds map (record { flash = new; sessions = told; up = false }) (asleep s)
@@ -116,7 +116,7 @@ steps_boot setup old new told tnew up answer reply is none ends m holds =
       },
     )
 
--- a flash without a state holds none
+-- A log without a state can't have one.
 no_state : {X : Type 0} (state : State) → None ≡ Some state → X
 no_state state e = absurd (never e) where
   never : None ≡ Some state → ⊥
@@ -137,7 +137,7 @@ pub steps_no_state : (setup : Setup) (old new : DeviceView) (happened : DeviceEv
 steps_no_state setup old new happened reply none m holds =
     absurd (stands_some setup.map old.flash m.kept holds.stands none)
 
--- ---- a device that isn't up
+-- ---- a device that isn't booted
 
 pub steps_not_up : (setup : Setup) (w : DeviceView) (happened : DeviceEvent) → w.up ≡ false → needs_up happened ≡ true
     → StepsTo setup w w happened (Refused no.NotBooted)
@@ -200,7 +200,7 @@ module _ (setup : Setup) (old : Chip) (told : List (Option Upload)) (up : Bool) 
         },
       )
 
--- ---- a device that isn't up holds its state with and without power
+-- ---- a device that isn't booted holds its state with and without power
 
 holds_repowered : (map : SectorMap) (old new : Chip) (told : List (Option Upload)) (m : Machine) → IsLaidOut map old
     → ((touched : Part → Bool) → Keeps map touched old new)
@@ -219,7 +219,7 @@ holds_repowered map old new told m laid keeps holds =
       closed = holds.closed;
     }
 
--- power comes back after a step ..
+-- Power returns after a step.
 pub steps_on : (setup : Setup) (old : DeviceView) (mid new : Chip) (told : List (Option Upload))
     (happened : DeviceEvent) (reply : Reply) → IsLaidOut setup.map mid → new ≡ record mid { is_on = true }
     → StepsTo setup old (record { flash = mid; sessions = told; up = false }) happened reply
@@ -239,7 +239,7 @@ pub if_ok_both : {T E : Type 0} (r : Result T E) (P Q S : T → Type 0) → ((x 
 if_ok_both (Ok x) P Q S both p q = both x p q
 if_ok_both (Err e) P Q S both p q = tt
 
--- ---- a boot from a sound state answers
+-- ---- a boot from a sound state isn't refused
 
 pub boots_answer : (boots : ℕ) (s : DeviceState) (reply : Reply) (next : DeviceState) → IsReadSound s
     → Boots boots s reply next → is_answer reply ≡ true

@@ -1,4 +1,4 @@
--- The table of swap types tells of trials and of requests.
+-- The table of swap types shows trials and requests.
 use Rattle.std.proofs.Common.{◌≡◌, ℕ, ◌<◌, ◌&&◌, Bool, true, false, not, Some, None, refl, ◌∙◌, ap, if◌then◌else◌}
 use Rattle.std.specs.Prelude.{option_map}
 use Rattle.std.proofs.lemmas.Option.{none-some}
@@ -17,7 +17,7 @@ use Rattle.upload.specs.Steady.{IsSteadyAt}
 use Rattle.machine.specs.Holding.{IsTrialAt}
 use Rattle.machine.specs.SwapTypes.{swap_type_at, type_of}
 
--- the table, field by field
+-- MCUboot's table, field by field.
 abbrev by_fields : Magic → Bool → Bool → Magic → Bool → SwapType
 by_fields first copied ok second asked =
     if is_good second && not asked then type.Test

@@ -1,4 +1,4 @@
--- A swap goes on, is settled, and ends.
+-- A swap is resumed, settled, and ends.
 use Rattle.std.proofs.Common.{◌≡◌, ℕ, ◌<◌, ◌==◌, ◌&&◌, ◌⊎◌, Bool, true, false, List, Option, Some, refl, sym}
 use Rattle.std.proofs.Common.{◌∙◌, ap, subst, inl, inr, ⊎_elim}
 use Rattle.std.proofs.lemmas.Option.{none-some}
@@ -28,14 +28,14 @@ use Rattle.machine.proofs.Preparing.{eqb_no}
 use Rattle.machine.proofs.Beginning.{running_bytes, member_bytes}
 use Rattle.set_log.specs.declared.state.RecordKind.TheVariants as log
 
--- a swap writes nothing in the log
+-- A swap writes nothing in the log.
 pub swap_off_log : (mask : ℕ) (side : Side) (part : Part) → swap_of mask side part ≡ true → only Log part ≡ false
 swap_off_log mask side (Slot i on) e = refl
 swap_off_log mask side (TrailerOf i on) e = refl
 swap_off_log mask side Scratch e = refl
 swap_off_log mask side Log e = sym e
 
--- others while a set is swapped
+-- The other images, while a set is swapped.
 pub others_swapped : (map : SectorMap) (mask : ℕ) (on : Side) (old new : Chip) (s : DeviceState)
     → Keeps map (swap_of mask on) old new
     → ((i : ℕ) → i < s.images → is_member mask i ≡ false → IsImageAt (view map old) s i) → (i : ℕ)
@@ -47,7 +47,7 @@ others_swapped map mask on old new s keeps was i lt other = image_same map old n
       no_and true b e = cc
       no_and false b e = refl
 
--- a swap stays at a place
+-- A swap stays at one of its places.
 pub swap_resumes : (map : SectorMap) (old new : Chip) (mask : ℕ) → Keeps map (swap_of mask Primary) old new
     → ((x y : ℕ → List ℕ) → IsSwapAt map old Primary mask x y → IsSwapAt map new Primary mask x y)
     → (s : DeviceState) (table : Table) (permanent : Bool) → IsSwappingSome map old s table mask permanent
@@ -67,7 +67,7 @@ swap_resumes map old new mask keeps resumes s table permanent (x, y, was) = (
   },
 )
 
--- a front of contents that a slot begins with
+-- The image that a slot holds is at the start of its contents.
 pub front_moved : (whole contents : List ℕ) (held : Option (List ℕ)) (bytes : List ℕ) → held ≡ Some bytes
     → Starts whole contents → IsFront contents held → IsFront whole held
 front_moved whole contents held bytes is starts front = record {
@@ -75,7 +75,7 @@ front_moved whole contents held bytes is starts front = record {
   none = λ e. absurd (none-some bytes (sym (sym is ∙ e)));
 }
 
--- a swap is done
+-- A swap is done.
 pub swap_done : (map : SectorMap) (old new : Chip) (mask : ℕ) → Keeps map (swap_of mask Primary) old new
     → ((x y : ℕ → List ℕ) → IsSwapAt map old Primary mask x y → (i : ℕ) → is_member mask i ≡ true
     → Starts ((view map new).slot i Primary) (y i) × Starts ((view map new).slot i Secondary) (x i))
@@ -145,7 +145,7 @@ settle_record : (map : SectorMap) (w : Chip) (state : State) (a b : RecordKind) 
 settle_record map w state a b mask permanent s read is = ap (λ (st : State). record st { kind = b })
     (same_state map w state (logged a mask permanent 0 s) read is)
 
--- from Swap to Settle
+-- The record changes from `Swap` to `Settle`.
 pub settle_ok : (map : SectorMap) (old new : Chip) (state : State) → (view map old).log ≡ Some state
     → Keeps map (only Log) old new → (view map new).log ≡ Some (record state { kind = log.Settle })
     → (s : DeviceState) (table : Table) (mask : ℕ) (permanent : Bool)
@@ -168,7 +168,7 @@ settle_either map old new laid state read keeps either s table mask permanent sw
     (λ recorded. inr (settle_ok map old new state read keeps recorded s table mask permanent was))
     either
 
--- trailers of the set are written
+-- Trailers of the set are written.
 pub settling_kept : (map : SectorMap) (old new : Chip) (mask : ℕ) → Keeps map (trailers_in mask) old new
     → (s : DeviceState) (table : Table) (kind : RecordKind) (permanent : Bool)
     → IsSwapped (view map old) s table kind mask permanent → IsSwapped (view map new) s table kind mask permanent
@@ -186,7 +186,7 @@ settling_kept map old new mask keeps s table kind permanent was = record {
       ((view_kept map _ _ _ keeps).trailers i Secondary other) (was.others i lt other);
 }
 
--- an image that is settled stays so while another one is settled
+-- A settled image stays so while another image is settled.
 pub settled_kept : (map : SectorMap) (i j : ℕ) (permanent : Bool) (old new : Chip) → (i ≡ j → ⊥)
     → Keeps map (trailers_of j) old new → IsSettledAt (view map old) i permanent
     → IsSettledAt (view map new) i permanent

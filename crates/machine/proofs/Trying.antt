@@ -1,4 +1,4 @@
--- A boot from a trial.
+-- A boot of a device on trial.
 use Rattle.std.proofs.Common.{◌≡◌, ◌≢◌, ◌⊎◌, ℕ, ◌+◌, ◌<◌, ◌≤◌, Bool, true, false, List, length, Option, Some, None}
 use Rattle.std.proofs.Common.{refl, sym, ◌∙◌, ap, subst, arith, ⊎_elim, inl, inr, max, slice_index, set}
 use Rattle.std.proofs.Common.{length-set, get_or-set_same, get_or-set_other}
@@ -67,10 +67,10 @@ past_next i n le = omega arith
 past_this : (i n : ℕ) → n + 1 ≤ i → n ≤ i
 past_this i n le = omega arith
 
--- one more floor is raised
+-- One floor more is raised.
 module _ (s : DeviceState) (n v : ℕ) (floors before : List ℕ) (lt : n < length before) (same : s.floors ≡ floors)
     (was : IsRaised n s.running s.floors before) (new : IsFloorOf (s.running n) (slice_index floors n) v) where
-  -- at the place that is written
+  -- The floor that is written.
   set_here : (i : ℕ) → i ≡ n → slice_index (set before n v) i ≡ v
   set_here i here = ap (λ k. slice_index (set before n v) k) here ∙ get_or-set_same before n v 0 lt
 
@@ -80,7 +80,7 @@ module _ (s : DeviceState) (n v : ℕ) (floors before : List ℕ) (lt : n < leng
   running_here : (i : ℕ) (held : Option (List ℕ)) → i ≡ n → s.running i ≡ held → s.running n ≡ held
   running_here i held here e = ap s.running (sym here) ∙ e
 
-  -- at the others
+  -- The other floors.
   set_away : (i : ℕ) → i ≢ n → slice_index (set before n v) i ≡ slice_index before i
   set_away i away = get_or-set_other before n i v 0 away
 
@@ -132,7 +132,7 @@ module _ (map : SectorMap) (w : Chip) (s : DeviceState) (trial : Trial) (state :
   trial_floors : s.floors ≡ state.floors
   trial_floors = ap (λ (st : State). st.floors) (sym trial_record)
 
--- ---- how a trial goes on
+-- ---- how a boot continues a trial
 
 confirmed_not : (map : SectorMap) (w : Chip) (s : DeviceState) (trial : Trial) (mask : ℕ) (b : Bool)
     → mask ≡ trial.set → IsTrialOpen (view map w) s trial → AreSetOk (view map w) mask b → b ≡ false
@@ -159,7 +159,7 @@ module _ (map : SectorMap) (old : Chip) (state : State) (b : Bool) (read : (view
   not_over e s trial was =
       confirmed_not map old s trial state.mask b (trial_mask map old s trial state read was) was ok e
 
-  -- the running images were read on a flash that nothing wrote
+  -- The running images were read, and nothing was written.
   found_of : (mid : Chip) (d : Bool) → mid ≡ old
       → ((s : DeviceState) → RunsAt (view map mid) s → IsAnyDamaged s d)
       → (s : DeviceState) (trial : Trial) → IsTrialOpen (view map old) s trial → IsAnyDamaged s d
@@ -182,7 +182,7 @@ module _ (map : SectorMap) (old : Chip) (state : State) (b : Bool) (read : (view
     damaged_not s d (found_of mid d same finds s trial was) is,
   )
 
--- a trial whose way back has begun is neither over nor goes on
+-- A trial whose set is confirmed isn't reverted, so it is at rest.
 pub rest_over : (map : SectorMap) (w : Chip) (s : DeviceState) (trial : Trial) → IsConfirmed s trial
     → IsOpenOrAt (view map w) s trial → IsTrialAt (view map w) s trial
 rest_over map w s trial confirmed either = ⊎_elim
@@ -203,9 +203,9 @@ rest_on map w s trial on either = ⊎_elim
     (λ (opened : GoesBack s trial × IsTrialOpen (view map w) s trial). absurd (goes_both s trial opened.0 on))
     either
 
--- ---- what stands where a boot is cut
+-- ---- what a power cut leaves
 
--- the flash was only read
+-- The flash was only read.
 pub trial_cut : (map : SectorMap) (boots : ℕ) (old w : Chip) (s : DeviceState) → w ≡ old → Stands map old s
     → CutsBoot map boots w s
 trial_cut map boots old w s same was = (s, inl refl, subst (λ v. Stands map v s) (sym same) was)
@@ -217,7 +217,7 @@ pub back_here : (map : SectorMap) (w : Chip) (s : DeviceState) (trial : Trial) �
     → Stands map w s
 back_here map w s trial swapping = SwapsBack trial swapping.0 swapping.1 swapping.2
 
--- a trial goes back
+-- A trial is reverted.
 pub opened_cut : (map : SectorMap) (boots : ℕ) (w : Chip) (s : DeviceState) (trial : Trial) → GoesBack s trial
     → IsTrialOpen (view map w) s trial ⊎ IsSwappingBackSome map w s trial → CutsBoot map boots w s
 opened_cut map boots w s trial goes either = ⊎_elim
@@ -236,14 +236,14 @@ rest_cut : (map : SectorMap) (boots : ℕ) (w : Chip) (s : DeviceState) (trial :
     → IsTrialAt (view map w) s trial → CutsBoot map boots w s
 rest_cut map boots w s trial was = stays_cut map boots w s (Tries trial was)
 
--- ---- a trial that goes on
+-- ---- a trial that continues
 
 module _ (map : SectorMap) (old new : Chip) (s : DeviceState) (trial : Trial)
     (keeps : Keeps map (only Log) old new) where
   kept : KeepsView (only Log) (view map old) (view map new)
   kept = view_kept map (only Log) old new keeps
 
-  -- nothing but the count of boots changes
+  -- Only the count of boots changes.
   tried_as : (left i : ℕ) → IsTriedAt (view map old) s trial i
       → IsTriedAt (view map new) (tried_again s trial left) (record trial { left = left }) i
   tried_as left i was =
@@ -453,7 +453,7 @@ module _ (map : SectorMap) (boots : ℕ) (old read new : Chip) (state : State) (
       ends_as_read map boots new s (settled s floors) reply (over_read s trial confirmed at) refl
       (ends (settled s floors) (records s trial (over_here s trial at)))
 
--- ---- a boot from a trial, by its passage
+-- ---- a boot on trial, by its passage
 
 module _ (map : SectorMap) (boots : ℕ) (old mid new : Chip) (state : State) (found passage : Passage)
     (read : (view map old).log ≡ Some state) (kind : state.kind ≡ log.Trial) (same : mid ≡ old)

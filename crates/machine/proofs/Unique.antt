@@ -1,4 +1,4 @@
--- The table of a state is the only one.
+-- A state has only one table.
 use Rattle.std.proofs.Common.{◌≡◌, ℕ, Bool, true, false, List, [], ◌∷◌, length, Option, Some, None, refl, sym, ◌∙◌}
 use Rattle.std.proofs.Common.{ap, subst, arith, slice_get, slice_index, suc}
 use Rattle.image_reading.specs.declared.desc.Desc.{Desc}
@@ -18,7 +18,7 @@ use Rattle.certificate.specs.Rightness.{taken_in}
 use Rattle.machine.specs.Boots.{IsEntryOf, IsReported, IsRequestOf, IsRowOf, IsTableOf}
 use Rattle.certificate.specs.declared.table.Request.TheVariants as request
 
--- one front at most is an image, and it has one description
+-- At most one prefix is an intact image, and it has one description.
 pub one_front : (whole first second : List ℕ) (a b : Desc) → Starts whole first → Starts whole second
     → IsIntact first a → IsIntact second b → (first ≡ second) × (a ≡ b)
 one_front whole first second a b one two x y =
@@ -63,7 +63,7 @@ one_row runs wanted least a b first second = row_of_parts a b
 same_suc : (m n : ℕ) → suc m ≡ suc n → m ≡ n
 same_suc m n e = omega arith
 
--- lists of one length that agree at each place
+-- Lists of one length are equal if they agree at each place.
 same_lists : {X : Type 0} (xs ys : List X) → length xs ≡ length ys
     → ((k : ℕ) (x y : X) → slice_get xs k ≡ Some x → slice_get ys k ≡ Some y → x ≡ y) → xs ≡ ys
 same_lists [] [] long each = refl
@@ -83,7 +83,7 @@ one_table s a b first second =
     let table : List Image → Table = λ l. record { images = record { items = l } } in
     ap table rows
 
--- greatest combinations are the same
+-- Two tests are equal if each implies the other.
 both : (a b : Bool) → (a ≡ true → b ≡ true) → (b ≡ true → a ≡ true) → a ≡ b
 both true b to from = sym (to refl)
 both false true to from = from refl
@@ -93,7 +93,7 @@ pub one_greatest : (table : Table) (a b : ℕ → Bool) → IsGreatest table a �
 one_greatest table a b first second i = both (a i) (b i) (λ e. second.contains a first.valid i e)
     (λ e. first.contains b second.valid i e)
 
--- reports of one state take the same set
+-- Reports of one state take the same set.
 pub one_set : (s : DeviceState) (first second : Table) (report other : Report) → IsReported s first report
     → IsReported s second other → (j : ℕ) → taken_in report j ≡ taken_in other j
 one_set s first second report other a b = one_greatest second (taken_in report) (taken_in other)

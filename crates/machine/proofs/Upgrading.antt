@@ -1,4 +1,4 @@
--- A whole upgrade.
+-- A complete upgrade.
 use Rattle.std.proofs.Common.{◌≡◌, ◌⊎◌, ℕ, ◌+◌, Bool, true, false, List, None, refl, sym, subst, ⊎_elim, inl, inr}
 use Rattle.flash_model.specs.Chip.{Chip}
 use Rattle.sector_map.specs.declared.layout.SectorMap.{SectorMap}
@@ -31,7 +31,7 @@ upgrading_stands map w s table mask permanent under = ⊎_elim
     Settles table mask permanent swapped)
     under
 
--- the decision of a set that was chosen
+-- The decision of a chosen set.
 pub decision_of : (s : DeviceState) (table : Table) (mask : ℕ) (permanent : Bool) → IsChosen s table mask
     → (permanent ≡ true → AsksForGood s mask) × (AsksForGood s mask → permanent ≡ true)
     → IsDecision s table mask permanent
@@ -41,7 +41,7 @@ decision_of s table mask permanent chosen asks = record {
   trial = asks.1;
 }
 
--- each member of a chosen set at rest is requested
+-- Each member of a chosen set at rest is requested.
 pub asking : (map : SectorMap) (w : Chip) (s : DeviceState) (table : Table) (mask : ℕ)
     → IsSteadyAt (view map w) s → IsChosen s table mask → IsAsking (view map w) s mask
 asking map w s table mask was chosen = record {
@@ -122,7 +122,7 @@ found_boots map w s table mask left permanent (Decided found report) trial decis
 found_boots map w s table mask left permanent (Damaged i) trial decision (never, upgraded) = absurd never
 found_boots map w s table mask left permanent Invalid trial decision (never, upgraded) = absurd never
 
--- the exits of an upgrade that is cut
+-- What a power cut leaves at each exit of an upgrade.
 pub steady_cut : (map : SectorMap) (boots : ℕ) (old w : Chip) (s : DeviceState) → w ≡ old
     → IsSteadyAt (view map old) s → CutsBoot map boots w s
 steady_cut map boots old w s same was = (s, inl refl, subst (λ v. Stands map v s) (sym same) (Rests was))

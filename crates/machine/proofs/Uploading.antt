@@ -1,5 +1,4 @@
--- What the calls of uploads leave, as steps of the machine: manifests, pieces, ends of uploads and
--- withdrawals.
+-- Calls of uploads are steps of the machine: manifests, pieces, finished uploads and withdrawals.
 use Rattle.std.proofs.Common.{◌≡◌, ℕ, Bool, true, false, List, Option, Some, Result, Ok, Err, refl, sym}
 use Rattle.std.proofs.Common.{◌∙◌, subst, ⊎_elim, inl}
 use Rattle.std.specs.Borrow.{Bor}
@@ -76,13 +75,13 @@ steps_on_trial setup w state happened is_booted read kind needs m holds =
 
 -- ---- a call of uploads
 
--- A call of uploads takes each device that it finds up and at rest to one by its row.
+-- A call of uploads takes each device that is booted and at rest to one that its row allows.
 abbrev pub TakesRow : SectorMap → Chip → Chip → List (Option Upload) → List (Option Upload)
     → (Machine → Row) → Result Unit UploadError → Type 0
 TakesRow map old new told tnew row result = (m : Machine) → IsUpAt (view map old) told m
     → (next : Machine) × row m result next × IsUpAt (view map new) tnew next
 
--- a device that is up and takes uploads
+-- A device that is booted and takes uploads.
 up_at : (setup : Setup) (old : Chip) (told : List (Option Upload)) (up : Bool) (m : Machine) (state : State)
     → up ≡ true → (view setup.map old).log ≡ Some state → (state.kind ≡ log.Trial → ⊥)
     → Holds setup.map (record { flash = old; sessions = told; up = up }) m → IsUpAt (view setup.map old) told m
@@ -109,14 +108,14 @@ holds_up setup new tnew up next is_booted at = record {
   closed = λ e. absurd (true≢false (sym at.up ∙ e));
 }
 
--- what a row leaves is a complete step of uploads
+-- A result of a row is a complete step of uploads.
 uploads_complete : (row : Row) (m next : Machine) (result : Result Unit UploadError) → is_flash result ≡ false
     → IsReady m → row result next → Uploads row m (upload_reply result) next
 uploads_complete row m next (Ok tt) none is_ready at = (is_ready, at)
 uploads_complete row m next (Err (upload.Flash error)) none is_ready at = absurd (true≢false none)
 uploads_complete row m next (Err other) none is_ready at = (is_ready, refl, at)
 
--- .. and so of manifests
+-- A result of a manifest's row is a complete step.
 text_complete : (setup : Setup) (m next : Machine) (bytes : List ℕ) (result : Result Unit UploadError)
     → is_flash result ≡ false → Uploads (TakesManifest setup m bytes) m (upload_reply result) next
     → TakesText setup m bytes (upload_reply result) next
@@ -139,7 +138,7 @@ module _ (setup : Setup) (old : Chip) (told : List (Option Upload)) (up : Bool) 
         holds_up setup new tnew up after.0 is_booted after.2,
       )
 
-  -- A row that a call does is the step of its event, where the event is complete by that row.
+  -- A call that follows a row is the step of its event, if the row makes that event complete.
   pub row_steps : (new : Chip) (tnew : List (Option Upload)) (row : Machine → Row) (happened : DeviceEvent)
       (result : Result Unit UploadError) (reply : Reply) → reply ≡ upload_reply result → is_flash result ≡ false
       → ((m next : Machine) → Uploads (row m) m (upload_reply result) next
@@ -155,7 +154,7 @@ module _ (setup : Setup) (old : Chip) (told : List (Option Upload)) (up : Bool) 
         after.2,
       )
 
-  -- a manifest that was read
+  -- A manifest that was read.
   manifest_row : (new : Chip) (tnew : List (Option Upload)) (bytes : List ℕ) (manifest : given.Manifest)
       (result : Result Unit UploadError) → IsManifest setup.identity bytes manifest
       → TakesRow setup.map old new told tnew
@@ -176,7 +175,7 @@ module _ (setup : Setup) (old : Chip) (told : List (Option Upload)) (up : Bool) 
       (λ m next done. text_complete setup m next bytes.now result none done)
       (manifest_row new tnew bytes.now manifest result means takes)
 
-  -- bytes that are no manifest for the device
+  -- Bytes that aren't a manifest for the device.
   pub steps_bad_manifest : (bytes : Bor (List ℕ)) (fault : ManifestError)
       → IsRefusal setup.identity bytes.now fault
       → StepsTo setup (record { flash = old; sessions = told; up = up })
@@ -194,13 +193,13 @@ module _ (setup : Setup) (old : Chip) (told : List (Option Upload)) (up : Bool) 
 
 -- ---- how a device uses them
 
--- an error that isn't the flash's is refused as such
+-- An error that isn't of the flash is refused as such.
 pub upload_refused : (error : UploadError) → is_flash {T = Unit} (Err error) ≡ false
     → Refused (no.Upload error) ≡ upload_reply (Err error)
 upload_refused (upload.Flash error) none = absurd (true≢false none)
 upload_refused other none = refl
 
--- open uploads stand on while an image is confirmed
+-- Open uploads still match the flash after an image is confirmed.
 pub open_confirmed : (map : SectorMap) (old new : Chip) (j : ℕ) (told : List (Option Upload))
     → Keeps map (only (TrailerOf j Primary)) old new → AllOpenAt (view map old) told → AllOpenAt (view map new) told
 open_confirmed map old new j told keeps opens =

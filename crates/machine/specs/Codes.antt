@@ -1,4 +1,4 @@
--- The number and the name of each reason why a call of a device is refused.
+-- The number and the name of each reason why a device refuses a call.
 use Rattle.std.specs.Prelude.{ℕ, List, codes}
 use Rattle.machine.specs.declared.error.Fault.{Fault}
 use Rattle.machine.specs.declared.error.Fault.TheVariants.{NotBooted, OnTrial, NotOnTrial, NotProvisioned}

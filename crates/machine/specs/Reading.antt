@@ -25,40 +25,40 @@ use Rattle.machine.specs.declared.finding.Passage.TheVariants.{Over, Back, Again
 
 -- ---- rows
 
--- The entry that was read, or that there is none.
+-- An entry was read of the held image, or none is held.
 abbrev pub IsReadOf : Option (List ℕ) → Option Entry → Type 0
 IsReadOf held (Some entry) = IsEntryOf held entry
 IsReadOf held None = held ≡ None
 
--- An image of a set whose slots are swapped.
+-- An image whose slots are swapped during an upgrade.
 pub record IsSwappedAt (w : View) (s : DeviceState) (i : ℕ) : Type 0 where
   pub ran : IsFront (w.slot i Secondary) (s.running i)
   pub asked : IsFront (w.slot i Primary) (wanted_bytes (s.request i))
   pub wanted : (v : Wanted) × (bytes : List ℕ) × (s.request i ≡ Some v)
       × (v.bytes ≡ Some bytes)
 
--- What a boot can read a row from: an image at rest, or one that is swapped.
+-- An image whose row a boot can read: at rest, or swapped.
 abbrev pub CanReadAt : View → DeviceState → Bool → ℕ → Type 0
 CanReadAt w s false i = IsImageAt w s i
 CanReadAt w s true i = IsSwappedAt w s i
 
--- What a boot can read a table from, where the images of a mask are swapped.
+-- A flash whose table a boot can read. The slots of the mask's images are swapped.
 pub record CanRead (w : View) (s : DeviceState) (mask : ℕ) (least : List ℕ) : Type 0 where
   pub images : w.images ≡ s.images
   pub floors : s.floors ≡ least
   pub each : (i : ℕ) → i < s.images → CanReadAt w s (is_member mask i) i
 
--- The row that was read, or that the running image is damaged.
+-- A row was read, or the running image is damaged.
 abbrev pub IsRowRead : Option (List ℕ) → Option Wanted → ℕ → Option Image → Type 0
 IsRowRead runs wanted least (Some row) = IsRowOf runs wanted least row
 IsRowRead runs wanted least None = runs ≡ None
 
--- The table that was read, or the lowest damaged image.
+-- A table was read, or this is the lowest damaged image.
 abbrev pub IsReading : DeviceState → Reading → Type 0
 IsReading s (Read table) = IsTableOf s table
 IsReading s (DamagedAt i) = IsLowestDamaged s i
 
--- The first rows of the table.
+-- The first `n` rows of the table of a state.
 pub record AreRowsOf (s : DeviceState) (floors : List ℕ) (n : ℕ) (rows : List Image)
     : Type 0 where
   pub count : length rows ≡ n
@@ -67,19 +67,19 @@ pub record AreRowsOf (s : DeviceState) (floors : List ℕ) (n : ℕ) (rows : Lis
 
 -- ---- decisions
 
--- What a state says of its decision.
+-- The decision of a state.
 abbrev pub IsFinding : DeviceState → Finding → Type 0
 IsFinding s (Decided table report) = IsReported s table report
 IsFinding s (Damaged i) = IsLowestDamaged s i
 IsFinding s Invalid = (table : Table) × IsTableOf s table × (IsValid table running_set → ⊥)
 
--- The decision of a record, found again.
+-- The decision that the log recorded, found again.
 abbrev pub IsFoundAgain : DeviceState → ℕ → Finding → Type 0
 IsFoundAgain s mask (Decided table report) =
     IsReported s table report × (is_member mask ≡ taken_in report)
 IsFoundAgain s mask other = ⊥
 
--- The first floors raised to the counters of a table's combination.
+-- The first `n` floors are raised to the security counters of a table's combination.
 pub record AreRaisedBy (images : List Image) (mask n : ℕ) (old new : List ℕ) : Type 0 where
   pub size : length new ≡ length old
   pub each : (i : ℕ) (row : Image) → i < n → slice_get images i ≡ Some row
@@ -92,12 +92,12 @@ pub record IsAsking (w : View) (s : DeviceState) (mask : ℕ) : Type 0 where
   pub at : (i : ℕ) → is_member mask i ≡ true → i < s.images → IsImageAt w s i
   pub wanted : (i : ℕ) → is_member mask i ≡ true → (v : Wanted) × (s.request i ≡ Some v)
 
--- A table that was read has so many rows ..
+-- A table that was read has `n` rows.
 abbrev pub HasRows : ℕ → Reading → Type 0
 HasRows n (Read table) = length table.images.items ≡ n
 HasRows n (DamagedAt i) = Unit {0}
 
--- .. and a decision takes images below this number.
+-- A decision takes only images below `n`.
 abbrev pub HasImages : ℕ → Finding → Type 0
 HasImages n (Decided table report) = (i : ℕ) → taken_in report i ≡ true → i < n
 HasImages n (Damaged i) = Unit {0}
@@ -110,12 +110,12 @@ pub record RunsAt (w : View) (s : DeviceState) : Type 0 where
   pub images : w.images ≡ s.images
   pub each : (i : ℕ) → i < s.images → IsFront (w.slot i Primary) (s.running i)
 
--- Whether nothing intact is held.
+-- Whether no intact image is held.
 abbrev pub IsDamagedOr : Option (List ℕ) → Bool → Type 0
 IsDamagedOr held true = held ≡ None
 IsDamagedOr held false = held ≡ None → ⊥
 
--- Whether a running image is damaged.
+-- Whether some running image is damaged.
 abbrev pub IsAnyDamaged : DeviceState → Bool → Type 0
 IsAnyDamaged s true = HasDamaged s
 IsAnyDamaged s false = (i : ℕ) → i < s.images → s.running i ≡ None → ⊥
@@ -127,19 +127,19 @@ AreSetOk w mask true = (i : ℕ) → i < w.images → is_member mask i ≡ true
 AreSetOk w mask false = (i : ℕ) × (i < w.images) × (is_member mask i ≡ true)
     × ((w.trailer i Primary).image_ok ≡ false)
 
--- How a boot goes on from a trial.
+-- How a boot continues a trial.
 abbrev pub IsPassage : DeviceState → Trial → Passage → Type 0
 IsPassage s trial Over = IsConfirmed s trial
 IsPassage s trial Back = GoesBack s trial
 IsPassage s trial Again = GoesOn s trial
 
--- A trial that goes on has a boot more.
+-- A trial that continues has at least one boot left.
 abbrev pub HasLeft : ℕ → Passage → Type 0
 HasLeft left Over = Unit {0}
 HasLeft left Back = Unit {0}
 HasLeft left Again = 0 < left
 
--- A floor raised by what is held.
+-- A floor is raised to the counter of the held image.
 pub record IsFloorOf (held : Option (List ℕ)) (old new : ℕ) : Type 0 where
   pub raised : (bytes : List ℕ) (description : Desc) → held ≡ Some bytes
       → IsIntact bytes description → new ≡ max old description.counter

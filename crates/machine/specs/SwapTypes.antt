@@ -1,4 +1,4 @@
--- What the trailers of a flash ask of a boot, by MCUboot's table of swap types.
+-- What the trailers of a flash require of a boot, by MCUboot's table of swap types.
 use Rattle.std.specs.Prelude.{ℕ}
 use Rattle.sector_map.specs.declared.layout.Side.TheVariants.{Primary, Secondary}
 use Rattle.trailer.specs.declared.kinds.Kind.{Kind}

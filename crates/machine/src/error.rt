@@ -1,4 +1,4 @@
-//! Why a call of a device is refused.
+//! Reasons why a device refuses a call.
 
 ghost use Rattle.std.specs.Prelude.{◌≡◌};
 ghost use Rattle.machine.specs.Codes.{code_of, name_of};
@@ -9,24 +9,24 @@ use manifest::ManifestError;
 use thiserror::Error;
 use upload::UploadError;
 
-/// Why a call of a device is refused. The numbers are 1 to 10, in this order; where several apply,
-/// the lowest is answered.
+/// Why a device refuses a call. The numbers are 1 to 10, in this order. If several reasons apply,
+/// the lowest is returned.
 #[derive(Clone, Copy, Debug, PartialEq, Eq, Error)]
 pub enum Fault {
-    /// The device isn't up: it was made, reset or cut, and no boot has answered since.
+    /// The device isn't booted: it was made, reset or lost power, and no boot has succeeded since.
     #[error("the device hasn't booted")]
     NotBooted,
-    /// A set is on trial.
+    /// A set of images is on trial.
     #[error("a set of images is on trial")]
     OnTrial,
     /// The image isn't in a set that is on trial.
     #[error("this image isn't on trial")]
     NotOnTrial,
-    /// The flash has no log of a device.
+    /// The flash isn't provisioned: it has no log of a device.
     #[error("the flash isn't provisioned")]
     NotProvisioned,
-    /// The running bytes of this image are no intact image, or, in the midst of an upgrade, those
-    /// of an image of its set; of several the lowest is told.
+    /// The running image isn't intact. During an upgrade this includes the new images. The field is
+    /// the number of the lowest such image, from 0.
     #[error("the running image {0} is damaged")]
     RunningDamaged(u8),
     /// A dependency of a running image isn't met, or the set of an upgrade isn't the one that would
@@ -36,19 +36,19 @@ pub enum Fault {
     /// A call on the flash failed.
     #[error("{0}")]
     Flash(FlashError),
-    /// Memory ran out, while the text of a manifest was read.
+    /// Out of memory while the text of a manifest was read.
     #[error("no memory")]
     NoMemory,
-    /// The bytes are no manifest for this device.
+    /// The bytes aren't a manifest for this device.
     #[error("{0}")]
     Manifest(ManifestError),
-    /// The upload is refused.
+    /// The upload is refused. The field says why.
     #[error("{0}")]
     Upload(UploadError),
 }
 
 impl Fault {
-    /// The number of the kind, 1 to 10.
+    /// Returns the number of the kind, 1 to 10.
     pub fn code(self) -> u8
         ensures { result ≡ code_of self }
     {
@@ -66,7 +66,7 @@ impl Fault {
         }
     }
 
-    /// The name of the kind, as it is printed.
+    /// Returns the name of the kind, as it is printed.
     pub fn name(self) -> &'static str
         ensures { result.now ≡ name_of self }
     {

@@ -1,38 +1,38 @@
-//! What a boot finds.
+//! Results of reading a flash, from which a boot continues.
 
 use certificate::{Report, Table};
 
-/// What is read of the images of a device.
+/// What a boot reads of the images of a device.
 #[derive(Drop)]
 pub enum Reading {
-    /// The table of what runs and what is requested.
+    /// The table of running and requested images.
     Read(Table),
-    /// The image of this number is the lowest whose running bytes are no intact image.
+    /// The number of the lowest image whose running bytes aren't an intact image.
     DamagedAt(u8),
 }
 
-/// What a boot finds of a decision.
+/// What a boot finds before it decides.
 #[derive(Drop)]
 pub enum Finding {
-    /// What runs is valid, and this becomes of each request.
+    /// The running set is valid.
     Decided {
-        /// What was read of the images.
+        /// The table that was read.
         table: Table,
-        /// What becomes of each request.
+        /// The result for each request.
         report: Report,
     },
-    /// The image of this number is the lowest whose running bytes are no intact image.
+    /// The number of the lowest image whose running bytes aren't an intact image.
     Damaged(u8),
-    /// What runs isn't valid.
+    /// The running set isn't valid.
     Invalid,
 }
 
-/// How a boot goes on from a trial.
+/// How a boot continues a trial.
 #[derive(Clone, Copy)]
 pub enum Passage {
     /// Each image of the set is confirmed: the trial is over.
     Over,
-    /// The old images come back.
+    /// The old images are restored.
     Back,
     /// The set is tried again.
     Again,

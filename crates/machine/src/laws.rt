@@ -1,4 +1,7 @@
-//! Laws of the machine: what is true of every run of it, and of every state.
+//! Laws of the machine: theorems on every run and every state.
+//!
+//! `machine` is the device as a state machine over complete images. A run has an event and a reply
+//! for each of its steps (`specs/Steps.antt`). A reply is `Cut` if power failed during its event.
 
 ghost use Rattle.std.specs.Prelude.{◌≡◌, ◌⊎◌, ◌+◌, ◌++◌, ◌<◌, ℕ, Bool, true, false, List, Some, length, take, drop, slice_get};
 ghost use Rattle.common.specs.declared.event.Event.TheVariants as event;
@@ -19,11 +22,16 @@ ghost use Rattle.machine.specs.Steps.{DeviceEvent, IsRun, IsStep, IsUncutRun, cu
 ghost use Rattle.machine.specs.declared.reply.Reply.{Reply};
 ghost use Rattle.machine.specs.declared.reply.Reply.TheVariants.{Booted};
 
-/// In every run, whatever is cut in it, each boot that answers a report starts the greatest set of
-/// all combinations of the images that run and are requested as it boots, image by image, and gives
-/// for each refused request a reason that holds at its place.
+/// In every run, even with power cuts, each boot that returns a report starts the greatest set.
 ///
-/// It does nothing: its contract is the theorem.
+/// A combination takes some of the pending requests. It is valid if no taken image is older than
+/// the one that runs or below its security counter's floor, and all dependencies and groups are
+/// met. The greatest set is the valid combination that contains all valid ones. A boot that replies
+/// `Booted` takes the greatest set of the images that run and are requested when it boots. After it
+/// the taken images run, and all other images run on. Its report has a reason for each refused
+/// request, and the reason holds at its place.
+///
+/// The function does nothing: its contract is the theorem.
 #[tactic(auto, using(crate::proofs::Answered::booted_at))]
 pub fn each_boot_that_answers_starts_the_greatest_set()
     ensures { (setup : Setup) (m : Machine) (events : List DeviceEvent) (replies : List Reply)
@@ -33,13 +41,16 @@ pub fn each_boot_that_answers_starts_the_greatest_set()
         → IsBootedAt setup m events replies last place table report permanent }
 {}
 
-/// However often a boot was cut on the way, the one that answers a report starts the greatest set
-/// of all combinations of the images that ran and were requested before the first of them; unless
-/// one that was cut had finished what it did: it had taken an image, gone back, or begun another
-/// boot of a trial, so that the device had come to the state after a complete boot. A boot that was
-/// cut and had nothing to take is no such boot.
+/// Power cuts during boots don't change which set is started.
 ///
-/// It does nothing: its contract is the theorem.
+/// Any number of boots are interrupted by power cuts, one after the other, and the next boot
+/// replies `Booted`. That boot starts the greatest set of the images that ran and were requested
+/// before the first of them. There is one exception: an interrupted boot had already finished its
+/// work, so that the device had the state after a complete boot. The finished work was to take an
+/// image, to revert a trial, or to begin another boot of a trial. An interrupted boot without such
+/// work is no exception.
+///
+/// The function does nothing: its contract is the theorem.
 pub fn boots_that_were_cut_start_the_same_set()
     ensures { (setup : Setup) (times : ℕ) (m mid last : Machine) (table : Table)
         (report : Report) (permanent : Bool) → AreCut setup m times mid
@@ -48,46 +59,53 @@ pub fn boots_that_were_cut_start_the_same_set()
         ⊎ HasFinished setup m mid times }
 {}
 
-/// What runs stays intact and valid in every run, whatever is cut in it: where what a state runs is
-/// so, and in a trial what ran before it too, the same is true of each state of a run from there.
+/// Running images stay intact and valid in every run, even with power cuts.
 ///
-/// It does nothing: its contract is the theorem.
+/// The running images of the first state have to be intact, with all dependencies and groups met.
+/// During a trial the same has to hold for the images that ran before it. Then both hold in the
+/// state after the run. They hold after each step too, since a prefix of a run is a run.
+///
+/// The function does nothing: its contract is the theorem.
 #[tactic(auto, using(crate::proofs::SoundRuns::run_sound))]
 pub fn runs_keep_what_runs_intact_and_valid()
     ensures { (setup : Setup) (m last : Machine) (events : List DeviceEvent) (replies : List Reply)
         → IsRun setup m events replies last → IsAllSound m.kept → IsAllSound last.kept }
 {}
 
-/// A boot that isn't cut answers wherever what runs is intact and valid, and in a trial what ran
-/// before it too: it isn't refused.
+/// A boot from an intact and valid state isn't refused, if no power cut interrupts it.
 ///
-/// It does nothing: its contract is the theorem.
+/// The running images have to be intact, with all dependencies and groups met. During a trial the
+/// same has to hold for the images that ran before it. Then a complete boot replies `Booted`,
+/// `Reverted` or `TrialAgain`.
+///
+/// The function does nothing: its contract is the theorem.
 pub fn boots_from_an_intact_and_valid_state_answer()
     ensures { (boots : ℕ) (s next : DeviceState) (reply : Reply)
         → IsAllSound s → Boots boots s reply next → is_answer reply ≡ true }
 {}
 
-/// A state has one table: what a boot reads of it doesn't depend on the boot.
+/// A state has only one table: two boots from the same state read the same table.
 ///
-/// It does nothing: its contract is the law.
+/// The function does nothing: its contract is the law.
 pub fn tables_of_a_state_are_equal()
     ensures { (s : DeviceState) (first second : Table)
         → IsTableOf s first → IsTableOf s second → first ≡ second }
 {}
 
-/// All boots from a state that answer a report take the same set of images: a boot that was cut and
-/// is repeated decides as the one before it.
+/// All reports of a state take the same set of images.
 ///
-/// It does nothing: its contract is the law.
+/// So a boot that repeats an interrupted one from the same state takes the same set.
+///
+/// The function does nothing: its contract is the law.
 pub fn reports_of_a_state_take_the_same_set()
     ensures { (s : DeviceState) (first second : Table) (report other : Report)
         → IsReported s first report → IsReported s second other
         → (j : ℕ) → taken_in report j ≡ taken_in other j }
 {}
 
-/// A run that goes on by another is a run.
+/// A run and a run that begins in its last state are together one run.
 ///
-/// It does nothing: its contract is the law.
+/// The function does nothing: its contract is the law.
 #[tactic(auto, using(crate::proofs::Runs::run_joins))]
 pub fn runs_are_joined()
     ensures { (setup : Setup) (m mid last : Machine) (events more : List DeviceEvent)
@@ -96,10 +114,11 @@ pub fn runs_are_joined()
         → IsRun setup m (events ++ more) (replies ++ answered) last }
 {}
 
-/// A run over events and then others is a run over the first, and one over the others that goes on
-/// from there.
+/// A run over two lists of events is a run over the first list, and then one over the second.
 ///
-/// It does nothing: its contract is the law.
+/// The second run begins in the last state of the first.
+///
+/// The function does nothing: its contract is the law.
 #[tactic(auto, using(crate::proofs::Runs::run_splits))]
 pub fn runs_are_parted()
     ensures { (setup : Setup) (m last : Machine) (events more : List DeviceEvent) (all : List Reply)
@@ -108,10 +127,11 @@ pub fn runs_are_parted()
         × IsRun setup m events replies mid × IsRun setup mid more answered last }
 {}
 
-/// After any number of events of a run there is a state, to which the first of them are a run and
-/// from which the rest are one.
+/// A run has a state after any number of its events.
 ///
-/// It does nothing: its contract is the law.
+/// The first events are a run to that state, and the remaining events are a run from it.
+///
+/// The function does nothing: its contract is the law.
 #[tactic(auto, using(crate::proofs::Runs::run_prefix))]
 pub fn runs_have_a_state_at_each_place()
     ensures { (setup : Setup) (m last : Machine) (events : List DeviceEvent) (replies : List Reply)
@@ -120,19 +140,19 @@ pub fn runs_have_a_state_at_each_place()
         × IsRun setup mid (drop place events) (drop place replies) last }
 {}
 
-/// A run has as many replies as events.
+/// A run has exactly one reply for each event: the lists have the same length.
 ///
-/// It does nothing: its contract is the law.
+/// The function does nothing: its contract is the law.
 #[tactic(auto, using(crate::proofs::Runs::run_answers))]
 pub fn each_event_has_a_reply()
     ensures { (setup : Setup) (m last : Machine) (events : List DeviceEvent) (replies : List Reply)
         → IsRun setup m events replies last → length replies ≡ length events }
 {}
 
-/// A run of whose replies none is `Cut` consists of complete steps alone, and a run of complete
-/// steps has no such reply.
+/// A run without a `Cut` reply consists of complete steps only, and a run of complete steps has no
+/// `Cut` reply.
 ///
-/// It does nothing: its contract is the law.
+/// The function does nothing: its contract is the law.
 #[tactic(auto, using(crate::proofs::Runs::uncut_run, crate::proofs::Runs::complete_run))]
 pub fn runs_without_a_cut_are_complete()
     ensures complete { (setup : Setup) (m last : Machine) (events : List DeviceEvent)
@@ -145,11 +165,13 @@ pub fn runs_without_a_cut_are_complete()
         → IsRun setup m events replies last × (cuts_in replies ≡ 0) }
 {}
 
-/// The trailers tell by MCUboot's table of swap types (its design document, "Swapping") what
-/// stands: of each image of a set on trial that isn't confirmed, that it goes back; and of each
-/// request that stands while nothing is on trial, that it is tried or stays, as it was asked for.
+/// MCUboot's table of swap types shows in the trailers which trials and requests are pending.
 ///
-/// It does nothing: its contract is the law.
+/// The table is in MCUboot's design document, "Swapping". While a set is on trial, each image of
+/// the set that isn't confirmed has the swap type `Revert`. While nothing is on trial, each
+/// requested image has the swap type of its request: `Test` or `Perm`.
+///
+/// The function does nothing: its contract is the law.
 pub fn trailers_tell_trials_and_requests()
     ensures trials { (w : View) (s : DeviceState) (trial : Trial) (i : ℕ) → IsTrialAt w s trial
         → is_member trial.set i ≡ true → trial.confirmed i ≡ false → swap_type_at w i ≡ Revert }

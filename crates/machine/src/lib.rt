@@ -1,16 +1,16 @@
-//! The device over whole images: definitions and laws.
+//! The device as a state machine over complete images: definitions and laws.
 //!
-//! - Promises: In every run over whole images, each boot that returns a report starts the greatest
-//!   set.
+//! - Promises: In every run over complete images, each boot that returns a report starts the
+//!   greatest set.
 //! - Main calls: `each_boot_that_answers_starts_the_greatest_set`, and further laws
 //! - Allocates: no.
 //! - Callers: any crate above cites it.
 //!
-//! Nothing runs here but the numbers and the names of faults. The definitions (`specs/`) say what a
-//! device does that knows whole images only, and what ties the bytes of a flash to a state of it.
-//! The lemmas (`proofs/`) say what follows for the passages of a boot and for whole runs. What
-//! follows for every run is promised by functions without a body (`laws`). `boot_core` states its
-//! contracts by these definitions, and `device_texts` prints the replies.
+//! The only code is the numbers and names of faults. The definitions (`specs/`) describe a device
+//! that knows complete images only, and relate the bytes of a flash to a state of that device. The
+//! lemmas (`proofs/`) derive what each part of a boot and each run leaves. Functions without a body
+//! (`laws`) state the theorems on every run. `boot_core` states its contracts with these
+//! definitions, and `device_texts` prints the replies.
 #![tactic(auto)]
 
 mod error;

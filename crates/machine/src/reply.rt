@@ -1,33 +1,33 @@
-//! What a device answers.
+//! Replies of a device to events.
 
 use crate::error::Fault;
 use certificate::{Report, Table};
 
-/// What a device answers to an event.
+/// A device's reply to an event.
 #[derive(Clone, Debug, Drop, PartialEq, Eq)]
 pub enum Reply {
-    /// It is done.
+    /// The event is done.
     Done,
     /// The device booted, and decided what runs.
     Booted {
-        /// What ran, what was requested and the floors, before anything was taken.
+        /// The running images, the requests and the floors, before anything was taken.
         table: Table,
-        /// What becomes of each request.
+        /// The result for each request.
         report: Report,
-        /// Whether some request is taken, and those that are taken stay without a trial.
+        /// Whether some request is taken and all taken images stay without a trial.
         permanent: bool,
     },
-    /// The device booted, and the old images of this set run again: bit i for image i.
+    /// The device booted, and the old images of this set run again. Bit i is set for image i.
     Reverted(u8),
     /// The device booted, and the set on trial is tried again.
     TrialAgain {
-        /// The set: bit i for image i.
+        /// The set: bit i is set for image i.
         set: u8,
-        /// How many boots more the trial lasts, 0 to 5.
+        /// The number of boots after this one that the trial still has, 0 to 5.
         left: u8,
     },
-    /// It is refused.
+    /// The event is refused.
     Refused(Fault),
-    /// The power failed on the way.
+    /// Power failed during the event.
     Cut,
 }

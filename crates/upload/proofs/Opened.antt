@@ -195,7 +195,7 @@ named_has P (d ∷ cs) i c all is =
       by_rest None rest e again = here (d.image == i) refl e
       by_rest (Some x) rest e again = again (rest ∙ e)
 
--- ---- the parts that are touched
+-- ---- the parts that are written
 
 -- If `a` implies `b` and `b && c` is false, so is `a && c`.
 less_false : (a b c : Bool) → (a ≡ true → b ≡ true) → (b && c) ≡ false → (a && c) ≡ false

@@ -70,7 +70,7 @@ worn_more map old mid image index count now before after lt long same counted mo
     let here = ap one_unless_erased (sector_same map old mid image index before after lt long same) in
     omega (arith, counted, more, here, ap (λ n. worn_in size slot n) (add-one index))
 
--- ---- a request is taken back, and then the slot is erased
+-- ---- a request is withdrawn, then the slot is erased
 
 at_most_one : (bytes : List ℕ) → one_unless_erased bytes ≤ 1
 at_most_one bytes = by (are_erased bytes) where
@@ -183,7 +183,7 @@ open_erases map old mid image now before after there rest gone kept first slot =
         ap {B = ℕ} (λ t. if t then 1 else 0) e,
       )
 
--- ---- what is erased then
+-- ---- the sectors that are erased
 
 none_in : (size : ℕ) (bytes : List ℕ) (n : ℕ) → are_erased bytes ≡ true → worn_in size bytes n ≡ 0
 none_in size bytes zero all = refl
@@ -203,7 +203,7 @@ none_worn map chip image was trailer =
     let all = each_erased slot (λ k lt. behind_at slot [] was k (omega arith) lt) in
     omega (arith, none_in map.sector_size slot (slot_sectors map image) all, ap {B = ℕ} (λ t. if t then 0 else 1) trailer)
 
--- ---- one component after another
+-- ---- one component after the other
 
 -- An image whose slot and trailer are kept has the same count.
 worn_kept : (map : SectorMap) (touched : Part → Bool) (old new : Chip) (image : ℕ) → Keeps map touched old new

@@ -1,15 +1,15 @@
-//! Uploads: sessions, pieces, and requests for whole images.
+//! Receives new images: checks manifests, writes pieces, and requests complete images.
 //!
-//! - Promises: Each call is a step over whole images, complete or cut. It requests only a whole
-//!   image that has the digest and the length of its manifest.
+//! - Promises: Each call is one step over complete images, even if power fails during it. It
+//!   requests only a complete image that has the digest and the length of its manifest.
 //! - Main calls: `Uploads::accept`, `piece`, `finish`, `withdraw`
 //! - Allocates: no.
 //! - Callers: `boot_core` alone makes the calls that write, and `c_interface` checks saved uploads;
 //!   `machine`, `decision`, `device_texts`, `device_commands`, `sweep`, `inspecting` and
 //!   `explaining` use errors and definitions alone.
 //!
-//! A manifest opens a session for each image that it names, pieces fill the secondary slot, and a
-//! finished upload requests its image. Sessions of different images don't disturb one another.
+//! A manifest opens an upload for each image that it lists. Pieces fill the secondary slot, and a
+//! finished upload requests its image. Uploads of different images don't affect each other.
 #![tactic(auto)]
 
 mod accepting;
