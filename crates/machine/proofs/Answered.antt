@@ -52,11 +52,19 @@ no_members mask none = no_bits mask mask (below_power mask) (λ i. not_member ma
 
 -- ---- what a boot starts
 
-module _ (boots : ℕ) (found read next : DeviceState) (table : Table) (report : Report)
+module _ (boots : ℕ) (found read : DeviceState) (table : Table) (report : Report)
     (reads : IsReadAs found read) (steady : read.trial ≡ None) (told : IsReported read table report) where
-  starts_nothing : (permanent : Bool) → IsPlain read report permanent next
+  -- A boot that leaves `next` starts the greatest set.
+  starts : (permanent : Bool) (next : DeviceState) → ((i : ℕ) → next.running i ≡ running_by read report i)
+      → ((i : ℕ) → next.request i ≡ request_by read report i)
+      → next.images ≡ read.images → next.sequence ≡ read.sequence
+      → (permanent ≡ true → StaysForGood read report) → (StaysForGood read report → permanent ≡ true)
+      → (permanent ≡ true → (next.trial ≡ None) × IsRaised read.images next.running read.floors next.floors)
+      → (permanent ≡ false → next.floors ≡ read.floors) → (TakesNone report → next.trial ≡ None)
+      → (permanent ≡ false → (TakesNone report → ⊥)
+      → (trial : Trial) × (next.trial ≡ Some trial) × IsTriedBy boots read report trial)
       → StartsGreatest boots found table report permanent next
-  starts_nothing permanent (none, not_good, same) = record {
+  starts permanent next runs asks images sequence good only stays floors plain tries = record {
     read = read;
     reads = reads;
     steady = steady;
@@ -64,20 +72,33 @@ module _ (boots : ℕ) (found read next : DeviceState) (table : Table) (report :
     greatest = told.greatest;
     right = told.right;
     standard = told.standard;
-    runs = λ i. ap (λ (s : DeviceState). s.running i) same ∙ ap
-        (λ b. if b then wanted_bytes (read.request i) else read.running i) (sym (none i));
-    asks = λ i. ap (λ (s : DeviceState). s.request i) same ∙ ap
-        (λ b. if b then None else read.request i) (sym (none i));
-    images = ap (λ (s : DeviceState). s.images) same;
-    sequence = ap (λ (s : DeviceState). s.sequence) same;
-    good = λ e. absurd (true≢false (sym e ∙ not_good));
-    only = λ stays. absurd (stays.some none);
-    stays = λ e. absurd (true≢false (sym e ∙ not_good));
-    raised = λ e. absurd (true≢false (sym e ∙ not_good));
-    floors = λ e. ap (λ (s : DeviceState). s.floors) same;
-    plain = λ e. ap (λ (s : DeviceState). s.trial) same ∙ steady;
-    tries = λ e some. absurd (some none);
+    runs = runs;
+    asks = asks;
+    images = images;
+    sequence = sequence;
+    good = good;
+    only = only;
+    stays = λ e. (stays e).0;
+    raised = λ e. (stays e).1;
+    floors = floors;
+    plain = plain;
+    tries = tries;
   }
+
+  starts_nothing : (permanent : Bool) (next : DeviceState) → IsPlain read report permanent next
+      → StartsGreatest boots found table report permanent next
+  starts_nothing permanent next (none, not_good, same) =
+      subst (λ (s : DeviceState). StartsGreatest boots found table report permanent s) (sym same)
+      (starts permanent read
+      (λ i. ap (λ b. if b then wanted_bytes (read.request i) else read.running i) (sym (none i)))
+      (λ i. ap (λ b. if b then None else read.request i) (sym (none i)))
+      refl refl
+      (λ e. absurd (true≢false (sym e ∙ not_good)))
+      (λ stays. absurd (stays.some none))
+      (λ e. absurd (true≢false (sym e ∙ not_good)))
+      (λ e. refl)
+      (λ e. steady)
+      (λ e some. absurd (some none)))
 
   module _ (mask : ℕ) (set : is_member mask ≡ taken_in report) where
     takes_some : (permanent : Bool) → IsDecision read table mask permanent → TakesNone report → ⊥
@@ -105,31 +126,6 @@ module _ (boots : ℕ) (found read next : DeviceState) (table : Table) (report :
     asks_of : (i : ℕ) → left_after read mask i ≡ request_by read report i
     asks_of i = ap (λ (t : ℕ → Bool). if t i then None else read.request i) set
 
-    starts_for_good : (permanent : Bool) → permanent ≡ true → IsDecision read table mask permanent
-        → (floors : List ℕ) → IsRaised read.images (running_after read mask) read.floors floors
-        → next ≡ taken_for_good read mask floors
-        → StartsGreatest boots found table report permanent next
-    starts_for_good permanent good decision floors raised same = record {
-      read = read;
-      reads = reads;
-      steady = steady;
-      rows = told.rows;
-      greatest = told.greatest;
-      right = told.right;
-      standard = told.standard;
-      runs = λ i. ap (λ (s : DeviceState). s.running i) same ∙ runs_of i;
-      asks = λ i. ap (λ (s : DeviceState). s.request i) same ∙ asks_of i;
-      images = ap (λ (s : DeviceState). s.images) same;
-      sequence = ap (λ (s : DeviceState). s.sequence) same;
-      good = stays_of permanent decision;
-      only = only_of permanent decision;
-      stays = λ e. ap (λ (s : DeviceState). s.trial) same;
-      raised = λ e. subst (λ (s : DeviceState). IsRaised read.images s.running read.floors s.floors) (sym same) raised;
-      floors = λ e. absurd (true≢false (sym good ∙ e));
-      plain = λ none. ap (λ (s : DeviceState). s.trial) same;
-      tries = λ e some. absurd (true≢false (sym good ∙ e));
-    }
-
     tried_of : (permanent : Bool) → IsDecision read table mask permanent → (trial : Trial)
         → IsBegun read mask boots trial → IsTriedBy boots read report trial
     tried_of permanent decision trial begun = record {
@@ -141,45 +137,34 @@ module _ (boots : ℕ) (found read next : DeviceState) (table : Table) (report :
       left = begun.left;
     }
 
-    starts_trial : (permanent : Bool) → permanent ≡ false → IsDecision read table mask permanent
-        → (trial : Trial) → IsBegun read mask boots trial → next ≡ taken_on_trial read mask trial
-        → StartsGreatest boots found table report permanent next
-    starts_trial permanent tried decision trial begun same = record {
-      read = read;
-      reads = reads;
-      steady = steady;
-      rows = told.rows;
-      greatest = told.greatest;
-      right = told.right;
-      standard = told.standard;
-      runs = λ i. ap (λ (s : DeviceState). s.running i) same ∙ runs_of i;
-      asks = λ i. ap (λ (s : DeviceState). s.request i) same ∙ asks_of i;
-      images = ap (λ (s : DeviceState). s.images) same;
-      sequence = ap (λ (s : DeviceState). s.sequence) same;
-      good = stays_of permanent decision;
-      only = only_of permanent decision;
-      stays = λ e. absurd (true≢false (sym e ∙ tried));
-      raised = λ e. absurd (true≢false (sym e ∙ tried));
-      floors = λ e. ap (λ (s : DeviceState). s.floors) same;
-      plain = λ none. absurd (takes_some permanent decision none);
-      tries = λ e some.
-          (trial, ap (λ (s : DeviceState). s.trial) same, tried_of permanent decision trial begun);
-    }
-
-    starts_set : (permanent : Bool) → IsDecision read table mask permanent
+    starts_set : (permanent : Bool) (next : DeviceState) → IsDecision read table mask permanent
         → IsTaken boots read mask permanent next → StartsGreatest boots found table report permanent next
-    starts_set true decision (floors, raised, same) = starts_for_good true refl decision floors raised same
-    starts_set false decision (trial, begun, same) = starts_trial false refl decision trial begun same
+    starts_set true next decision (floors, raised, same) =
+        subst (λ (s : DeviceState). StartsGreatest boots found table report true s) (sym same)
+        (starts true (taken_for_good read mask floors) runs_of asks_of refl refl
+        (stays_of true decision) (only_of true decision)
+        (λ e. (refl, raised))
+        (λ e. absurd (true≢false e))
+        (λ none. refl)
+        (λ e some. absurd (true≢false e)))
+    starts_set false next decision (trial, begun, same) =
+        subst (λ (s : DeviceState). StartsGreatest boots found table report false s) (sym same)
+        (starts false (taken_on_trial read mask trial) runs_of asks_of refl refl
+        (stays_of false decision) (only_of false decision)
+        (λ e. absurd (true≢false (sym e)))
+        (λ e. refl)
+        (λ none. absurd (takes_some false decision none))
+        (λ e some. (trial, refl, tried_of false decision trial begun)))
 
 pub boot_starts : (boots : ℕ) (s : DeviceState) (table : Table) (report : Report) (permanent : Bool)
     (next : DeviceState) → Boots boots s (Booted table report permanent) next
     → StartsGreatest boots s table report permanent next
 boot_starts boots s table report permanent next (read, reads, steady, (told, either)) = ⊎_elim
     (λ (plain : IsPlain read report permanent next).
-    starts_nothing boots s read next table report reads steady told permanent plain)
+    starts_nothing boots s read table report reads steady told permanent next plain)
     (λ (taken : (mask : ℕ) × (is_member mask ≡ taken_in report) × IsDecision read table mask permanent
     × IsTaken boots read mask permanent next).
-    starts_set boots s read next table report reads steady told taken.0 taken.1 permanent taken.2 taken.3)
+    starts_set boots s read table report reads steady told taken.0 taken.1 permanent next taken.2 taken.3)
     either
 
 -- ---- in a run
@@ -255,7 +240,7 @@ finished boots s (Booted table report permanent) next (read, reads, steady, (tol
     (λ (plain : IsPlain read report permanent next). inl (subst (λ k. IsReadAs s k) (sym plain.2) reads))
     (λ (taken : (mask : ℕ) × (is_member mask ≡ taken_in report) × IsDecision read table mask permanent
     × IsTaken boots read mask permanent next).
-    inr (takes_some boots s read next table report reads steady told taken.0 taken.1 permanent taken.2))
+    inr (takes_some boots s read table report reads steady told taken.0 taken.1 permanent taken.2))
     either
 finished boots s (Reverted mask) next back = inr tt
 finished boots s (TrialAgain set left) next again = inr tt

@@ -1,9 +1,8 @@
 -- Confirming an image of a trial.
-use Rattle.std.proofs.Common.{◌≡◌, ◌⊎◌, ℕ, ◌<◌, ◌≤◌, ◌==◌, ◌&&◌, Bool, true, false, List, Option, Some, None, refl}
-use Rattle.std.proofs.Common.{sym, ◌∙◌, ap, subst, arith, ⊎_elim, inl, inr, if◌then◌else◌, not}
+use Rattle.std.proofs.Common.{◌≡◌, ◌⊎◌, ℕ, ◌<◌, ◌==◌, ◌&&◌, Bool, true, false, List, Some, None, refl}
+use Rattle.std.proofs.Common.{sym, ◌∙◌, ap, subst, ⊎_elim, inl, inr, if◌then◌else◌, not}
 use Rattle.std.proofs.Math.Bool.{and-false}
 use Rattle.std.proofs.lemmas.Bool.{eqb-true}
-use Rattle.std.proofs.Common.{true≢false}
 use Rattle.std.proofs.lemmas.Option.{none-some}
 use Rattle.flash_model.specs.Chip.{Chip}
 use Rattle.sector_map.specs.declared.layout.SectorMap.{SectorMap}
@@ -141,23 +140,6 @@ on_trial map w s trial state i read was lt member =
     let mask = ap (λ (st : State). st.mask)
     (same_state map w state (logged log.Trial trial.set was.opened.permanent trial.left s) read was.opened.log) in
     (was.opened.trial, subst (λ n. i < n) was.opened.images lt, ap (λ m. is_member m i) (sym mask) ∙ member)
-
-one_trial : (a b : Trial) (o : Option Trial) → o ≡ Some a → o ≡ Some b → a ≡ b
-one_trial a b o first second = let e : Some a ≡ Some b = sym first ∙ second in cc
-
-pub not_on_trial : (map : SectorMap) (w : Chip) (s : DeviceState) (trial : Trial) (state : State) (i : ℕ)
-    → (view map w).log ≡ Some state → IsTrialAt (view map w) s trial → ((view map w).images ≤ i)
-    ⊎ (is_member state.mask i ≡ false)
-    → (other : Trial) → IsOnTrial s i other → ⊥
-not_on_trial map w s trial state i read was why other on =
-    let mask = ap (λ (st : State). st.mask)
-    (same_state map w state (logged log.Trial trial.set was.opened.permanent trial.left s) read was.opened.log) in
-    let same = one_trial other trial s.trial on.0 was.opened.trial in
-    ⊎_elim (λ (le : (view map w).images ≤ i). let lt : i < (view map w).images = subst (λ n. i < n)
-    (sym was.opened.images) on.1 in absurd (omega arith))
-    (λ (outside : is_member state.mask i ≡ false). true≢false
-    (sym on.2 ∙ ap (λ (t : Trial). is_member t.set i) same ∙ ap (λ m. is_member m i) (sym mask) ∙ outside))
-    why
 
 pub confirm_yes : (map : SectorMap) (old new : Chip) (state : State) (i : ℕ)
     → (view map old).log ≡ Some state → i < (view map old).images → is_member state.mask i ≡ true

@@ -134,36 +134,6 @@ never_found map old state finding other read finds is s table was = subst
     (λ f. IsFoundAgain s state.mask f) is
     (swapped_found map old state log.Settle state.mask finding read finds s table state.permanent was)
 
-module _ (map : SectorMap) (old mid found new : Chip) (state : State) (same : found ≡ mid) where
-  pub swap_records : ((s : DeviceState) (table : Table) (permanent : Bool)
-      → IsSwappingSome map old s table state.mask permanent → IsSwappingSome map mid s table state.mask permanent)
-      → ((s : DeviceState) (table : Table) (permanent : Bool)
-      → IsSwappingSome map old s table state.mask permanent
-      → IsSwapped (view map mid) s table log.Swap state.mask permanent)
-      → ((s : DeviceState) (table : Table) (mask : ℕ) (permanent : Bool)
-      → IsSwappingSome map found s table mask permanent
-      → IsSwapped (view map found) s table log.Swap mask permanent
-      → IsSwappingSome map new s table mask permanent ⊎ IsSwapped (view map new) s table log.Settle mask permanent)
-      → (s : DeviceState) (table : Table) → IsSwappingSome map old s table state.mask state.permanent
-      → IsUpgrading map new s table state.mask state.permanent
-  swap_records carries swaps records s table was = records s table state.mask state.permanent
-      (subst (λ w. IsSwappingSome map w s table state.mask state.permanent) (sym same)
-      (carries s table state.permanent was))
-      (subst (λ w. IsSwapped (view map w) s table log.Swap state.mask state.permanent) (sym same)
-      (swaps s table state.permanent was))
-
-  pub swap_settles : ((s : DeviceState) (table : Table) (permanent : Bool)
-      → IsSwappingSome map old s table state.mask permanent
-      → IsSwapped (view map mid) s table log.Swap state.mask permanent)
-      → ((s : DeviceState) (table : Table) (mask : ℕ) (permanent : Bool)
-      → IsSwapped (view map found) s table log.Swap mask permanent
-      → IsSwapped (view map new) s table log.Settle mask permanent)
-      → (s : DeviceState) (table : Table) → IsSwappingSome map old s table state.mask state.permanent
-      → IsSwapped (view map new) s table log.Settle state.mask state.permanent
-  swap_settles swaps settles s table was = settles s table state.mask state.permanent
-      (subst (λ w. IsSwapped (view map w) s table log.Swap state.mask state.permanent) (sym same)
-      (swaps s table state.permanent was))
-
 pub swap_finishes : (map : SectorMap) (old settled new : Chip) (state : State) (left : ℕ)
     → ((s : DeviceState) (table : Table) → IsSwappingSome map old s table state.mask state.permanent
     → IsSwapped (view map settled) s table log.Settle state.mask state.permanent)

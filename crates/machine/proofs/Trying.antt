@@ -22,8 +22,7 @@ use Rattle.machine.specs.States.{IsConfirmed, IsRaised, settled, tried_again}
 use Rattle.machine.specs.Boots.{Boots, GoesBack, GoesOn, HasDamaged, IsBootCut, IsEntryOf, IsReadAs}
 use Rattle.machine.specs.Holding.{IsTriedAt, IsTrialAt, IsTrialOpen, Stands, Rests, Tries, Opens, SwapsBack}
 use Rattle.machine.specs.Passing.{IsOpenOrAt, IsSwappingBackSome, EndsBoot, CutsBoot}
-use Rattle.machine.specs.Reading.{RunsAt, IsDamagedOr, IsAnyDamaged, AreSetOk, IsPassage, IsFloorOf, IsReadOf}
-use Rattle.machine.specs.declared.finding.Passage.{Passage}
+use Rattle.machine.specs.Reading.{RunsAt, IsDamagedOr, IsAnyDamaged, AreSetOk, IsFloorOf, IsReadOf}
 use Rattle.machine.specs.declared.reply.Reply.{Reply}
 use Rattle.machine.specs.declared.reply.Reply.TheVariants.{Booted, Reverted, TrialAgain, Refused}
 use Rattle.machine.specs.declared.error.Fault.TheVariants as no
@@ -32,7 +31,6 @@ use Rattle.machine.proofs.Reverting.{tried_same, open_logged}
 use Rattle.machine.proofs.Ending.{member_or}
 use Rattle.machine.proofs.Confirming.{trial_over}
 use Rattle.machine.proofs.Raising.{entry_counter}
-use Rattle.machine.proofs.Standing.{stands_trial}
 
 -- ---- what is read of one slot
 
@@ -452,27 +450,3 @@ module _ (map : SectorMap) (boots : ℕ) (old read new : Chip) (state : State) (
       let at : IsTrialAt (view map old) s trial = rest_over map old s trial confirmed was in
       ends_as_read map boots new s (settled s floors) reply (over_read s trial confirmed at) refl
       (ends (settled s floors) (records s trial (over_here s trial at)))
-
--- ---- a boot on trial, by its passage
-
-module _ (map : SectorMap) (boots : ℕ) (old mid new : Chip) (state : State) (found passage : Passage)
-    (read : (view map old).log ≡ Some state) (kind : state.kind ≡ log.Trial) (same : mid ≡ old)
-    (decides : (s : DeviceState) (trial : Trial) → IsTrialOpen (view map old) s trial → IsPassage s trial found)
-    (is : found ≡ passage) where
-  passage_here : (s : DeviceState) (trial : Trial) → IsOpenOrAt (view map old) s trial
-      → IsPassage s trial passage
-  passage_here s trial was = subst (λ p. IsPassage s trial p) is (decides s trial (open_of map old s trial was))
-
-  pub trial_cuts : ((s : DeviceState) (trial : Trial) → IsPassage s trial passage
-      → IsOpenOrAt (view map mid) s trial → CutsBoot map boots new s)
-      → (s : DeviceState) → Stands map old s → CutsBoot map boots new s
-  trial_cuts cuts s stands =
-      let at = stands_trial map old s state read kind stands in
-      cuts s at.0 (passage_here s at.0 at.2) (subst (λ w. IsOpenOrAt (view map w) s at.0) (sym same) at.2)
-
-  pub trial_ends : (reply : Reply) → ((s : DeviceState) (trial : Trial) → IsPassage s trial passage
-      → IsOpenOrAt (view map mid) s trial → EndsBoot map boots new s reply)
-      → (s : DeviceState) → Stands map old s → EndsBoot map boots new s reply
-  trial_ends reply ends s stands =
-      let at = stands_trial map old s state read kind stands in
-      ends s at.0 (passage_here s at.0 at.2) (subst (λ w. IsOpenOrAt (view map w) s at.0) (sym same) at.2)

@@ -154,6 +154,3 @@ module _ (map : SectorMap) (old mid : Chip) (mask : ℕ) (permanent : Bool) (sam
       → IsChosen s table mask → IsDecision s table mask permanent
   chosen_decision s table was chosen = decision_of s table mask permanent chosen
       (asks s (asking map old s table mask was chosen))
-
-  pub steady_here : (s : DeviceState) → IsSteadyAt (view map old) s → IsSteadyAt (view map mid) s
-  steady_here s was = subst (λ v. IsSteadyAt (view map v) s) (sym same) was
