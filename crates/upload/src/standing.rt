@@ -59,7 +59,8 @@ fn stands<F: Flash>(flash: &mut F, map: &SectorMap, image: u8, upload: &Upload) 
     };
     let is_erased = is_erased_behind(flash, map, image, written)?;
     let is_blank = is_blank(flash, map, image, Side::Secondary)?;
-    Ok(is_erased && is_blank)
+    // With `&&` there were two exit paths to prove.
+    Ok(is_erased & is_blank)
 }
 
 /// Returns whether the upload of an image matches the flash, if one is open.

@@ -1,4 +1,4 @@
-use Rattle.std.proofs.Common.{◌≡◌, ◌+◌, ◌-◌, ◌++◌, ◌≤◌, ℕ, length, List, arith, refl, sym, ◌∙◌, ap, subst, take, drop, length-append}
+use Rattle.std.proofs.Common.{◌≡◌, ◌+◌, ◌-◌, ◌++◌, ◌<◌, ◌≤◌, ℕ, length, List, arith, refl, sym, ◌∙◌, ap, subst, take, drop, length-append}
 use Rattle.std.proofs.lemmas.List.{take-append-drop}
 use Rattle.sector_map.specs.declared.layout.Side.TheVariants.{Secondary}
 use Rattle.flash_model.specs.Chip.{Chip, SameOutside}
@@ -27,51 +27,58 @@ units_range base start a b total old mid new first second eight fits =
     (same_outside_wider (base + start) a (base + start) total old mid first (omega arith) (omega (arith, eight, fits)))
     (same_outside_wider (base + (start + 8)) b (base + start) total mid new second (omega arith) (omega (arith, fits)))
 
+written_range : (base received held k a b total : ℕ) (old mid new : Chip) → k ≡ held
+    → SameOutside (base + (received - k)) a old mid → SameOutside (base + (received - k + 8)) b mid new
+    → a ≡ 8 → 8 + b ≤ total → SameOutside (base + (received - held)) total old new
+written_range base received held k a b total old mid new is first second eight fits = subst
+    (λ n. SameOutside (base + (received - n)) total old new) is
+    (units_range base (received - k) a b total old mid new first second eight fits)
+
+-- The unit that the first bytes complete.
+unit_long : (held first unit : List ℕ) (k : ℕ) → unit ≡ held ++ first → k ≡ length held → length first ≡ 8 - k
+    → length held < 8 → length unit ≡ 8
+unit_long held first unit k is count long few =
+    omega (arith, ap length is, length-append held first, count, long, few)
+
+-- This unit and those after it are no longer than the held bytes and the new ones.
+units_fit : (held bytes rest units last k w : ℕ) → k ≡ held → held < 8 → rest + (8 - k) ≡ bytes → units ≡ w
+    → last + w ≡ rest → 8 + units ≤ held + bytes
+units_fit held bytes rest units last k w count few back front last_is =
+    omega (arith, count, few, back, front, last_is)
+
 pub write_slot-requires-clause-units : goal.write_slot-requires-clause-units
 write_slot-requires-clause-units g c =
     let was = c.requires.room.stands.1 in
-    let n = c.len.ensures.value in
-    let m = ap length (c.as_slice.ensures.value ∙ c.extend.ensures)
-    ∙ length-append c.take-unit.result.items c.split_at.result.0.now in
-    let h = ap (λ v. length v.items) c.take-unit.ensures.value in
-    (1, omega (arith, m, h, n, c.split_at.ensures.front_len, was.few))
+    let unit = c.as_slice.ensures.value ∙ c.extend.ensures
+    ∙ ap (λ v. v.items ++ c.split_at.result.0.now) c.take-unit.ensures.value in
+    (1, unit_long _ _ _ _ unit c.len-2.ensures.value c.split_at.ensures.front_len was.few)
 
 pub write_slot-requires-clause-behind : goal.write_slot-requires-clause-behind
 write_slot-requires-clause-behind g c =
     let was = c.requires.room.stands.1 in
+    let unit = c.as_slice.ensures.value ∙ c.extend.ensures
+    ∙ ap (λ v. v.items ++ c.split_at.result.0.now) c.take-unit.ensures.value in
+    let full = unit_long _ _ _ _ unit c.len-2.ensures.value c.split_at.ensures.front_len was.few in
     let n = c.len.ensures.value in
-    let m = ap length (c.as_slice.ensures.value ∙ c.extend.ensures)
-    ∙ length-append c.take-unit.result.items c.split_at.result.0.now in
-    let h = ap (λ v. length v.items) c.take-unit.ensures.value in
     let long = length_part c.args.map.now (g.F.Flash.chip c.args.flash.now) (Slot c.args.image Secondary)
     c.requires.room.laid_out in
     record {
       laid_out = c.requires.room.laid_out;
       there = was.there;
       place = (was.units.0, omega (arith, was.units.1, n, was.count));
-      room = omega (
-        arith,
-        m,
-        h,
-        n,
-        long,
-        c.split_at.ensures.front_len,
-        was.few,
-        was.count,
-        was.room,
-        c.requires.room.fits,
-        c.requires.enough,
-      );
+      room = omega (arith, full, n, long, was.count, was.room, c.requires.room.fits, c.requires.enough);
       written = (c.requires.room.stands.0, omega (arith, n, was.count), was.slot);
     }
 
 pub write_slot-requires-2-clause-behind : goal.write_slot-requires-2-clause-behind
 write_slot-requires-2-clause-behind g c =
     let was = c.requires.room.stands.1 in
+    let unit = c.as_slice.ensures.value ∙ c.extend.ensures
+    ∙ ap (λ v. v.items ++ c.split_at.result.0.now) c.take-unit.ensures.value in
+    let full = unit_long _ _ _ _ unit c.len-2.ensures.value c.split_at.ensures.front_len was.few in
+    let fits = units_fit _ _ _ _ _ _ _ c.len-2.ensures.value was.few c.split_at.ensures.back_len
+    c.split_at-2.ensures.front_len c.split_at-2.ensures.back_len in
     let n = c.len.ensures.value in
-    let m = ap length (c.as_slice.ensures.value ∙ c.extend.ensures)
-    ∙ length-append c.take-unit.result.items c.split_at.result.0.now in
-    let h = ap (λ v. length v.items) c.take-unit.ensures.value in
     let l = length-append c.requires.room.stands.0 c.as_slice.result.now in
     let long = length_part c.args.map.now (g.F.Flash.chip c.args.flash.now) (Slot c.args.image Secondary)
     c.requires.room.laid_out in
@@ -80,43 +87,27 @@ write_slot-requires-2-clause-behind g c =
           (g.F.Flash.chip c.write_slot.new.flash) c.requires.room.laid_out c.write_slot.ensures.outside;
       there = was.there;
       place = (was.units.0 + 1, omega (arith, was.units.1, n, was.count));
-      room = omega (
-        arith,
-        n,
-        c.len-2.ensures.value,
-        long,
-        was.few,
-        was.count,
-        was.room,
-        c.requires.room.fits,
-        c.requires.enough,
-        c.split_at.ensures.front_len,
-        c.split_at.ensures.back_len,
-        c.split_at-2.ensures.front_len,
-        c.split_at-2.ensures.back_len,
-        c.whole_units.ensures.least,
-      );
+      room = omega (arith, fits, n, long, was.count, was.room, c.requires.room.fits);
       written = (
         c.requires.room.stands.0 ++ c.as_slice.result.now,
-        omega (arith, l, m, h, n, c.split_at.ensures.front_len, was.few, was.count),
+        omega (arith, l, full, n, was.count),
         c.in_ok-write_slot.ensures.ok c.requires.room.stands.0 (omega (arith, n, was.count)) was.slot,
       );
     }
 
 pub returns-in_err-write_slot : goal.returns-in_err-write_slot
 returns-in_err-write_slot g c =
-    let was = c.requires.room.stands.1 in
-    let n = c.len.ensures.value in
-    let m = ap length (c.as_slice.ensures.value ∙ c.extend.ensures)
-    ∙ length-append c.take-unit.result.items c.split_at.result.0.now in
-    let h = ap (λ v. length v.items) c.take-unit.ensures.value in
+    let unit = c.as_slice.ensures.value ∙ c.extend.ensures
+    ∙ ap (λ v. v.items ++ c.split_at.result.0.now) c.take-unit.ensures.value in
+    let full =
+    unit_long _ _ _ _ unit c.len-2.ensures.value c.split_at.ensures.front_len c.requires.room.stands.1.few in
     rw (err_passed _ _ c.from_residual.ensures.1) (record {
       outside = c.write_slot.ensures.outside;
       range = subst (λ k. SameOutside (start_of c.args.map.now (Slot c.args.image Secondary)
           + (c.args.upload.now.received - k)) (length c.args.upload.now.held.items + length c.args.bytes.now)
-          (g.F.Flash.chip c.args.flash.now) (g.F.Flash.chip c.write_slot.new.flash)) n
+          (g.F.Flash.chip c.args.flash.now) (g.F.Flash.chip c.write_slot.new.flash)) c.len.ensures.value
           (same_outside_wider _ _ _ _ _ _ c.write_slot.ensures.range (omega arith)
-          (omega (arith, m, h, n, c.split_at.ensures.front_len, was.few, c.requires.enough)));
+          (omega (arith, full, c.requires.enough)));
       ok = tt;
       erases = tt;
       held = λ few. absurd (let enough = c.requires.enough in omega (arith, few, enough));
@@ -128,31 +119,16 @@ pub returns-in_err-write_slot-2 : goal.returns-in_err-write_slot-2
 returns-in_err-write_slot-2 g c =
     let first = c.in_ok-write_slot.ensures.ends in
     let was = c.requires.room.stands.1 in
-    let n = c.len.ensures.value in
-    let n2 = c.len-2.ensures.value in
-    let m = ap length (c.as_slice.ensures.value ∙ c.extend.ensures)
-    ∙ length-append c.take-unit.result.items c.split_at.result.0.now in
-    let h = ap (λ v. length v.items) c.take-unit.ensures.value in
+    let unit = c.as_slice.ensures.value ∙ c.extend.ensures
+    ∙ ap (λ v. v.items ++ c.split_at.result.0.now) c.take-unit.ensures.value in
+    let full = unit_long _ _ _ _ unit c.len-2.ensures.value c.split_at.ensures.front_len was.few in
+    let fits = units_fit _ _ _ _ _ _ _ c.len-2.ensures.value was.few c.split_at.ensures.back_len
+    c.split_at-2.ensures.front_len c.split_at-2.ensures.back_len in
     rw (err_passed _ _ c.from_residual-in_err-write_slot-2.ensures.1) (record {
       outside = keeps_trans c.args.map.now (only (Slot c.args.image Secondary)) _ _ _ c.write_slot.ensures.outside
           c.write_slot-2.ensures.outside;
-      range = subst (λ k. SameOutside (start_of c.args.map.now (Slot c.args.image Secondary)
-          + (c.args.upload.now.received - k)) (length c.args.upload.now.held.items + length c.args.bytes.now)
-          (g.F.Flash.chip c.args.flash.now) (g.F.Flash.chip c.write_slot-2.new.flash)) n
-          (units_range _ _ _ _ _ _ _ _ c.write_slot.ensures.range c.write_slot-2.ensures.range
-          (omega (arith, m, h, n, n2, c.split_at.ensures.front_len, was.few))
-          (omega (
-            arith,
-            n,
-            n2,
-            was.few,
-            c.requires.enough,
-            c.split_at.ensures.front_len,
-            c.split_at.ensures.back_len,
-            c.split_at-2.ensures.front_len,
-            c.split_at-2.ensures.back_len,
-            c.whole_units.ensures.least,
-          )));
+      range = written_range _ _ _ _ _ _ _ _ _ _ c.len.ensures.value c.write_slot.ensures.range
+          c.write_slot-2.ensures.range full fits;
       ok = tt;
       erases = tt;
       held = λ few. absurd (let enough = c.requires.enough in omega (arith, few, enough));
@@ -175,6 +151,9 @@ returns g c =
     let two = c.in_ok-write_slot-2.ensures.ends in
     let h = ap (λ v. v.items) c.take-unit.ensures.value in
     let unit = c.as_slice.ensures.value ∙ c.extend.ensures ∙ ap (λ l. l ++ c.split_at.result.0.now) h in
+    let full = unit_long _ _ _ _ unit n2 c.split_at.ensures.front_len was.few in
+    let fits = units_fit _ _ _ _ _ _ _ n2 was.few c.split_at.ensures.back_len c.split_at-2.ensures.front_len
+    c.split_at-2.ensures.back_len in
     let parts : c.args.bytes.now ≡ c.split_at.result.0.now ++
     (c.split_at-2.result.0.now ++ c.split_at-2.result.1.now) =
     sym (take-append-drop (8 - c.len-2.result) c.args.bytes.now)
@@ -196,32 +175,7 @@ returns g c =
     } in
     record {
       outside = keeps_trans map (only (Slot c.args.image Secondary)) _ _ _ first second;
-      range = subst (λ k. SameOutside (start_of map (Slot c.args.image Secondary)
-          + (c.args.upload.now.received - k)) (length c.args.upload.now.held.items + length c.args.bytes.now)
-          (g.F.Flash.chip c.args.flash.now) (g.F.Flash.chip c.write_slot-2.new.flash)) n
-          (units_range _ _ _ _ _ _ _ _ c.write_slot.ensures.range c.write_slot-2.ensures.range
-          (omega (
-            arith,
-            ap length (c.as_slice.ensures.value ∙ c.extend.ensures)
-                ∙ length-append c.take-unit.result.items c.split_at.result.0.now,
-            ap length h,
-            n,
-            n2,
-            c.split_at.ensures.front_len,
-            was.few,
-          ))
-          (omega (
-            arith,
-            n,
-            n2,
-            was.few,
-            c.requires.enough,
-            c.split_at.ensures.front_len,
-            c.split_at.ensures.back_len,
-            c.split_at-2.ensures.front_len,
-            c.split_at-2.ensures.back_len,
-            c.whole_units.ensures.least,
-          )));
+      range = written_range _ _ _ _ _ _ _ _ _ _ n c.write_slot.ensures.range c.write_slot-2.ensures.range full fits;
       ok = added c.args.image _ _ _ c.args.upload.now c.hold.new.upload c.args.bytes.now _ _ _ held parts
           (omega (arith, n, n2, was.few, c.split_at.ensures.front_len))
           (c.whole_units.ensures.units.0, c.split_at-2.ensures.front_len ∙ c.whole_units.ensures.units.1)
@@ -237,11 +191,7 @@ returns g c =
           c.in_ok-write_slot-2.ensures.ok;
       erases = c.write_slot-2.ensures.erases ∙ c.write_slot.ensures.erases;
       held = λ few. absurd (let enough = c.requires.enough in omega (arith, few, enough));
-      on = λ enough. c.in_ok-write_slot.ensures.on (
-          let m = ap length (c.as_slice.ensures.value ∙ c.extend.ensures)
-          ∙ length-append c.take-unit.result.items c.split_at.result.0.now in
-          let long = ap length h in
-          omega (arith, m, long, n, c.split_at.ensures.front_len, was.few));
+      on = λ enough. c.in_ok-write_slot.ensures.on (omega (arith, full));
       ends = ends_well _ _ _ (uncut_trans _ (g.F.Flash.chip c.write_slot.new.flash) _ one.uncut two.uncut)
           (asleep_trans _ (g.F.Flash.chip c.write_slot.new.flash) _ one.uncut one.asleep two.asleep);
     }

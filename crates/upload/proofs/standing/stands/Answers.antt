@@ -17,20 +17,10 @@ returns-in_default g c =
     ) in
     open_told map c.args.image c.args.upload.now _ _ _ refl ok (λ off. c.written_of.ensures.none c.in_default.is)
 
-pub returns-then-is_erased : goal.returns-then-is_erased
-returns-then-is_erased g c =
+pub returns : goal.returns
+returns g c =
     counts_told c.args.map.now c.args.image c.in-Some.written c.args.upload.now _ _ _ _ _ c.requires
     c.in-Some.ensures.some c.in_ok-is_erased.ensures.ok
     (rw c.is_erased_behind.ensures.same at c.in_ok-is_blank.ensures.ok)
     (c.is_blank.ensures.same ∙ c.is_erased_behind.ensures.same)
-    (λ off. no_error _ _ (c.in_ok-is_blank.ensures.off (c.in_ok-is_erased.ensures.ends.uncut.on ∙ off)))
-    (rw c.if-is_erased.true refl)
-
-pub returns-else-is_erased : goal.returns-else-is_erased
-returns-else-is_erased g c =
-    counts_told c.args.map.now c.args.image c.in-Some.written c.args.upload.now _ _ _ _ _ c.requires
-    c.in-Some.ensures.some c.in_ok-is_erased.ensures.ok
-    (rw c.is_erased_behind.ensures.same at c.in_ok-is_blank.ensures.ok)
-    (c.is_blank.ensures.same ∙ c.is_erased_behind.ensures.same)
-    (λ off. no_error _ _ (c.in_ok-is_blank.ensures.off (c.in_ok-is_erased.ensures.ends.uncut.on ∙ off)))
-    (rw c.if-is_erased.false refl)
+    (λ off. no_error _ _ (c.in_ok-is_blank.ensures.off (c.in_ok-is_erased.ensures.ends.uncut.on ∙ off))) refl
