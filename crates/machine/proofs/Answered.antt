@@ -1,5 +1,5 @@
 -- Each boot of a run that returns a report starts the greatest set.
-use Rattle.std.proofs.Common.{◌≡◌, ◌⊎◌, ℕ, ◌/◌, ◌%◌, ◌^◌, ◌<◌, Bool, true, false, List, [], ◌∷◌, drop, Some, None}
+use Rattle.std.proofs.Common.{◌≡◌, ◌⊎◌, ◌↔◌, ℕ, ◌/◌, ◌%◌, ◌^◌, ◌<◌, Bool, true, false, List, [], ◌∷◌, drop, Some, None}
 use Rattle.std.proofs.Common.{refl, sym, ◌∙◌, ap, subst, arith, slice_get, ⊎_elim, inl, inr, zero, suc, if◌then◌else◌}
 use Rattle.std.proofs.lemmas.Bool.Decides.{nat_tests}
 use Rattle.std.proofs.Math.Nat.{div-one, div-div-eq-div-mul, pow-succ'}
@@ -58,13 +58,13 @@ module _ (boots : ℕ) (found read : DeviceState) (table : Table) (report : Repo
   starts : (permanent : Bool) (next : DeviceState) → ((i : ℕ) → next.running i ≡ running_by read report i)
       → ((i : ℕ) → next.request i ≡ request_by read report i)
       → next.images ≡ read.images → next.sequence ≡ read.sequence
-      → (permanent ≡ true → StaysForGood read report) → (StaysForGood read report → permanent ≡ true)
+      → (permanent ≡ true ↔ StaysForGood read report)
       → (permanent ≡ true → (next.trial ≡ None) × IsRaised read.images next.running read.floors next.floors)
       → (permanent ≡ false → next.floors ≡ read.floors) → (TakesNone report → next.trial ≡ None)
       → (permanent ≡ false → (TakesNone report → ⊥)
       → (trial : Trial) × (next.trial ≡ Some trial) × IsTriedBy boots read report trial)
       → StartsGreatest boots found table report permanent next
-  starts permanent next runs asks images sequence good only stays floors plain tries = record {
+  starts permanent next runs asks images sequence asked stays floors plain tries = record {
     read = read;
     reads = reads;
     steady = steady;
@@ -76,8 +76,8 @@ module _ (boots : ℕ) (found read : DeviceState) (table : Table) (report : Repo
     asks = asks;
     images = images;
     sequence = sequence;
-    good = good;
-    only = only;
+    good = asked.0;
+    only = asked.1;
     stays = λ e. (stays e).0;
     raised = λ e. (stays e).1;
     floors = floors;
@@ -93,8 +93,7 @@ module _ (boots : ℕ) (found read : DeviceState) (table : Table) (report : Repo
       (λ i. ap (λ b. if b then wanted_bytes (read.request i) else read.running i) (sym (none i)))
       (λ i. ap (λ b. if b then None else read.request i) (sym (none i)))
       refl refl
-      (λ e. absurd (true≢false (sym e ∙ not_good)))
-      (λ stays. absurd (stays.some none))
+      (λ e. absurd (true≢false (sym e ∙ not_good)), λ stays. absurd (stays.some none))
       (λ e. absurd (true≢false (sym e ∙ not_good)))
       (λ e. refl)
       (λ e. steady)
@@ -142,7 +141,7 @@ module _ (boots : ℕ) (found read : DeviceState) (table : Table) (report : Repo
     starts_set true next decision (floors, raised, same) =
         subst (λ (s : DeviceState). StartsGreatest boots found table report true s) (sym same)
         (starts true (taken_for_good read mask floors) runs_of asks_of refl refl
-        (stays_of true decision) (only_of true decision)
+        (stays_of true decision, only_of true decision)
         (λ e. (refl, raised))
         (λ e. absurd (true≢false e))
         (λ none. refl)
@@ -150,7 +149,7 @@ module _ (boots : ℕ) (found read : DeviceState) (table : Table) (report : Repo
     starts_set false next decision (trial, begun, same) =
         subst (λ (s : DeviceState). StartsGreatest boots found table report false s) (sym same)
         (starts false (taken_on_trial read mask trial) runs_of asks_of refl refl
-        (stays_of false decision) (only_of false decision)
+        (stays_of false decision, only_of false decision)
         (λ e. absurd (true≢false (sym e)))
         (λ e. refl)
         (λ none. absurd (takes_some false decision none))

@@ -122,13 +122,12 @@ returns-in_err-write_slot-2 g c =
     let unit = c.as_slice.ensures.value ∙ c.extend.ensures
     ∙ ap (λ v. v.items ++ c.split_at.result.0.now) c.take-unit.ensures.value in
     let full = unit_long _ _ _ _ unit c.len-2.ensures.value c.split_at.ensures.front_len was.few in
-    let fits = units_fit _ _ _ _ _ _ _ c.len-2.ensures.value was.few c.split_at.ensures.back_len
-    c.split_at-2.ensures.front_len c.split_at-2.ensures.back_len in
     rw (err_passed _ _ c.from_residual-in_err-write_slot-2.ensures.1) (record {
       outside = keeps_trans c.args.map.now (only (Slot c.args.image Secondary)) _ _ _ c.write_slot.ensures.outside
           c.write_slot-2.ensures.outside;
       range = written_range _ _ _ _ _ _ _ _ _ _ c.len.ensures.value c.write_slot.ensures.range
-          c.write_slot-2.ensures.range full fits;
+          c.write_slot-2.ensures.range full (units_fit _ _ _ _ _ _ _ c.len-2.ensures.value was.few
+          c.split_at.ensures.back_len c.split_at-2.ensures.front_len c.split_at-2.ensures.back_len);
       ok = tt;
       erases = tt;
       held = λ few. absurd (let enough = c.requires.enough in omega (arith, few, enough));
