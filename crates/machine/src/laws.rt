@@ -24,12 +24,12 @@ ghost use Rattle.machine.specs.declared.reply.Reply.TheVariants.{Booted};
 
 /// In every run, even with power cuts, each boot that returns a report starts the greatest set.
 ///
-/// A combination takes some of the pending requests. It is valid if no taken image is older than
-/// the one that runs or below its security counter's floor, and all dependencies and groups are
-/// met. The greatest set is the valid combination that contains all valid ones. A boot that replies
-/// `Booted` takes the greatest set of the images that run and are requested when it boots. After it
-/// the taken images run, and all other images run on. Its report has a reason for each refused
-/// request, and the reason holds at its place.
+/// A combination takes some of the pending requests. In a valid one all dependencies and groups are
+/// met. Each taken image is intact, is no older than the one that runs, and its security counter
+/// isn't below the floor. The greatest set is the valid combination that contains all valid ones. A
+/// boot that replies `Booted` takes the greatest set of the images that run and are requested when
+/// it boots. After it the taken images run, and all other images run on. Its report has a reason
+/// for each refused request, and the reason holds at its place.
 ///
 /// The function does nothing: its contract is the theorem.
 #[tactic(auto, using(crate::proofs::Answered::booted_at))]

@@ -1,4 +1,4 @@
--- Accepting a manifest is a step of the machine: the successful call, and the one that is cut.
+-- Accepting a manifest is a step of the machine: the successful call, and the interrupted one.
 use Rattle.std.proofs.Common.{◌≡◌, ◌⊎◌, ℕ, ◌<◌, ◌≤◌, false, List, [], length, Option, Some, None, refl, sym, ◌∙◌, ap, subst, arith, ⊎_elim, inl, inr}
 use Rattle.sector_map.specs.declared.layout.Side.TheVariants.{Primary, Secondary}
 use Rattle.sector_map.specs.Part.{Log, only}
@@ -110,7 +110,7 @@ sequence_cut old mid state q cs read keeps either s was = ⊎_elim
     ))
     either
 
--- The request of an image after a cut, if the manifest may list the image.
+-- The request of an image after a power cut, if the manifest may list the image.
 abbrev left_of : (old new : View) (i : ℕ) → Option Component → IsKeptOrGone old new i → Option Wanted → Option Wanted
 left_of old new i None e wanted = wanted
 left_of old new i (Some c) (inl same) wanted = wanted

@@ -40,8 +40,8 @@ worn_of map chip [] = 0
 worn_of map chip (c ∷ cs) =
     (if is_named cs c.image then 0 else worn map chip c.image) + worn_of map chip cs
 
--- The number of sectors that recording a sequence number erases: none if it is recorded already or
--- a place of the log is free, else one.
+-- The number of sectors that recording a sequence number erases. It is 0 if the number is recorded
+-- already or a place of the log is free, else 1.
 abbrev pub erases_of_record : SectorMap → Chip → ℕ → ℕ → ℕ
 erases_of_record map chip recorded sequence =
     if recorded == sequence then 0 else if is_place_free map chip then 0 else 1
