@@ -41,7 +41,7 @@ pub fn each_boot_that_answers_starts_the_greatest_set()
         → IsBootedAt setup m events replies last place table report permanent }
 {}
 
-/// Power cuts during boots don't change which set is started.
+/// Power cuts during boots don't change which set is started, unless a boot had finished its work.
 ///
 /// Any number of boots are interrupted by power cuts, one after the other, and the next boot
 /// replies `Booted`. That boot starts the greatest set of the images that ran and were requested

@@ -93,8 +93,8 @@ impl Uploads {
     /// - `WrongPrecursor`: a component requires another running image (RFC 9124, "Precursor Image
     ///   Digest Condition").
     /// - `Flash` with `Cut`: power failed after all checks had passed. All uploads are closed.
-    ///   If the log still has the old sequence number, no request changed. If it has the new one,
-    ///   each request of a listed image is unchanged or withdrawn. It has one of the two.
+    ///   Either the log has the old sequence number, and no request changed. Or it has the new one,
+    ///   and each request of a listed image is unchanged or withdrawn.
     /// - `Flash` with `Off`: the flash was off. All uploads are closed, and nothing else changed.
     pub fn accept<F: Flash>(
         &mut self,
