@@ -132,8 +132,8 @@ fn read_row<F: Flash>(
 ///
 /// If an image that the table needs isn't intact, the result is the lowest such image instead.
 /// `mask` has bit i set if the slots of image i are swapped. `floors` has the security counter's
-/// floor for each image. Each slot is read at most once, and the secondary slot of an image at rest
-/// only if something is requested for it. The map has to be laid out on the flash.
+/// floor for each image. The image of each slot is checked at most once, and that of a secondary
+/// slot at rest only if something is requested for it. The map has to be laid out on the flash.
 ///
 /// # Errors
 /// `Off`: the flash was off. Nothing changes in any case.
