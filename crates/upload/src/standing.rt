@@ -59,7 +59,7 @@ fn stands<F: Flash>(flash: &mut F, map: &SectorMap, image: u8, upload: &Upload) 
     };
     let is_erased = is_erased_behind(flash, map, image, written)?;
     let is_blank = is_blank(flash, map, image, Side::Secondary)?;
-    // With `&&` there were two exit paths to prove.
+    // `&&` would add an exit path, which has to be proved.
     Ok(is_erased & is_blank)
 }
 
