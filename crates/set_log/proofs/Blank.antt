@@ -1,4 +1,4 @@
--- When bytes of the log are erased.
+-- When bytes of the log read as erased.
 use Rattle.std.proofs.Common.{◌≡◌, ℕ, ◌+◌, ◌-◌, ◌*◌, ◌<◌, ◌≤◌, Bool, true, false, List, length, slice_range, slice_index, arith, refl, sym, ◌∙◌, ap, subst, ⊎_elim}
 use Rattle.std.proofs.lemmas.Bool.{cases_lt}
 use Rattle.flash_model.specs.Chip.{Chip, IsErased}
@@ -7,14 +7,14 @@ use Rattle.flash_model.proofs.Erased.{each_erased, erased_each}
 use Rattle.flash_model.proofs.Ranges.{length_range, range_at, range_same}
 use Rattle.set_log.specs.Ring.{reads_erased}
 
--- What is erased reads as erased ..
+-- Erased bytes read as erased.
 pub reads_erased_of : (log : Chip) (at n : ℕ) → IsErased log at n → reads_erased log.bytes at n ≡ true
 unfolding reads_erased
 reads_erased_of log at n erased = each_erased _ (λ i lt.
     let below : i < n = omega (arith, length_range log.bytes at (at + n)) in
     range_at log.bytes at (at + n) i (omega arith) ∙ erased.each (at + i) (omega arith) (omega arith))
 
--- .. and what reads as erased is erased.
+-- Bytes that read as erased are erased.
 pub erased_of_reads : (log : Chip) (at n : ℕ) → reads_erased log.bytes at n ≡ true
     → at + n ≤ length log.bytes → IsErased log at n
 unfolding reads_erased
@@ -27,7 +27,7 @@ erased_of_reads log at n reads fits = record {
       (sym (range_at log.bytes at (at + n) (k - at) (omega arith)) ∙ erased_each _ (k - at) reads long);
 }
 
--- Bytes that are the same read the same.
+-- The same bytes read the same.
 pub same_reads : (at n : ℕ) (old new : List ℕ) → length new ≡ length old
     → ((k : ℕ) → at ≤ k → k < at + n → slice_index new k ≡ slice_index old k)
     → reads_erased new at n ≡ reads_erased old at n
@@ -39,7 +39,7 @@ pub not_true : (b : Bool) → (b ≡ true → ⊥) → b ≡ false
 not_true true never = absurd (never refl)
 not_true false never = refl
 
--- One place more below erased ones.
+-- If the place below erased ones is erased, all places from it on are.
 pub erased_below : (at p n : ℕ) (log : Chip) → IsErased log (at + 64 * p) (64 * (n - p)) → 0 < p → p ≤ n
     → IsErased log (at + 64 * (p - 1)) 64 → IsErased log (at + 64 * (p - 1)) (64 * (n - (p - 1)))
 erased_below at p n log above some le here = record {

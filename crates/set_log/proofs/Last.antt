@@ -1,4 +1,4 @@
--- The last gated record of a sector, and what writes leave of it.
+-- The last gated record of a sector, and how writes change it.
 use Rattle.std.proofs.Common.{◌≡◌, ◌≢◌, ◌⊎◌, ℕ, zero, suc, ◌+◌, ◌-◌, ◌*◌, ◌<◌, ◌≤◌, Bool, true, false, List, Some, None, length, slice_range, slice_index, arith, refl, sym, ◌∙◌, ap, subst, inl, inr, ⊎_elim}
 use Rattle.std.proofs.lemmas.Bool.{cases_eq}
 use Rattle.flash_model.specs.Chip.{Chip, IsErased, Reads, SameOutside}
@@ -7,21 +7,21 @@ use Rattle.flash_model.proofs.Ranges.{range_same, range_of_reads}
 use Rattle.set_log.specs.Ring.{reads_erased, last_gated, last_of, places_in, IsFree}
 use Rattle.set_log.proofs.Blank.{reads_erased_of, same_reads}
 
--- One place less ..
+-- If the gate of the last of p places is erased, the first p - 1 places decide.
 pub last_step : (log : List ℕ) (at p q : ℕ) → p ≡ suc q → reads_erased log (at + 64 * q + 56) 8 ≡ true
     → last_gated log at p ≡ last_gated log at q
 last_step log at p q is gate =
     let here : last_gated log at (suc q) ≡ last_gated log at q = rw gate refl in
     ap (last_gated log at) is ∙ here
 
--- .. the last one ..
+-- If the gate of the last of p places is set, its record is the last gated one.
 pub last_here : (log : List ℕ) (at p q : ℕ) → p ≡ suc q → reads_erased log (at + 64 * q + 56) 8 ≡ false
     → last_gated log at p ≡ Some (slice_range log (at + 64 * q) (at + 64 * q + 56))
 last_here log at p q is gate =
     let here : last_gated log at (suc q) ≡ Some (slice_range log (at + 64 * q) (at + 64 * q + 56)) = rw gate refl in
     ap (last_gated log at) is ∙ here
 
--- .. and none.
+-- Of no places there is no gated record.
 pub last_none : (log : List ℕ) (at p : ℕ) → p ≡ 0 → last_gated log at p ≡ None
 last_none log at p is = ap (last_gated log at) is
 
@@ -30,7 +30,7 @@ pub last_of_is : (e : ℕ) (log : List ℕ) (sector n : ℕ) → n ≡ places_in
 unfolding last_of
 last_of_is e log sector n is = ap (last_gated log (sector * e)) (sym is)
 
--- Erased gates don't count.
+-- Places whose gates are erased don't count.
 erased_above : (log : List ℕ) (at n p : ℕ) → p ≤ n
     → ((q : ℕ) → p ≤ q → q < n → reads_erased log (at + 64 * q + 56) 8 ≡ true)
     → last_gated log at n ≡ last_gated log at p
@@ -45,7 +45,7 @@ erased_above log at (suc n) p le each = ⊎_elim
     rw here below)
     (cases_eq p (suc n))
 
--- What is the same up to there stays.
+-- The same bytes have the same last gated record.
 pub last_same : (old new : List ℕ) (at n : ℕ) → length new ≡ length old
     → ((k : ℕ) → at ≤ k → k < at + 64 * n → slice_index new k ≡ slice_index old k)
     → last_gated new at n ≡ last_gated old at n
@@ -57,7 +57,7 @@ last_same old new at (suc n) long same =
     let below = last_same old new at n long (λ k low lt. same k low (omega arith)) in
     rw (gate, body, below) refl
 
--- A place from which on n places are erased.
+-- From place p on, all of n places are erased.
 record FreeAt (log : Chip) (at n p : ℕ) : Type 0 where
   within : p < n
   erased : IsErased log (at + 64 * p) (64 * (n - p))
@@ -73,7 +73,7 @@ gate_after at n p q old new free same low high = reads_erased_of new _ 8 (record
   each = λ k l h. same.after k (omega arith) ∙ free.erased.each k (omega arith) (omega arith);
 })
 
--- A record whose gate is erased doesn't count ..
+-- A record whose gate is erased doesn't count.
 record_kept : (at n p : ℕ) (old new : Chip) → FreeAt old at n p → SameOutside (at + 64 * p) 64 old new
     → reads_erased new.bytes (at + 64 * p + 56) 8 ≡ true
     → last_gated new.bytes at n ≡ last_gated old.bytes at n
@@ -88,7 +88,7 @@ record_kept at n p old new free same gate =
     ∙ sym (erased_above old.bytes at n p (omega (arith, free.within))
     (λ q low high. gate_erased at n p q old free low high))
 
--- .. and one whose gate is set is the last.
+-- A record at a free place whose gate is set is the last gated one.
 record_new : (at n p : ℕ) (body : List ℕ) (old new : Chip) → FreeAt old at n p
     → SameOutside (at + 64 * p) 64 old new → reads_erased new.bytes (at + 64 * p + 56) 8 ≡ false
     → Reads new (at + 64 * p) body → length body ≡ 56 → at + 64 * n ≤ length new.bytes
@@ -114,7 +114,7 @@ record_either at n p body old new free same reads long inside = by _ refl
     by true is = inl (record_kept at n p old new free same is)
     by false is = inr (record_new at n p body old new free same is reads long inside)
 
--- The body alone: its gate is erased still.
+-- If only the body is written, the gate is still erased.
 gate_kept : (at n p : ℕ) (old new : Chip) → FreeAt old at n p → SameOutside (at + 64 * p) 56 old new
     → reads_erased new.bytes (at + 64 * p + 56) 8 ≡ true
 gate_kept at n p old new free same = reads_erased_of new _ 8 (record {
@@ -125,7 +125,7 @@ free_at : (e : ℕ) (log : Chip) (sector place : ℕ) → IsFree e log sector pl
     → FreeAt log (sector * e) (places_in e) place
 free_at e log sector place free = record { within = free.within; erased = free.erased }
 
--- A record whose body is torn, or that has no gate yet.
+-- A record that is torn or has no gate yet leaves the last gated record.
 pub body_kept : (e sector place : ℕ) (old new : Chip) → IsFree e old sector place
     → SameOutside (sector * e + 64 * place) 56 old new
     → last_of e new.bytes sector ≡ last_of e old.bytes sector
@@ -136,7 +136,7 @@ body_kept e sector place old new free same =
     record_kept (sector * e) (places_in e) place old new here wide
     (gate_kept (sector * e) (places_in e) place old new here same)
 
--- A record that is written at a free place, and then its gate, which may be torn.
+-- A record that was written at a free place, and then its gate, which may be torn.
 pub record Written (e sector place : ℕ) (body : List ℕ) (old mid new : Chip) : Type 0 where
   pub free : IsFree e old sector place
   pub body_alone : SameOutside (sector * e + 64 * place) 56 old mid
@@ -145,7 +145,7 @@ pub record Written (e sector place : ℕ) (body : List ℕ) (old mid new : Chip)
   pub long : length body ≡ 56
   pub inside : sector * e + e ≤ length new.bytes
 
--- Both together leave the rest.
+-- Both writes together change only the place.
 pub written_alone : (e sector place : ℕ) (body : List ℕ) (old mid new : Chip)
     → Written e sector place body old mid new → SameOutside (sector * e + 64 * place) 64 old new
 written_alone e sector place body old mid new w =
@@ -156,7 +156,7 @@ still_reads : (e sector place : ℕ) (body : List ℕ) (old mid new : Chip)
 still_reads e sector place body old mid new w =
     reads_kept _ _ 8 body mid new w.reads w.gate_alone (inl (omega (arith, w.long)))
 
--- Its gate is torn.
+-- If its gate is torn, the last gated record is the old one or the new one.
 pub gate_torn : (e sector place : ℕ) (body : List ℕ) (old mid new : Chip)
     → Written e sector place body old mid new
     → (last_of e new.bytes sector ≡ last_of e old.bytes sector) ⊎ (last_of e new.bytes sector ≡ Some body)
@@ -166,7 +166,7 @@ gate_torn e sector place body old mid new w =
     (written_alone e sector place body old mid new w) (still_reads e sector place body old mid new w) w.long
     (omega (arith, w.inside, w.free.within))
 
--- Its gate is set.
+-- If its gate is set, the last gated record is the new one.
 pub gate_set : (e sector place : ℕ) (body : List ℕ) (old mid new : Chip)
     → Written e sector place body old mid new
     → reads_erased new.bytes (sector * e + 64 * place + 56) 8 ≡ false

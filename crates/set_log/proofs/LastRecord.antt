@@ -1,4 +1,4 @@
--- The state of the log follows the record that stands.
+-- The state of the log follows from its current record.
 use Rattle.std.proofs.Common.{◌≡◌, ◌≢◌, ◌⊎◌, ℕ, false, true, List, Option, Some, None, IsSome, subst, refl, sym, ◌∙◌, ap, inl, inr, ⊎_elim}
 use Rattle.flash_model.specs.Chip.{Chip}
 use Rattle.sector_map.specs.declared.layout.SectorMap.{SectorMap}
@@ -33,12 +33,12 @@ said_fits : (images : ℕ) (found : Option (List ℕ)) (s : State) → state_sai
 said_fits images None s is = let wrong : None ≡ Some s = is in absurd (cc wrong)
 said_fits images (Some body) s is = (spells_of images body s is).kept
 
--- A state of the log keeps the table ..
+-- The state of a log keeps the table of records.
 pub state_fits : (map : SectorMap) (chip : Chip) (s : State) → state_of map chip ≡ Some s
     → fits map.images s ≡ true
 unfolding state_of
 state_fits map chip s is = said_fits map.images (record_of map chip) s is
 
--- .. so its set is of images of the map.
+-- So its set has only images of the map.
 pub state_within : (map : SectorMap) (chip : Chip) (s : State) → state_of map chip ≡ Some s → IsWithin map s.mask
 state_within map chip s is = fits_within map s (state_fits map chip s is)

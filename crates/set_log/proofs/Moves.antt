@@ -1,4 +1,4 @@
--- What stands in the log while records are written.
+-- The current record of the log while records are written.
 use Rattle.std.proofs.Common.{◌≡◌, ◌⊎◌, ℕ, ◌+◌, ◌-◌, ◌*◌, ◌<◌, true, false, List, Some, if◌then◌else◌, length, arith, refl, sym, ◌∙◌, ap, subst, inl, inr, ⊎_elim}
 use Rattle.flash_model.specs.Chip.{Chip, IsErased, Reads, SameOutside}
 use Rattle.flash_model.proofs.Frame.{product_le, same_outside_trans, same_outside_wider}
@@ -18,7 +18,7 @@ has_places map fits = record {
   room = omega (arith, fits.sector.least);
 }
 
--- A record, written at a free place of the log.
+-- A record that is written at a free place of the log.
 pub written : (map : SectorMap) (sector place : ℕ) (body : List ℕ) (old mid new : Chip) → IsLaidOut map old
     → sector < 3 → IsFree map.sector_size (log_of map old) sector place
     → SameOutside (sector * map.sector_size + 64 * place) 56 (log_of map old) (log_of map mid)
@@ -41,21 +41,21 @@ written map sector place body old mid new laid lt free first reads last long = r
   );
 }
 
--- A place is erased for the body ..
+-- The body of a free place is erased.
 pub free_body : (e sector place : ℕ) (log : Chip) → IsFree e log sector place
     → IsErased log (sector * e + 64 * place) 56
 free_body e sector place log free = record {
   each = λ k low high. free.erased.each k low (omega (arith, free.within));
 }
 
--- .. and still for the gate.
+-- After its body is written, the gate of a free place is still erased.
 pub free_gate : (e sector place : ℕ) (old mid : Chip) → IsFree e old sector place
     → SameOutside (sector * e + 64 * place) 56 old mid → IsErased mid (sector * e + 64 * place + 56) 8
 free_gate e sector place old mid free same = record {
   each = λ k low high. same.after k low ∙ free.erased.each k (omega arith) (omega (arith, free.within));
 }
 
--- The places of an erased sector are free.
+-- All places of an erased sector are free.
 pub free_first : (e sector : ℕ) (log : Chip) → HasPlaces e → IsErased log (sector * e) e → IsFree e log sector 0
 free_first e sector log sized erased = record {
   within = omega (arith, sized.blocks, sized.room);
@@ -86,7 +86,7 @@ moved map sector next old erased mid fits active is first blank second = record 
   second = second;
 }
 
--- Up to there the record stands that stood.
+-- Until the active sector is closed, its record is the current one.
 pub erased_keeps : (e sector next : ℕ) (old new : Chip) → HasPlaces e → IsActive e old.bytes sector
     → next ≡ next_of sector → SameOutside (next * e) e old new → register e new.bytes ≡ register e old.bytes
 erased_keeps e sector next old new sized active is same =
@@ -114,7 +114,7 @@ moved_open e sector next old erased mid m =
     (closed_same e next _ 64 erased mid m.sized m.second (inr (omega (arith, m.sized.room)))
     ∙ erased_open e next erased m.sized m.blank)
 
--- Then the closing unit is torn ..
+-- If the closing unit is torn, the current record is the old one or the new one.
 pub closing_torn : (e sector next : ℕ) (body : List ℕ) (old erased mid new : Chip)
     → Moved e sector next old erased mid → last_of e mid.bytes next ≡ Some body
     → SameOutside (sector * e + (e - 8)) 8 mid new
@@ -125,7 +125,7 @@ closing_torn e sector next body old erased mid new m stands same =
     (closing_decides e sector mid new m.sized (moved_active e sector next old erased mid m)
     (moved_open e sector next old erased mid m) same)
 
--- .. or set.
+-- If the closing unit is set, the current record is the new one.
 pub closing_done : (e sector next : ℕ) (body : List ℕ) (old erased mid new : Chip)
     → Moved e sector next old erased mid → last_of e mid.bytes next ≡ Some body
     → SameOutside (sector * e + (e - 8)) 8 mid new → is_closed e new.bytes sector ≡ true
@@ -135,7 +135,8 @@ closing_done e sector next body old erased mid new m stands same closes =
     (moved_open e sector next old erased mid m) same closes
     ∙ subst (λ s. last_of e mid.bytes s ≡ Some body) m.is_next stands
 
--- A record at a free place of the active sector: the old one stands, or the new one ..
+-- After a record is written at a free place of the active sector, the current one is the old one or
+-- the new one.
 pub place_torn : (map : SectorMap) (sector place : ℕ) (body : List ℕ) (old mid new : Chip) → mid ≡ old
     → IsMap map → IsActive map.sector_size (log_bytes map old) sector
     → IsFree map.sector_size (log_of map mid) sector place
@@ -155,7 +156,7 @@ place_torn map sector place body old mid new eq fits active free same either =
     let was = register_is map.sector_size (log_bytes map old) sector active in
     ⊎_elim (λ kept. inl (now ∙ kept ∙ still ∙ sym was)) (λ put. inr (now ∙ put)) either
 
--- .. which it is at the end.
+-- At the end it is the new one.
 pub place_put : (map : SectorMap) (sector place : ℕ) (body : List ℕ) (old mid new : Chip) → mid ≡ old
     → IsMap map → IsActive map.sector_size (log_bytes map old) sector
     → IsFree map.sector_size (log_of map mid) sector place
@@ -168,13 +169,13 @@ place_put map sector place body old mid new eq fits active free same put =
     (active_by_place map.sector_size sector place (log_of map old) (log_of map new) (has_places map fits) active
     free.within same) ∙ put
 
--- A sector with a free place has room.
+-- In a sector with a free place, the last place is erased.
 pub room_of_free : (e sector place : ℕ) (log : Chip) → IsFree e log sector place → has_room e log.bytes sector ≡ true
 room_of_free e sector place log free = reads_erased_of log _ 64 (record {
   each = λ k low high. free.erased.each k (omega (arith, free.within)) (omega (arith, free.within));
 })
 
--- How many sectors are erased where a place is free ..
+-- An append at a free place erases no sector.
 pub erases_free : (map : SectorMap) (sector place n : ℕ) (old mid : Chip) → mid ≡ old
     → IsActive map.sector_size (log_bytes map old) sector → IsFree map.sector_size (log_of map mid) sector place
     → n ≡ mid.erases → n ≡ old.erases + (if is_place_free map old then 0 else 1)
@@ -185,7 +186,7 @@ erases_free map sector place n old mid eq active free is =
     let told : is_place_free map old ≡ true = free_is map.sector_size (log_bytes map old) sector active ∙ room in
     is ∙ ap (λ c. c.erases) eq ∙ rw told (omega arith)
 
--- .. and where none is.
+-- An append erases one sector if no place is free.
 pub erases_full : (map : SectorMap) (sector n : ℕ) (old mid last : Chip) → mid ≡ old → last ≡ mid
     → IsActive map.sector_size (log_bytes map old) sector
     → has_room map.sector_size (log_bytes map mid) sector ≡ false
@@ -203,7 +204,7 @@ pub record Started (e : ℕ) (body : List ℕ) (erased mid : Chip) : Type 0 wher
   pub first : SameOutside (0 * e + 64 * 0) 64 erased mid
   pub stands : last_of e mid.bytes 0 ≡ Some body
 
--- One sector of three that are erased.
+-- If the log is erased, so is each of its sectors.
 pub sector_blank : (e sector : ℕ) (log : Chip) → IsErased log 0 (3 * e) → sector < 3 → IsErased log (sector * e) e
 sector_blank e sector log blank lt = record {
   each = λ k low high. blank.each k (omega arith) (omega (arith, product_le sector 3 e lt));

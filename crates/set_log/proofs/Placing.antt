@@ -1,4 +1,4 @@
--- Where a record is written, and what stays written.
+-- At which place a record is written, and which writes keep it.
 use Rattle.std.proofs.Common.{◌≡◌, ◌⊎◌, ℕ, ◌+◌, ◌-◌, ◌*◌, ◌<◌, ◌≤◌, false, List, Option, Some, None, MatchOption, length, arith, sym, ◌∙◌, ap, subst, inl, inr, ⊎_elim}
 use Rattle.std.proofs.lemmas.Bool.{cases_lt, false≢true}
 use Rattle.flash_model.specs.Chip.{Chip, IsErased, Reads, SameOutside}
@@ -12,7 +12,7 @@ use Rattle.set_log.proofs.Blank.{reads_erased_of}
 use Rattle.set_log.proofs.Turns.{HasPlaces, active_is, closed_same, erased_open, free_is, turn}
 use Rattle.set_log.proofs.Moves.{room_of_free, sector_blank}
 
--- A record that stands beside a write still stands.
+-- A write beside a record keeps it.
 pub stays_written : (e sector place at n : ℕ) (bytes : List ℕ) (old new : Chip)
     → IsWritten e old sector place bytes → length bytes ≡ 56 → SameOutside at n old new
     → (sector * e + 64 * place + 64 ≤ at) ⊎ (at + n ≤ sector * e + 64 * place)
@@ -26,7 +26,7 @@ stays_written e sector place at n bytes old new was long same apart = record {
       (λ (high : at + n ≤ sector * e + 64 * place). inr (omega arith)) apart);
 }
 
--- A record with its gate.
+-- A record with its gate is written.
 pub written_there : (e sector place : ℕ) (bytes : List ℕ) (mid new : Chip)
     → Reads mid (sector * e + 64 * place) bytes → length bytes ≡ 56
     → SameOutside (sector * e + 64 * place + 56) 8 mid new
@@ -36,20 +36,20 @@ written_there e sector place bytes mid new body long same gate = record {
   gate = gate;
 }
 
--- What is found of a place.
+-- If each case of a found place implies a weaker one, the weaker pair holds.
 pub match_option : {P Q : Type 0} {f g : ℕ → Type 0} (found : Option ℕ) → (P → Q) → ((x : ℕ) → f x → g x)
     → MatchOption found P f → MatchOption found Q g
 match_option None none some is = none is
 match_option (Some x) none some is = some x is
 
--- A sector has no room where its last place isn't erased ..
+-- If the last place of a sector isn't erased, the sector has no free place.
 pub none_found : (e sector place : ℕ) (log : List ℕ) → place ≤ places_in e → places_in e ≤ place
     → reads_erased log (sector * e + 64 * (place - 1)) 64 ≡ false → has_room e log sector ≡ false
 none_found e sector place log below above not_erased =
     let is : place ≡ places_in e = omega arith in
     ap (λ p. reads_erased log (sector * e + 64 * (p - 1)) 64) (sym is) ∙ not_erased
 
--- .. and its first free place is behind the last one that isn't.
+-- The first free place of a sector follows the last place that isn't erased.
 pub first_found : (e sector place : ℕ) (log : Chip) → place < places_in e
     → IsErased log (sector * e + 64 * place) (64 * (places_in e - place))
     → reads_erased log.bytes (sector * e + 64 * (place - 1)) 64 ≡ false → IsFirstFree e log sector place
@@ -60,19 +60,19 @@ first_found e sector place log lt erased not_erased = record {
   })));
 }
 
--- There is one active sector ..
+-- At most one sector is active.
 pub active_one : (e : ℕ) (log : List ℕ) (a b : ℕ) → IsActive e log a → IsActive e log b → a ≡ b
 active_one e log a b first second =
     let same : Some a ≡ Some b = sym (active_is e log a first) ∙ active_is e log b second in cc
 
--- .. and it has one first free place.
+-- A sector has at most one first free place.
 first_one : (e : ℕ) (log : Chip) (sector p q : ℕ) → IsFirstFree e log sector p → IsFirstFree e log sector q → p ≡ q
 first_one e log sector p q a b = ⊎_elim
     (λ (lt : p < q). absurd (b.first p lt a.free))
     (λ (le : q ≤ p). ⊎_elim (λ (lt : q < p). absurd (a.first q lt b.free)) (λ (ge : p ≤ q). omega arith)
     (cases_lt q p)) (cases_lt p q)
 
--- A record at the first free place of the active sector, whichever it is called.
+-- A record at the first free place of the active sector, for each name of that place.
 module _ (map : SectorMap) (old mid new : Chip) (same : mid ≡ old) (a p : ℕ)
     (active : IsActive map.sector_size (log_bytes map old) a)
     (found : IsFirstFree map.sector_size (log_of map mid) a p) where
@@ -110,7 +110,7 @@ module _ (map : SectorMap) (old mid new : Chip) (same : mid ≡ old) (a p : ℕ)
   not_full full = false≢true (sym full ∙ free_is map.sector_size (log_bytes map old) a active
       ∙ room_of_free map.sector_size a p (log_of map old) here.free)
 
--- A record in the next sector, where the active one is full.
+-- A record in the next sector if the active one is full.
 module _ (map : SectorMap) (old mid new : Chip) (same : mid ≡ old) (a : ℕ)
     (active : IsActive map.sector_size (log_bytes map old) a) where
   pub no_place : (full : has_room map.sector_size (log_bytes map mid) a ≡ false) (s q : ℕ)
@@ -135,7 +135,7 @@ module _ (map : SectorMap) (old mid new : Chip) (same : mid ≡ old) (a : ℕ)
   next_moved bytes moved s is = subst (λ t. IsMovedOn map.sector_size t bytes (log_of map new))
       (active_one map.sector_size (log_bytes map old) a s active is) moved
 
--- A write in the next sector leaves the active one, and the one before it ..
+-- A write in the next sector keeps the active one, and the one before it.
 pub beside_next : (e sector next : ℕ) (old new : Chip) → HasPlaces e → sector < 3 → next ≡ next_of sector
     → SameOutside (next * e) e old new → IsBesideNext e sector old new
 beside_next e sector next old new sized lt is same =
@@ -152,7 +152,7 @@ beside_next e sector next old new sized lt is same =
           (products_apart (previous_of sector) (next_of sector) e apart.2);
     }
 
--- .. and so does closing the active one, but for its closing unit.
+-- Closing the active sector changes only its closing unit.
 pub beside_closed : (e sector : ℕ) (old mid new : Chip) → HasPlaces e → sector < 3 → IsBesideNext e sector old mid
     → SameOutside (sector * e + (e - 8)) 8 mid new → IsBesideNext e sector old new
 beside_closed e sector old mid new sized lt beside same =
@@ -180,7 +180,7 @@ moved_on e sector next bytes mid new sized lt is written long same closed =
       closed = closed;
     }
 
--- Up to its closing unit the third sector of a new log is open.
+-- The third sector of a new log is open until its closing unit is set.
 pub third_still_open : (e : ℕ) (erased mid : Chip) → HasPlaces e → IsErased erased 0 (3 * e)
     → SameOutside (0 * e + 64 * 0) 64 erased mid → is_closed e mid.bytes 2 ≡ false
 third_still_open e erased mid sized blank first =

@@ -1,4 +1,4 @@
--- States are read back from the bytes that spell them.
+-- States are decoded from the bytes that encode them.
 use Rattle.std.proofs.Common.{◌≡◌, ℕ, Bool, true, false, List, ◌++◌, Option, Some, None, length, replicate, slice_index, arith, refl, sym, ◌∙◌, ap, subst, ◌==◌, if◌then◌else◌}
 use Rattle.std.proofs.lemmas.Slice.Eq.{bytes_eq-Decides}
 use Rattle.std.specs.Str.{bytes_eq}
@@ -41,7 +41,7 @@ checked_other images bytes s fit differs = by _ refl
     by true is = absurd (differs ((bytes_eq-Decides bytes (record_bytes s)).0 is))
     by false is = rw (fit, is) refl
 
--- What is found spells itself, and keeps the table.
+-- A decoded state encodes as the bytes, and keeps the table of records.
 checked_spells : (images : ℕ) (bytes : List ℕ) (s found : State) → checked images bytes s ≡ Some found
     → Spells images bytes found
 checked_spells images bytes s found is = by _ refl _ refl

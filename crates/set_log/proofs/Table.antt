@@ -1,4 +1,4 @@
--- What a state has that keeps the table of records, and what makes a state keep it.
+-- What the table of records implies of a state, and what implies the table.
 use Rattle.std.proofs.Common.{◌≡◌, ℕ, zero, suc, ◌+◌, ◌-◌, ◌/◌, ◌^◌, ◌<◌, ◌≤◌, ◌==◌, ◌&&◌, Bool, true, false, List, [], ◌∷◌, nat_lt, get_or, drop, slice_index, arith, refl, sym, ◌∙◌, ap}
 use Rattle.std.proofs.lemmas.Bool.Decides.{Decides-eqb, Decides-ltb}
 use Rattle.std.proofs.lemmas.List.{get_or-drop}
@@ -25,17 +25,17 @@ zeros_of : (xs : List ℕ) → ((i : ℕ) → get_or xs i 0 ≡ 0) → list_all 
 zeros_of [] each = refl
 zeros_of (x ∷ xs) each = rw ((Decides-eqb x 0).1 (each 0)) (zeros_of xs (λ i. each (suc i)))
 
--- Its set is of images of the map ..
+-- The set has only images of the map.
 pub fits_within : (map : SectorMap) (s : State) → fits map.images s ≡ true → IsWithin map s.mask
 fits_within map s fit i member =
     below_shift s.mask map.images i (div-eq_of_lt ((Decides-ltb s.mask (2 ^ map.images)).0 (both _ _ fit).0)) member
 
--- .. it has what its kind asks for ..
+-- Set, permanence and boots left match the kind.
 pub fits_kind : (images : ℕ) (s : State) → fits images s ≡ true
     → kind_fits s.kind s.mask s.permanent s.left ≡ true
 fits_kind images s fit = (both _ _ (both _ _ fit).1).0
 
--- .. and the floors past the last image are 0.
+-- The floors past the last image are 0.
 pub fits_floors : (images : ℕ) (s : State) → fits images s ≡ true → (i : ℕ) → images ≤ i
     → slice_index s.floors i ≡ 0
 fits_floors images s fit i le =
@@ -47,7 +47,7 @@ small_of_none : (x k : ℕ) → 0 < k → x / k ≡ 0 → x < k
 small_of_none x k some none =
     omega (arith, (div-lt_iff_lt-mul {k = k} {x = x} {y = 1} some).0 (omega (arith, none)))
 
--- These three are all.
+-- These three conditions make a state keep the table.
 pub fits_of : (map : SectorMap) (s : State) → s.mask < 2 ^ 8 → IsWithin map s.mask
     → kind_fits s.kind s.mask s.permanent s.left ≡ true
     → ((i : ℕ) → map.images ≤ i → slice_index s.floors i ≡ 0) → fits map.images s ≡ true

@@ -1,4 +1,4 @@
--- Which sector is active, and what writes leave of it.
+-- Which sector is active, and how writes change it.
 use Rattle.std.proofs.Common.{◌≡◌, ◌≢◌, ◌⊎◌, ℕ, zero, suc, ◌+◌, ◌-◌, ◌*◌, ◌/◌, ◌<◌, ◌≤◌, Bool, true, false, not, ◌&&◌, List, Option, Some, None, if◌then◌else◌, arith, refl, sym, ◌∙◌, ap, inl, inr}
 use Rattle.flash_model.specs.Chip.{Chip, IsErased, SameOutside}
 use Rattle.flash_model.proofs.Frame.{products_apart}
@@ -10,7 +10,7 @@ both : (a b : Bool) → (not a && b) ≡ true → (a ≡ false) × (b ≡ true)
 both true b is = let wrong : false ≡ true = is in absurd (cc wrong)
 both false b is = (refl, is)
 
--- A sector that is told to be active is the active one ..
+-- If the test of a sector says so, it is active.
 pub active_of_test : (e : ℕ) (log : List ℕ) (sector : ℕ) → sector < 3 → is_active e log sector ≡ true
     → IsActive e log sector
 active_of_test e log sector lt is =
@@ -21,7 +21,7 @@ pass : (a : Bool) (x y : Option ℕ) → (if not a && false then x else y) ≡ y
 pass true x y = refl
 pass false x y = refl
 
--- .. and there is no other.
+-- The active sector is the only one.
 pub active_is : (e : ℕ) (log : List ℕ) (sector : ℕ) → IsActive e log sector → active_of e log ≡ Some sector
 unfolding active_of
 active_is e log zero is = rw (is.stays_open, is.follows_closed) refl
@@ -33,7 +33,7 @@ pub no_active : (e : ℕ) (log : List ℕ) → ((s : ℕ) → s < 3 → is_activ
 unfolding active_of
 no_active e log none = rw (none 0 (omega arith), none 1 (omega arith), none 2 (omega arith)) refl
 
--- The register is what the active sector has last.
+-- The current record is the last gated one of the active sector.
 pub register_is : (e : ℕ) (log : List ℕ) (sector : ℕ) → IsActive e log sector → register e log ≡ last_of e log sector
 unfolding register
 register_is e log sector is = ap (last_in e log) (active_is e log sector is)
@@ -42,13 +42,13 @@ pub register_none : (e : ℕ) (log : List ℕ) → active_of e log ≡ None → 
 unfolding register
 register_none e log none = ap (last_in e log) none
 
--- A place is free where the active sector has room.
+-- A place is free exactly if the last place of the active sector is erased.
 pub free_is : (e : ℕ) (log : List ℕ) (sector : ℕ) → IsActive e log sector
     → has_free_place e log ≡ has_room e log sector
 unfolding has_free_place
 free_is e log sector is = ap (has_room_in e log) (active_is e log sector is)
 
--- The sectors of the ring: each lies apart from the next one, and from the one before.
+-- The sectors of the ring: each differs from the next one and from the one before.
 pub turn : (sector : ℕ) → sector < 3
     → (sector ≢ previous_of sector) × (sector ≢ next_of sector) × (previous_of sector ≢ next_of sector)
     × (next_of sector < 3) × (previous_of (next_of sector) ≡ sector)
@@ -60,16 +60,16 @@ turn (suc (suc zero)) lt =
     (λ eq. absurd (omega arith), λ eq. absurd (omega arith), λ eq. absurd (omega arith), omega arith, refl)
 turn (suc (suc (suc n))) lt = absurd (omega arith)
 
--- A sector is of whole places, and has two at least.
+-- A sector consists of whole places, and has at least two.
 pub record HasPlaces (e : ℕ) : Type 0 where
   pub blocks : 64 * (e / 64) ≡ e
   pub room : 128 ≤ e
 
--- A write leaves the closing unit of a sector ..
+-- A write keeps the closing unit of a sector.
 abbrev pub SparesClosing : ℕ → ℕ → ℕ → ℕ → Type 0
 SparesClosing e sector at n = (sector * e + e ≤ at) ⊎ (at + n ≤ sector * e + (e - 8))
 
--- .. or its places.
+-- A write keeps the places of a sector.
 abbrev pub SparesPlaces : ℕ → ℕ → ℕ → ℕ → Type 0
 SparesPlaces e sector at n = (sector * e + (e - 64) ≤ at) ⊎ (at + n ≤ sector * e)
 
@@ -96,7 +96,7 @@ active_same e sector at n old new sized is same own before = record {
   follows_closed = closed_same e (previous_of sector) at n old new sized same before ∙ is.follows_closed;
 }
 
--- Whatever is written in the next sector, the active one stays so ..
+-- A write in the next sector keeps the active one active.
 pub active_by_next : (e sector : ℕ) (old new : Chip) → HasPlaces e → IsActive e old.bytes sector
     → SameOutside (next_of sector * e) e old new → IsActive e new.bytes sector
 active_by_next e sector old new sized is same =
@@ -105,7 +105,7 @@ active_by_next e sector old new sized is same =
     (grind (arith, products_apart sector (next_of sector) e apart.1))
     (grind (arith, products_apart (previous_of sector) (next_of sector) e apart.2))
 
--- .. and its record stands.
+-- A write in the next sector keeps the current record.
 pub register_by_next : (e sector : ℕ) (old new : Chip) → HasPlaces e → IsActive e old.bytes sector
     → SameOutside (next_of sector * e) e old new → register e new.bytes ≡ register e old.bytes
 register_by_next e sector old new sized is same =
@@ -115,7 +115,7 @@ register_by_next e sector old new sized is same =
     (grind (arith, products_apart sector (next_of sector) e apart.1))
     ∙ sym (register_is e old.bytes sector is)
 
--- Whatever is written at the places of the active sector, it stays so.
+-- A write at a place of the active sector keeps it active.
 pub active_by_place : (e sector place : ℕ) (old new : Chip) → HasPlaces e → IsActive e old.bytes sector
     → place < places_in e → SameOutside (sector * e + 64 * place) 64 old new → IsActive e new.bytes sector
 active_by_place e sector place old new sized is lt same =
@@ -124,7 +124,7 @@ active_by_place e sector place old new sized is lt same =
     active_same e sector _ 64 old new sized is same (inr (omega arith))
     (grind (arith, products_apart sector (previous_of sector) e apart.0, sized.room))
 
--- The record of the next sector stands once the active one is closed ..
+-- Once the active sector is closed, the record of the next one is the current one.
 pub closing_moves : (e sector : ℕ) (old new : Chip) → HasPlaces e → IsActive e old.bytes sector
     → is_closed e old.bytes (next_of sector) ≡ false → SameOutside (sector * e + (e - 8)) 8 old new
     → is_closed e new.bytes sector ≡ true → register e new.bytes ≡ last_of e old.bytes (next_of sector)
@@ -140,7 +140,7 @@ closing_moves e sector old new sized is free same closes =
     })
     ∙ places_same e (next_of sector) _ 8 old new sized same (grind (arith, away, sized.room))
 
--- .. so its closing unit decides.
+-- So the closing unit of the active sector decides which record is current.
 pub closing_decides : (e sector : ℕ) (old new : Chip) → HasPlaces e → IsActive e old.bytes sector
     → is_closed e old.bytes (next_of sector) ≡ false → SameOutside (sector * e + (e - 8)) 8 old new
     → (register e new.bytes ≡ register e old.bytes)

@@ -1,4 +1,4 @@
--- The log as a flash of its own: what stands there stands in the flash, and the other way round.
+-- The log as a flash of its own: its contents are those of the flash at the log's addresses.
 use Rattle.std.proofs.Common.{◌≡◌, ◌↔◌, ℕ, ◌+◌, ◌-◌, ◌*◌, ◌/◌, ◌%◌, ◌<◌, ◌≤◌, Bool, true, false, not, IsTrue, List, length, slice_index, slice_range, arith, refl, sym, ◌∙◌, ap, subst, inl, inr, ⊎_elim}
 use Rattle.std.proofs.lemmas.Bool.{cases_lt}
 use Rattle.std.proofs.lemmas.List.{get_or_past}
@@ -17,12 +17,12 @@ use Rattle.set_log.specs.Ring.{reads_erased, places_in, is_closed}
 use Rattle.set_log.specs.Log.{log_bytes, log_of}
 use Rattle.set_log.proofs.Blank.{reads_erased_of, erased_of_reads, not_true}
 
--- An offset in the log, by its address: so many bytes from there lie in the log.
+-- The offset in the log of an address, from which n bytes are inside the log.
 pub record IsAt (map : SectorMap) (at o n : ℕ) : Type 0 where
   pub place : at ≡ start_of map Log + o
   pub inside : o + n ≤ length_of map Log
 
--- A place for a record ..
+-- The place of a record, with its gate.
 pub at_place : (map : SectorMap) (at sector place : ℕ) → IsMap map → sector < 3
     → place < places_in map.sector_size → at ≡ place_of_record map sector place
     → IsAt map at (sector * map.sector_size + 64 * place) 64
@@ -31,7 +31,7 @@ at_place map at sector place fits lt below is = record {
   inside = omega (arith, product_le sector 3 map.sector_size lt, places_fill map fits);
 }
 
--- .. its body ..
+-- The body of a place.
 pub at_body : (map : SectorMap) (at sector place : ℕ) → IsMap map → sector < 3
     → place < places_in map.sector_size → at ≡ place_of_record map sector place
     → IsAt map at (sector * map.sector_size + 64 * place) 56
@@ -39,7 +39,7 @@ at_body map at sector place fits lt below is =
     let whole = at_place map at sector place fits lt below is in
     record { place = whole.place; inside = omega (arith, whole.inside) }
 
--- .. its gate ..
+-- The gate of a place.
 pub at_gate : (map : SectorMap) (at sector place : ℕ) → IsMap map → sector < 3
     → place < places_in map.sector_size → at ≡ place_of_record map sector place + 56
     → IsAt map at (sector * map.sector_size + 64 * place + 56) 8
@@ -47,7 +47,7 @@ at_gate map at sector place fits lt below is =
     let whole = at_place map (place_of_record map sector place) sector place fits lt below refl in
     record { place = omega (arith, is, whole.place); inside = omega (arith, whole.inside) }
 
--- .. and a closing unit.
+-- The closing unit of a sector.
 pub at_closing : (map : SectorMap) (at sector : ℕ) → IsMap map → sector < 3 → at ≡ closing_unit map sector
     → IsAt map at (sector * map.sector_size + (map.sector_size - 8)) 8
 at_closing map at sector fits lt is = record {
@@ -55,13 +55,13 @@ at_closing map at sector fits lt is = record {
   inside = unit_fits_log map sector fits lt;
 }
 
--- What lies in the log lies in the flash ..
+-- An address in the log is inside the flash.
 pub at_inside : (map : SectorMap) (chip : Chip) (at o n : ℕ) → IsLaidOut map chip → IsAt map at o n
     → at + n ≤ size_of chip
 at_inside map chip at o n laid here =
     omega (arith, here.place, here.inside, part_inside map chip Log laid (omega arith))
 
--- .. whose addresses are of 32 bits, at a whole unit.
+-- The address of a place is that of a whole unit.
 pub place_aligned : (map : SectorMap) (sector place : ℕ) → IsMap map
     → place_of_record map sector place % 8 ≡ 0
 place_aligned map sector place fits =
@@ -73,7 +73,7 @@ unit_aligned map sector fits =
     let units : 8 * (map.sector_size / 8) ≡ map.sector_size = omega (arith, fits.sector.blocks) in
     omega (arith, aligned (first_of map Log + sector) map.sector_size units, fits.sector.least)
 
--- What was read there is what the log reads there.
+-- Bytes that were read from the flash are the bytes of the log at that offset.
 pub log_reads : (map : SectorMap) (chip : Chip) (at o n : ℕ) (bytes : List ℕ) → Reads chip at bytes
     → IsAt map at o n → length bytes ≡ n → Reads (log_of map chip) o bytes
 log_reads map chip at o n bytes reads here long = record {
@@ -90,7 +90,7 @@ log_range map chip at o n bytes laid reads here long =
     (sym (range_of_reads (log_of map chip) o bytes (log_reads map chip at o n bytes reads here long)
     (omega (arith, here.inside, long, length_part map chip Log laid))))
 
--- What is erased there is erased in the log ..
+-- Bytes that are erased in the flash are erased in the log.
 pub log_erased : (map : SectorMap) (chip : Chip) (at o n : ℕ) → IsErased chip at n → IsAt map at o n
     → IsErased (log_of map chip) o n
 log_erased map chip at o n erased here = record {
@@ -98,7 +98,7 @@ log_erased map chip at o n erased here = record {
       (omega (arith, here.place)) (omega (arith, here.place));
 }
 
--- .. and the other way round.
+-- Bytes that are erased in the log are erased in the flash.
 pub flash_erased : (map : SectorMap) (chip : Chip) (at o n : ℕ) → IsErased (log_of map chip) o n
     → IsAt map at o n → IsErased chip at n
 flash_erased map chip at o n erased here = record {
@@ -114,7 +114,7 @@ pub flash_erased_of : (map : SectorMap) (chip : Chip) (at o n : ℕ) → IsLaidO
 flash_erased_of map chip at o n laid reads here = flash_erased map chip at o n
     (erased_of_reads (log_of map chip) o n reads (omega (arith, here.inside, length_part map chip Log laid))) here
 
--- A test of the flash is a test of the log.
+-- A test whether bytes of the flash are erased also holds for the log.
 pub log_tells : (map : SectorMap) (chip : Chip) (at o n : ℕ) (told : Bool) → IsLaidOut map chip
     → (IsTrue told ↔ IsErased chip at n) → IsAt map at o n → told ≡ reads_erased (log_bytes map chip) o n
 log_tells map chip at o n true laid tells here =
@@ -128,12 +128,12 @@ pub log_set : (map : SectorMap) (chip : Chip) (at o : ℕ) → IsLaidOut map chi
 log_set map chip at o laid set here = not_true (reads_erased (log_bytes map chip) o 8)
     (λ all. set.not_erased (flash_erased_of map chip at o 8 laid all here))
 
--- A write there keeps all other parts ..
+-- A write in the log keeps all other parts.
 pub log_alone : (map : SectorMap) (old new : Chip) (at o n : ℕ) → IsLaidOut map old → SameOutside at n old new
     → IsAt map at o n → Keeps map (only Log) old new
 log_alone map old new at o n laid same here = keeps_write map Log o at n old new laid same here.place here.inside
 
--- .. and the rest of the log.
+-- A write in the log keeps the rest of the log.
 pub log_same : (map : SectorMap) (old new : Chip) (at o n : ℕ) → IsLaidOut map old → SameOutside at n old new
     → IsAt map at o n → SameOutside o n (log_of map old) (log_of map new)
 log_same map old new at o n laid same here =
@@ -178,13 +178,13 @@ not_false : (b : Bool) → not b ≡ false → b ≡ true
 not_false true is = refl
 not_false false is = cc
 
--- The closing unit of an open sector is erased ..
+-- The closing unit of an open sector is erased.
 pub open_reads : (e : ℕ) (log : List ℕ) (sector : ℕ) → is_closed e log sector ≡ false
     → reads_erased log (sector * e + (e - 8)) 8 ≡ true
 unfolding is_closed
 open_reads e log sector is = not_false _ is
 
--- .. and that of a closed one isn't.
+-- The closing unit of a closed sector isn't erased.
 pub closed_by : (e : ℕ) (log : List ℕ) (sector : ℕ) → reads_erased log (sector * e + (e - 8)) 8 ≡ false
     → is_closed e log sector ≡ true
 unfolding is_closed

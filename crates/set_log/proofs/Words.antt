@@ -1,4 +1,4 @@
--- Numbers of four bytes, written one behind the other and read back.
+-- A sequence of numbers of four bytes each is written and read back.
 use Rattle.std.proofs.Common.{◌≡◌, ℕ, suc, ◌+◌, ◌-◌, ◌*◌, ◌<◌, ◌≤◌, ◌^◌, List, [], ◌∷◌, ◌++◌, length, get_or, take, drop, replicate, arith, refl, sym, ◌∙◌, ap}
 use Rattle.std.proofs.lemmas.List.{append_assoc, append-nil, length-append, drop_at, take_more, take_all, length-take-le}
 use Rattle.byteorder.specs.Endian.{little_bytes, little_number}
@@ -23,7 +23,7 @@ words_more xs i lt =
     ap words (take_more xs i 0 lt) ∙ words_append (take i xs) (get_or xs i 0 ∷ [])
     ∙ ap (λ b. words (take i xs) ++ b) (append-nil (little_bytes 4 (get_or xs i 0)))
 
--- Numbers are read back.
+-- A sequence of numbers is read back.
 pub words_back : (ws front rest : List ℕ) (at : ℕ) → length front ≡ at
     → ((i : ℕ) → i < length ws → get_or ws i 0 < 2 ^ 32)
     → words_at at (length ws) (front ++ (words ws ++ rest)) ≡ ws
@@ -44,7 +44,7 @@ words_back (w ∷ ws) front rest at long small =
     ∙ words_back ws (front ++ little_bytes 4 w) rest (at + 4) long_more (λ i lt. small (suc i) (omega arith)) in
     cc
 
--- One number more is written over the zeros.
+-- One more number is written over the zeros.
 pub put_more : (head xs : List ℕ) (i w at : ℕ) (old out : List ℕ) → i < length xs
     → w ≡ get_or xs i 0 → length xs ≡ 8 → length head ≡ 8
     → ((front : List ℕ) (zeros : ℕ) → old ≡ front ++ replicate zeros 0 → length front ≡ at → 4 ≤ zeros
@@ -68,7 +68,7 @@ put_more head xs i w at old out lt is eight long put place was =
     now ∙ ap (λ b. b ++ replicate (48 - 4 * i - 4) 0) front
     ∙ ap (λ n. (head ++ words (take (i + 1) xs)) ++ replicate n 0) zeros
 
--- All are written.
+-- All numbers are written.
 pub put_all : (head xs out : List ℕ) (i : ℕ) → i ≡ 8 → length xs ≡ 8
     → out ≡ (head ++ words (take i xs)) ++ replicate (48 - 4 * i) 0
     → out ≡ head ++ (words xs ++ replicate 16 0)

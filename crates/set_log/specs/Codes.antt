@@ -1,4 +1,4 @@
--- The number and the name of each reason why the log gives no state.
+-- The number and the name of each error of a read of the log.
 use Rattle.std.specs.Prelude.{ℕ, List, codes}
 use Rattle.set_log.specs.declared.error.LogError.{LogError}
 use Rattle.set_log.specs.declared.error.LogError.TheVariants.{NoLog, Flash}

@@ -1,4 +1,4 @@
--- What a call does on one sector of the log, or on one place of it: each record is one call.
+-- What each call on one sector or one place of the log does: one record for each call.
 use Rattle.std.specs.Prelude.{◌≡◌, ℕ, ◌+◌, ◌-◌, ◌*◌, ◌<◌, Bool, true, false, not, List, slice_range}
 use Rattle.std.specs.Prelude.{Result, OnOk, OnErr, IfOk}
 use Rattle.flash_model.specs.declared.error.FlashError.{FlashError}
@@ -11,40 +11,40 @@ use Rattle.set_log.specs.Log.{log_bytes, log_of}
 use Rattle.set_log.specs.Ring.{is_closed, places_in, reads_erased}
 use Rattle.set_log.specs.Written.{HasClosingFlag}
 
--- A call tells a value that it reads.
+-- A call returns a value that it reads.
 pub record Tells {V : Type 0} (value : V) (old new : Chip) (result : Result V FlashError)
     : Type 0 where
-  -- Nothing changes,
+  -- Nothing changes.
   pub same : new ≡ old
-  -- and the answer is the value.
+  -- If the call succeeds, the result is the value.
   pub ok : IfOk result (λ answer. answer ≡ value)
-  -- There is none of a flash that is off.
+  -- The call fails if the flash is off.
   pub on : OnOk result (old.is_on ≡ true)
   pub ends : Ends result old new
 
--- The map is laid out on the flash, the log has a sector of this number, and that sector has a
--- place of this index.
+-- The map is laid out on the flash, the log has a sector with this number, and the sector has a
+-- place with this index.
 pub record HasPlace (map : SectorMap) (number index : ℕ) (chip : Chip) : Type 0 where
   pub laid_out : IsLaidOut map chip
   pub sector : number < 3
   pub place : index < places_in map.sector_size
 
--- A call tells whether a place is erased.
+-- A call returns whether a place is erased.
 pub record TellsErased (map : SectorMap) (sector place : ℕ) (old new : Chip)
     (result : Result Bool FlashError) : Type 0 where
-  -- Nothing changes,
+  -- Nothing changes.
   pub same : new ≡ old
-  -- and the answer is exact.
+  -- If the call succeeds, the result is exact.
   pub ok : IfOk result (λ yes. yes
       ≡ reads_erased (log_bytes map old) (sector * map.sector_size + PLACE * place) PLACE)
   pub ends : Ends result old new
 
--- A call tells whether the gate of a place is set.
+-- A call returns whether the gate of a place is set.
 pub record TellsGated (map : SectorMap) (sector place : ℕ) (old new : Chip)
     (result : Result Bool FlashError) : Type 0 where
-  -- Nothing changes,
+  -- Nothing changes.
   pub same : new ≡ old
-  -- and the answer is yes exactly where the gate isn't erased.
+  -- If the call succeeds, the result is yes exactly if the gate isn't erased.
   pub ok : IfOk result (λ yes. reads_erased (log_bytes map old)
       (sector * map.sector_size + PLACE * place + GATE) 8 ≡ not yes)
   pub ends : Ends result old new
@@ -52,15 +52,15 @@ pub record TellsGated (map : SectorMap) (sector place : ℕ) (old new : Chip)
 -- A call reads the record of a place.
 pub record ReadsPlace (map : SectorMap) (sector place : ℕ) (old new : Chip)
     (result : Result (List ℕ) FlashError) : Type 0 where
-  -- Nothing changes,
+  -- Nothing changes.
   pub same : new ≡ old
-  -- and the answer is the bytes before the gate.
+  -- If the call succeeds, the result is the bytes before the gate.
   pub ok : IfOk result (λ body. body ≡ slice_range (log_bytes map old)
       (sector * map.sector_size + PLACE * place)
       (sector * map.sector_size + PLACE * place + RECORD))
   pub ends : Ends result old new
 
--- There is such a place, and all but its gate is erased.
+-- The place exists, and its bytes before the gate are erased.
 pub record CanWriteBody (map : SectorMap) (number index : ℕ) (chip : Chip) : Type 0 where
   pub laid_out : IsLaidOut map chip
   pub sector : number < 3
@@ -70,19 +70,19 @@ pub record CanWriteBody (map : SectorMap) (number index : ℕ) (chip : Chip) : T
 -- A call writes a record at a place, without the gate.
 pub record WritesBody (map : SectorMap) (sector place : ℕ) (body : List ℕ) (old new : Chip)
     {T : Type 0} (result : Result T FlashError) : Type 0 where
-  -- No part but the log is written,
+  -- Only the log is written.
   pub outside : Keeps map (only Log) old new
-  -- of the log nothing but the bytes before the gate,
+  -- In the log, only the bytes before the gate are written.
   pub within : SameOutside (sector * map.sector_size + PLACE * place) RECORD (log_of map old)
       (log_of map new)
-  -- and they are the record where the call ends.
+  -- If the call succeeds, these bytes are the record.
   pub ok : OnOk result
       (Reads (log_of map new) (sector * map.sector_size + PLACE * place) body)
   -- No sector is erased.
   pub erases : new.erases ≡ old.erases
   pub ends : Ends result old new
 
--- There is such a place, and its gate is erased.
+-- The place exists, and its gate is erased.
 pub record CanSetGate (map : SectorMap) (number index : ℕ) (chip : Chip) : Type 0 where
   pub laid_out : IsLaidOut map chip
   pub sector : number < 3
@@ -92,22 +92,22 @@ pub record CanSetGate (map : SectorMap) (number index : ℕ) (chip : Chip) : Typ
 -- A call sets the gate of a place.
 pub record SetsGate (map : SectorMap) (sector place : ℕ) (old new : Chip) {T : Type 0}
     (result : Result T FlashError) : Type 0 where
-  -- No part but the log is written,
+  -- Only the log is written.
   pub outside : Keeps map (only Log) old new
-  -- and of the log nothing but the gate.
+  -- In the log, only the gate is written.
   pub within : SameOutside (sector * map.sector_size + PLACE * place + GATE) 8 (log_of map old)
       (log_of map new)
-  -- The gate is set where the call ends,
+  -- If the call succeeds, the gate is set.
   pub ok : OnOk result
       (reads_erased (log_bytes map new) (sector * map.sector_size + PLACE * place + GATE) 8 ≡ false)
-  -- and holds a flag.
+  -- If the call succeeds, the gate holds a flag.
   pub flag : OnOk result
       (Reads (log_of map new) (sector * map.sector_size + PLACE * place + GATE) flag)
   -- No sector is erased.
   pub erases : new.erases ≡ old.erases
   pub ends : Ends result old new
 
--- The map is laid out on the flash, and the log has a sector of this number, which is open.
+-- The map is laid out on the flash, the log has a sector with this number, and the sector is open.
 pub record CanClose (map : SectorMap) (number : ℕ) (chip : Chip) : Type 0 where
   pub laid_out : IsLaidOut map chip
   pub sector : number < 3
@@ -116,14 +116,14 @@ pub record CanClose (map : SectorMap) (number : ℕ) (chip : Chip) : Type 0 wher
 -- A call closes a sector.
 pub record Closes (map : SectorMap) (sector : ℕ) (old new : Chip) {T : Type 0}
     (result : Result T FlashError) : Type 0 where
-  -- No part but the log is written,
+  -- Only the log is written.
   pub outside : Keeps map (only Log) old new
-  -- and of the log nothing but the closing unit of the sector.
+  -- In the log, only the closing unit of the sector is written.
   pub within : SameOutside (sector * map.sector_size + (map.sector_size - 8)) 8 (log_of map old)
       (log_of map new)
-  -- The sector is closed where the call ends,
+  -- If the call succeeds, the sector is closed.
   pub ok : OnOk result (is_closed map.sector_size (log_bytes map new) sector ≡ true)
-  -- by a flag.
+  -- If the call succeeds, its closing unit holds a flag.
   pub flag : OnOk result (HasClosingFlag map.sector_size (log_of map new) sector)
   -- No sector is erased.
   pub erases : new.erases ≡ old.erases
@@ -132,17 +132,17 @@ pub record Closes (map : SectorMap) (sector : ℕ) (old new : Chip) {T : Type 0}
 -- A call erases a sector.
 pub record ErasesSector (map : SectorMap) (sector : ℕ) (old new : Chip) {T : Type 0}
     (result : Result T FlashError) : Type 0 where
-  -- No part but the log is written,
+  -- Only the log is written.
   pub outside : Keeps map (only Log) old new
-  -- of the log nothing but the sector,
+  -- In the log, only the sector is written.
   pub within : SameOutside (sector * map.sector_size) map.sector_size (log_of map old)
       (log_of map new)
-  -- and that is erased where the call ends.
+  -- If the call succeeds, the sector is erased.
   pub ok : OnOk result
       (IsErased (log_of map new) (sector * map.sector_size) map.sector_size)
-  -- The erase counts where the call ends, and doesn't where it fails.
+  -- The erase is counted if the call succeeds, and isn't if it fails.
   pub erases : OnOk result (new.erases ≡ old.erases + 1)
   pub uncounted : OnErr result (new.erases ≡ old.erases)
-  -- A call that ends was made on a flash that is on.
+  -- The call fails if the flash is off.
   pub on : OnOk result (old.is_on ≡ true)
   pub ends : Ends result old new

@@ -1,5 +1,5 @@
--- What a call does that looks for the record that stands, or for a place of the next one: each
--- record is one call.
+-- What each call does that finds the current record, or a place for the next one: one record for
+-- each call.
 use Rattle.std.specs.Prelude.{◌≡◌, ℕ, true, false, List, Option, None, MatchOption}
 use Rattle.std.specs.Prelude.{Result, OnOk, IfOk}
 use Rattle.flash_model.specs.declared.error.FlashError.{FlashError}
@@ -12,31 +12,32 @@ use Rattle.set_log.specs.Written.{IsFirstFree}
 -- A call finds the active sector.
 pub record FindsActive (map : SectorMap) (old new : Chip) (result : Result (Option ℕ) FlashError)
     : Type 0 where
-  -- Nothing changes,
+  -- Nothing changes.
   pub same : new ≡ old
-  -- and the answer is none where no sector is active, and else the active one.
+  -- If the call succeeds, the result is the active sector, or none if no sector is active.
   pub ok : IfOk result (λ found. MatchOption found
       (active_of map.sector_size (log_bytes map old) ≡ None)
       (λ sector. IsActive map.sector_size (log_bytes map old) sector))
-  -- There is no answer of a flash that is off.
+  -- The call fails if the flash is off.
   pub on : OnOk result (old.is_on ≡ true)
   pub ends : Ends result old new
 
 -- A call reads the last gated record of a sector.
 pub record ReadsLast (map : SectorMap) (sector : ℕ) (old new : Chip)
     (result : Result (Option (List ℕ)) FlashError) : Type 0 where
-  -- Nothing changes,
+  -- Nothing changes.
   pub same : new ≡ old
-  -- and the answer is exact.
+  -- If the call succeeds, the result is exact.
   pub ok : IfOk result (λ found. found ≡ last_of map.sector_size (log_bytes map old) sector)
   pub ends : Ends result old new
 
 -- A call finds a place of a sector for the next record.
 pub record FindsFree (map : SectorMap) (sector : ℕ) (old new : Chip)
     (result : Result (Option ℕ) FlashError) : Type 0 where
-  -- Nothing changes,
+  -- Nothing changes.
   pub same : new ≡ old
-  -- and the answer is none where the sector has no room, and else its first free place.
+  -- If the call succeeds, the result is the first free place of the sector, or none if its last
+  -- place isn't erased.
   pub ok : IfOk result (λ found. MatchOption found
       (has_room map.sector_size (log_bytes map old) sector ≡ false)
       (λ place. IsFirstFree map.sector_size (log_of map old) sector place))

@@ -1,5 +1,5 @@
--- What a call does that reads the state of the log, appends one, or begins a log with one: each
--- record is one call.
+-- What each call does that reads the state of the log, appends one, or starts a log: one record for
+-- each call.
 use Rattle.std.specs.Prelude.{◌≡◌, ◌⊎◌, ◌+◌, true, false, Some}
 use Rattle.std.specs.Prelude.{Result, IsErrOf, OnOk, if◌then◌else◌}
 use Rattle.flash_model.specs.declared.error.FlashError.{FlashError}
@@ -19,15 +19,15 @@ use Rattle.set_log.specs.Writing.{BeginsLog}
 -- A call reads the state of the log.
 pub record ReadsState (map : SectorMap) (old new : Chip) (result : Result State LogError)
     : Type 0 where
-  -- The flash stays as it is.
+  -- The flash doesn't change.
   pub same : new ≡ old
-  -- The answer is the state that stands, or that none stands, or that the flash is off.
+  -- The result is the state of the log, or that it has none, or that the flash is off.
   pub answers : Answers result (state_of map old) old.is_on
-  -- A state that stands keeps the table of records, whatever bytes the log has.
+  -- The state of a log keeps the table of records, whatever bytes the log has.
   pub table : (state : State) → state_of map old ≡ Some state → fits map.images state ≡ true
-  -- So its set is of images of the map.
+  -- So its set has only images of the map.
   pub within : (state : State) → state_of map old ≡ Some state → IsWithin map state.mask
-  -- A flash without power is answered so.
+  -- If the flash is off, the call returns `Off`.
   pub off : old.is_on ≡ false → IsErrOf result (Flash Off)
   -- No sector is erased.
   pub erases : new.erases ≡ old.erases
@@ -35,23 +35,24 @@ pub record ReadsState (map : SectorMap) (old new : Chip) (result : Result State 
 -- A call appends a state to the log.
 pub record Appends (map : SectorMap) (state : State) (old new : Chip) {T : Type 0}
     (result : Result T FlashError) : Type 0 where
-  -- No part of the flash but the log is written.
+  -- Only the log is written.
   pub outside : Keeps map (only Log) old new
-  -- Whatever happened, and whatever bytes a cut left, the old state stands or the new one.
+  -- In each case the log has the old state or the new one, whatever bytes a power cut left.
   pub either : (state_of map new ≡ state_of map old) ⊎ (state_of map new ≡ Some state)
-  -- The new one stands where the call ends.
+  -- If the call succeeds, the log has the new state.
   pub ok : OnOk result (state_of map new ≡ Some state)
-  -- Its record stands at the first free place of the active sector, or at the first one of the
-  -- next.
+  -- The record is written at the first free place of the active sector, or at the first place of
+  -- the next one.
   pub put : PutsRecord map (record_bytes state) old new result
-  -- A call that ends has erased no sector where a place was free, and else one.
+  -- A call that succeeds erases no sector if a place was free, and otherwise one.
   pub erases : OnOk result (new.erases ≡ old.erases + (if is_place_free map old then 0 else 1))
-  -- A flash without power is answered so.
+  -- If the flash is off, the call returns `Off`.
   pub off : old.is_on ≡ false → IsErrOf result Off
-  -- A call that ends was not cut, a cut turns the flash off, and one that was off stays as it is.
+  -- A call that succeeds wasn't cut. A cut turns the flash off. A flash that was off stays
+  -- unchanged.
   pub ends : Ends result old new
 
--- A call begins a log with a state, which then stands.
+-- A call starts a log with a state: if it succeeds, the log has this state.
 abbrev pub Starts : SectorMap → State → Chip → Chip → {T : Type 0} → Result T FlashError → Type 0
 Starts map state old new result =
     BeginsLog map (record_bytes state) (state_of map new ≡ Some state) old new result

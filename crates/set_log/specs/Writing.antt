@@ -1,4 +1,4 @@
--- What a call does that writes a record: each record is one call.
+-- What each call does that writes a record: one record for each call.
 use Rattle.std.specs.Prelude.{◌≡◌, ◌⊎◌, ℕ, ◌+◌, ◌*◌, ◌<◌, true, false, List, Some}
 use Rattle.std.specs.Prelude.{Result, IsErrOf, OnOk, OnErr, if◌then◌else◌}
 use Rattle.flash_model.specs.declared.error.FlashError.{FlashError}
@@ -12,8 +12,8 @@ use Rattle.set_log.specs.Log.{is_place_free, log_bytes, log_of, record_of}
 use Rattle.set_log.specs.Ring.{IsFree, is_closed, last_of}
 use Rattle.set_log.specs.Written.{HasClosingFlag, IsBesideNext, IsMovedOn, IsWritten, PutsRecord}
 
--- The map is laid out on the flash, the log has a sector of this number, and from the place of this
--- index on all places of the sector are erased.
+-- The map is laid out on the flash, the log has a sector with this number, and all places of the
+-- sector from this index on are erased.
 pub record CanWrite (map : SectorMap) (number index : ℕ) (chip : Chip) : Type 0 where
   pub laid_out : IsLaidOut map chip
   pub sector : number < 3
@@ -22,94 +22,97 @@ pub record CanWrite (map : SectorMap) (number index : ℕ) (chip : Chip) : Type 
 -- A call writes a record at a place, and then its gate.
 pub record WritesRecord (map : SectorMap) (sector place : ℕ) (body : List ℕ) (old new : Chip)
     {T : Type 0} (result : Result T FlashError) : Type 0 where
-  -- No part but the log is written,
+  -- Only the log is written.
   pub outside : Keeps map (only Log) old new
-  -- and of the log nothing but the place.
+  -- In the log, only the place is written.
   pub within : SameOutside (sector * map.sector_size + PLACE * place) PLACE (log_of map old)
       (log_of map new)
-  -- Whatever happened, the last record of the sector is the old one or the new one,
+  -- In each case the last record of the sector is the old one or the new one.
   pub either : (last_of map.sector_size (log_bytes map new) sector
       ≡ last_of map.sector_size (log_bytes map old) sector)
       ⊎ (last_of map.sector_size (log_bytes map new) sector ≡ Some body)
-  -- and the new one where the call ends.
+  -- If the call succeeds, it is the new one.
   pub ok : OnOk result (last_of map.sector_size (log_bytes map new) sector ≡ Some body)
-  -- Then it stands at the place, and the gate holds a flag.
+  -- If the call succeeds, the place holds the record, and the gate holds a flag.
   pub written : OnOk result (IsWritten map.sector_size (log_of map new) sector place body)
   -- No sector is erased.
   pub erases : new.erases ≡ old.erases
   pub ends : Ends result old new
 
--- A call writes a record in the sector after the active one, and makes that the active one.
+-- A call writes a record in the sector after the active one, and makes that sector the active one.
 pub record MovesOn (map : SectorMap) (active : ℕ) (body : List ℕ) (old new : Chip) {T : Type 0}
     (result : Result T FlashError) : Type 0 where
-  -- No part but the log is written.
+  -- Only the log is written.
   pub outside : Keeps map (only Log) old new
-  -- Whatever happened, the old record stands or the new one,
+  -- In each case the current record is the old one or the new one.
   pub either : (record_of map new ≡ record_of map old) ⊎ (record_of map new ≡ Some body)
-  -- and the new one where the call ends.
+  -- If the call succeeds, it is the new one.
   pub ok : OnOk result (record_of map new ≡ Some body)
-  -- Nothing but the next sector and the closing unit of the active one is written.
+  -- In the active sector only the closing unit is written, and in the sector before it nothing.
   pub beside : IsBesideNext map.sector_size active (log_of map old) (log_of map new)
-  -- Where the call ends, the record stands at the first place of the next sector, and a flag closes
+  -- If the call succeeds, the first place of the next sector holds the record, and a flag closes
   -- the active one.
   pub moved : OnOk result (IsMovedOn map.sector_size active body (log_of map new))
-  -- One sector is erased.
+  -- A call that succeeds erases one sector.
   pub erases : OnOk result (new.erases ≡ old.erases + 1)
   pub ends : Ends result old new
 
--- A call writes a record behind the one that stands.
+-- A call writes a record after the current one.
 pub record AppendsRecord (map : SectorMap) (body : List ℕ) (old new : Chip) {T : Type 0}
     (result : Result T FlashError) : Type 0 where
-  -- No part but the log is written.
+  -- Only the log is written.
   pub outside : Keeps map (only Log) old new
-  -- Whatever happened, the old record stands or the new one,
+  -- In each case the current record is the old one or the new one.
   pub either : (record_of map new ≡ record_of map old) ⊎ (record_of map new ≡ Some body)
-  -- and the new one where the call ends.
+  -- If the call succeeds, it is the new one.
   pub ok : OnOk result (record_of map new ≡ Some body)
-  -- It stands at the first free place of the active sector, or at the first one of the next.
+  -- The record is written at the first free place of the active sector, or at the first place of
+  -- the next one.
   pub put : PutsRecord map body old new result
-  -- No sector is erased where a place is free, and else one.
+  -- A call that succeeds erases no sector if a place was free, and otherwise one.
   pub erases : OnOk result (new.erases ≡ old.erases + (if is_place_free map old then 0 else 1))
-  -- A flash without power is answered so.
+  -- If the flash is off, the call returns `Off`.
   pub off : old.is_on ≡ false → IsErrOf result Off
   pub ends : Ends result old new
 
 -- A call erases the three sectors.
 pub record ErasesLog (map : SectorMap) (old new : Chip) {T : Type 0} (result : Result T FlashError)
     : Type 0 where
-  -- No part but the log is written,
+  -- Only the log is written.
   pub outside : Keeps map (only Log) old new
-  -- and all of it is erased where the call ends.
+  -- If the call succeeds, the complete log is erased.
   pub ok : OnOk result (IsErased (log_of map new) 0 (3 * map.sector_size))
-  -- Three erases count where the call ends, and fewer where it fails.
+  -- Three erases are counted if the call succeeds, and fewer if it fails.
   pub erases : OnOk result (new.erases ≡ old.erases + 3)
   pub few : OnErr result (new.erases < old.erases + 3)
-  -- A call that ends was made on a flash that is on.
+  -- The call fails if the flash is off.
   pub on : OnOk result (old.is_on ≡ true)
   pub ends : Ends result old new
 
--- A call begins a log with a record, by which something stands in it.
+-- A call starts a log with a record, after which a statement about the log holds.
 pub record BeginsLog (map : SectorMap) (bytes : List ℕ) (stands : Type 0) (old new : Chip)
     {T : Type 0} (result : Result T FlashError) : Type 0 where
-  -- No part of the flash but the log is written.
+  -- Only the log is written.
   pub outside : Keeps map (only Log) old new
-  -- It stands where the call ends.
+  -- If the call succeeds, the statement holds.
   pub ok : OnOk result stands
-  -- The record stands at the first place of the first sector then, and a flag closes the third.
+  -- If the call succeeds, the first place of the first sector holds the record, and a flag closes
+  -- the third sector.
   pub written : OnOk result (IsWritten map.sector_size (log_of map new) 0 0 bytes
       × HasClosingFlag map.sector_size (log_of map new) 2)
-  -- The flag is written last: once the three sectors are erased, the third is closed only where it
-  -- stands.
+  -- The flag is written last: once the three sectors are erased, the third is closed only if the
+  -- statement holds.
   pub last : new.erases ≡ old.erases + 3
       → is_closed map.sector_size (log_bytes map new) 2 ≡ true → stands
-  -- A call that ends has erased three sectors.
+  -- A call that succeeds has erased three sectors.
   pub erases : OnOk result (new.erases ≡ old.erases + 3)
-  -- A flash without power is answered so.
+  -- If the flash is off, the call returns `Off`.
   pub off : old.is_on ≡ false → IsErrOf result Off
-  -- A call that ends was not cut, a cut turns the flash off, and one that was off stays as it is.
+  -- A call that succeeds wasn't cut. A cut turns the flash off. A flash that was off stays
+  -- unchanged.
   pub ends : Ends result old new
 
--- A call begins a log with a record, which then stands.
+-- A call starts a log with a record: if it succeeds, this is the current record.
 abbrev pub StartsRecord : SectorMap → List ℕ → Chip → Chip → {T : Type 0} → Result T FlashError
     → Type 0
 StartsRecord map body old new result =

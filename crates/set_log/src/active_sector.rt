@@ -1,4 +1,4 @@
-//! Which sector of the log is active, and what stands in it.
+//! Finds the active sector of the log, its current record and its first free place.
 
 ghost use Rattle.std.specs.Prelude.{◌≡◌, ◌<◌, ◌≤◌, MatchOption};
 ghost use Rattle.sector_map.specs.Map.{IsLaidOut};
@@ -12,10 +12,10 @@ use crate::places::{is_closed, is_gated, is_place_erased, read_place};
 use flash_model::{Flash, Result};
 use sector_map::SectorMap;
 
-/// How many sectors the log has.
+/// The number of sectors of the log.
 const SECTORS: u32 = 3;
 
-/// The sector after another in the ring.
+/// The next sector in the ring.
 pub(crate) fn next_of(sector: u32) -> u32
     requires { sector < 3 }
     ensures { result ≡ next_of sector }
@@ -23,7 +23,7 @@ pub(crate) fn next_of(sector: u32) -> u32
     (sector + 1) % SECTORS
 }
 
-/// The sector before another in the ring.
+/// The previous sector in the ring.
 fn previous_of(sector: u32) -> u32
     requires { sector < 3 }
     ensures { result ≡ previous_of sector }
@@ -31,7 +31,7 @@ fn previous_of(sector: u32) -> u32
     (sector + 2) % SECTORS
 }
 
-/// Whether a sector is open, and the one before it closed.
+/// Whether a sector is active: it is open, and the previous one is closed.
 fn is_active<F: Flash>(flash: &mut F, map: &SectorMap, sector: u32) -> Result<bool>
     requires laid_out { IsLaidOut map.now (F.chip flash.old) }
     requires sector { sector < 3 }
@@ -43,7 +43,7 @@ fn is_active<F: Flash>(flash: &mut F, map: &SectorMap, sector: u32) -> Result<bo
     Ok(!closed && follows_closed)
 }
 
-/// The active sector.
+/// Finds the active sector.
 pub(crate) fn find_active<F: Flash>(flash: &mut F, map: &SectorMap) -> Result<Option<u32>>
     requires { IsLaidOut map.now (F.chip flash.old) }
     ensures { FindsActive map.now (F.chip flash.old) (F.chip flash.new) result }
@@ -56,7 +56,7 @@ pub(crate) fn find_active<F: Flash>(flash: &mut F, map: &SectorMap) -> Result<Op
     Ok(None)
 }
 
-/// The last gated record of a sector.
+/// Reads the last gated record of a sector.
 fn last_record<F: Flash>(
     flash: &mut F,
     map: &SectorMap,
@@ -77,7 +77,7 @@ fn last_record<F: Flash>(
     Ok(None)
 }
 
-/// The record that stands.
+/// Reads the current record: the last gated record of the active sector.
 pub(crate) fn read_record<F: Flash>(flash: &mut F, map: &SectorMap) -> Result<Option<[u8; RECORD]>>
     requires { IsLaidOut map.now (F.chip flash.old) }
     ensures { Tells (record_of map.now (F.chip flash.old))
@@ -90,7 +90,7 @@ pub(crate) fn read_record<F: Flash>(flash: &mut F, map: &SectorMap) -> Result<Op
     Ok(found)
 }
 
-/// A place, where a sector has so many that it is one of them.
+/// Returns the index of a place if the sector has it.
 fn place_among(place: u32, places: u32) -> Option<u32>
     ensures { MatchOption result (places ≤ place) (λ found. (found ≡ place) × (place < places)) }
 {
@@ -100,7 +100,7 @@ fn place_among(place: u32, places: u32) -> Option<u32>
     None
 }
 
-/// The first place of a sector behind the last one that isn't erased.
+/// Finds the first place of a sector from which on all places are erased.
 pub(crate) fn free_place<F: Flash>(
     flash: &mut F,
     map: &SectorMap,

@@ -1,14 +1,14 @@
 //! The set log: the state of the device, in a register that survives power cuts.
 //!
 //! - Promises: The log's bytes determine its state. An append that a power cut interrupts leaves
-//!   the old state or the new one, over any bytes that it tears. The number of erased sectors is
-//!   known exactly.
+//!   the old state or the new one, whatever bytes it tears. The number of erased sectors is known
+//!   exactly.
 //! - Main calls: `read_state`, `append`, `start`
 //! - Allocates: no.
 //! - Callers: `upload`, `boot_core`, `inputs`, `inspecting`, `c_interface`; `machine` cites its
 //!   definitions.
 //!
-//! A program changes the log through the device alone.
+//! Programs change the log only through the calls of a device.
 #![tactic(auto)]
 
 mod active_sector;

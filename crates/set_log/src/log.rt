@@ -1,4 +1,4 @@
-//! The state of the log: read, written, and begun.
+//! Reads the state of the log, appends a state, and starts a new log.
 
 ghost use Rattle.std.specs.Prelude.{◌≡◌, IsSome, true};
 ghost use Rattle.sector_map.specs.Map.{IsLaidOut};
@@ -13,15 +13,16 @@ use crate::writing::{append_record, start_record};
 use flash_model::{Flash, Result};
 use sector_map::SectorMap;
 
-/// Reads the state of the log: that of the last gated record of the active sector, which is the
-/// open one whose predecessor is closed. The other sectors don't count, whatever they hold.
+/// Reads the state of the log: that of the last gated record of the active sector. The active
+/// sector is the open one whose predecessor is closed. The contents of the other sectors don't
+/// count.
 ///
-/// The map is laid out on the flash, which doesn't change. Any bytes are allowed: the call returns
-/// on each log. Does not allocate.
+/// The map must be laid out on the flash. The flash doesn't change. The call returns for any bytes
+/// of the log. Does not allocate.
 ///
 /// # Errors
-/// `NoLog` where no sector is active, the active one has no gated record, or the last one breaks
-/// the table of records. `Flash(Off)` where the flash was off.
+/// `NoLog` if no sector is active, the active one has no gated record, or the last one breaks the
+/// table of records. `Flash(Off)` if the flash was off.
 pub fn read_state<F: Flash>(flash: &mut F, map: &SectorMap) -> Result<State, LogError>
     requires { IsLaidOut map.now (F.chip flash.old) }
     ensures { ReadsState map.now (F.chip flash.old) (F.chip flash.new) result }
@@ -35,16 +36,16 @@ pub fn read_state<F: Flash>(flash: &mut F, map: &SectorMap) -> Result<State, Log
     }
 }
 
-/// Appends a state: it stands in place of the one before.
+/// Appends a state, which replaces the current one.
 ///
-/// The map is laid out on the flash, the log has a state, of which `read_state` is the test, and
-/// the new one fits the map's images, of which `State::fits` is the test. Where a place is free, 56
-/// bytes and a gate are written; else the next sector is erased, the record written there, and the
-/// active sector closed. Does not allocate.
+/// The map must be laid out on the flash. The log must have a state: `read_state` checks this. The
+/// new state must fit the map's images: `State::fits` checks this. If the active sector has a free
+/// place, the call writes 56 bytes and a gate. Otherwise it erases the next sector, writes the
+/// record there, and closes the active sector. Does not allocate.
 ///
 /// # Errors
-/// `Cut` where power failed: the old state stands or the new one, whatever bytes the write left,
-/// and all other parts are as they were. `Off` where the flash was off before: nothing changed.
+/// `Cut` if power failed: the log has the old state or the new one, whatever bytes the write left.
+/// All other parts are unchanged. `Off` if the flash was already off: nothing changed.
 pub fn append<F: Flash>(flash: &mut F, map: &SectorMap, state: &State) -> Result<()>
     requires laid_out { IsLaidOut map.now (F.chip flash.old) }
     requires has_state { IsSome (state_of map.now (F.chip flash.old)) }
@@ -55,15 +56,15 @@ pub fn append<F: Flash>(flash: &mut F, map: &SectorMap, state: &State) -> Result
     append_record(flash, map, &body)
 }
 
-/// Begins a log with a state, whatever stood there: erases the three sectors, writes the record at
-/// the first place of the first and closes the third.
+/// Starts a new log with a state, whatever the log contains: erases its three sectors, writes the
+/// record at the first place of the first sector, and closes the third.
 ///
-/// The map is laid out on the flash, and the state fits the map's images, of which `State::fits` is
-/// the test. Does not allocate.
+/// The map must be laid out on the flash. The state must fit the map's images: `State::fits` checks
+/// this. Does not allocate.
 ///
 /// # Errors
-/// `Cut` where power failed: the log holds any bytes, and all other parts are as they were. `Off`
-/// where the flash was off before: nothing changed.
+/// `Cut` if power failed: the log may hold any bytes. All other parts are unchanged. `Off` if the
+/// flash was already off: nothing changed.
 pub fn start<F: Flash>(flash: &mut F, map: &SectorMap, state: &State) -> Result<()>
     requires laid_out { IsLaidOut map.now (F.chip flash.old) }
     requires fits { fits map.now.images state.now ≡ true }

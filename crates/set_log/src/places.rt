@@ -1,4 +1,4 @@
-//! The log seen as a flash of its own: its places and units, read and written one at a time.
+//! Reads and writes single places and closing units of the log, addressed by sector and place.
 
 ghost use Rattle.std.specs.Prelude.{◌<◌};
 ghost use Rattle.sector_map.specs.Map.{IsLaidOut};
@@ -48,7 +48,7 @@ pub(crate) fn is_gated<F: Flash>(
     Ok(!erased)
 }
 
-/// The record of a place, gated or not.
+/// Reads the record of a place, gated or not.
 pub(crate) fn read_place<F: Flash>(
     flash: &mut F,
     map: &SectorMap,
@@ -63,7 +63,7 @@ pub(crate) fn read_place<F: Flash>(
     Ok(body)
 }
 
-/// Writes a record, without its gate, at a place that is erased.
+/// Writes a record, without its gate, at a place whose first 56 bytes are erased.
 pub(crate) fn write_body<F: Flash>(
     flash: &mut F,
     map: &SectorMap,
@@ -78,7 +78,7 @@ pub(crate) fn write_body<F: Flash>(
     flash.program(map.record_start(sector, place), body)
 }
 
-/// Sets the gate of a place, which is erased.
+/// Sets the gate of a place. The gate must be erased.
 pub(crate) fn set_gate<F: Flash>(
     flash: &mut F,
     map: &SectorMap,
@@ -91,7 +91,7 @@ pub(crate) fn set_gate<F: Flash>(
     set_unit(flash, map.record_start(sector, place) + GATE)
 }
 
-/// Closes a sector that is open.
+/// Closes an open sector.
 pub(crate) fn close<F: Flash>(flash: &mut F, map: &SectorMap, sector: u32) -> Result<()>
     requires { CanClose map.now sector (F.chip flash.old) }
     ensures { Closes map.now sector (F.chip flash.old) (F.chip flash.new) result }

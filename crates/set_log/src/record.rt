@@ -1,4 +1,4 @@
-//! Records: the bytes of a state, and back.
+//! Encodes a state as the bytes of a record, and decodes it.
 
 ghost use Rattle.std.specs.Prelude.{◌≡◌, ◌↔◌, ◌+◌, ◌-◌, ◌^◌, ◌<◌, ◌≤◌, ◌++◌, ◌==◌, ℕ, List, Some, IfSome, drop, length, replicate, slice_index, if◌then◌else◌, true};
 ghost use Rattle.byteorder.specs.Endian.{little_bytes, little_number};
@@ -9,15 +9,15 @@ use crate::state::{RecordKind, State};
 use byteorder::{ByteOrder, LittleEndian};
 use common::limits::MOST_IMAGES;
 
-/// A state is that of bytes exactly where they spell it and it keeps the table of records, so that
-/// what is written is read back, and what is read was written so. The state is one that a program
-/// can have: its numbers are of four bytes, and there are eight floors.
+/// Bytes decode to a state exactly if they encode it and it keeps the table of records. So each
+/// state that is written is read back, and only encoded states are read. The law holds for each
+/// state that a program can have: its numbers have four bytes, and it has eight floors.
 pub fn records_are_read_back()
     ensures { (images : ℕ) (bytes : List ℕ) (state : State) → IsSized state
         → (state_from images bytes ≡ Some state) ↔ Spells images bytes state }
 {}
 
-/// Writes a number over the zeros behind what is written.
+/// Writes a number of four bytes over the zeros after the bytes that are already written.
 fn put_word(out: &mut [u8; RECORD], at: usize, word: u32)
     requires { at + 4 ≤ RECORD }
     ensures { (front : List ℕ) (zeros : ℕ) → out.old ≡ front ++ replicate zeros 0
@@ -34,7 +34,7 @@ fn word_at(bytes: &[u8; RECORD], at: usize) -> u32
     LittleEndian::read_u32(&bytes[at..])
 }
 
-/// Shows that each floor is of four bytes.
+/// Shows that each floor has four bytes.
 fn fit_words(floors: &[u32; MOST_IMAGES])
     ensures { (i : ℕ) → i < MOST_IMAGES → slice_index floors.now i < 2 ^ 32 }
 {
@@ -48,7 +48,7 @@ fn flag(on: bool) -> u8
 }
 
 impl State {
-    /// The bytes of its record.
+    /// The bytes of this state's record.
     pub(crate) fn to_bytes(&self) -> [u8; RECORD]
         ensures is { result ≡ record_bytes self.now }
         ensures back { (images : ℕ) → fits images self.now ≡ true
@@ -67,7 +67,7 @@ impl State {
         out
     }
 
-    /// The state of this kind that bytes have, if they spell one.
+    /// The state of this kind whose fields are in the bytes, if the bytes encode one.
     fn from_fields(kind: RecordKind, bytes: &[u8; RECORD]) -> State
         ensures { result ≡ fields kind bytes.now }
     {
@@ -90,8 +90,8 @@ impl State {
         }
     }
 
-    /// The state that bytes spell, of so many images: what they have is spelled again and compared,
-    /// so that no field can be forgotten.
+    /// Decodes a state for a device with `images` images. It encodes the decoded fields again and
+    /// compares, so no field can be forgotten.
     pub(crate) fn from_bytes(bytes: &[u8; RECORD], images: u8) -> Option<State>
         requires { images ≤ MOST_IMAGES }
         ensures { result ≡ state_from images bytes.now }

@@ -1,4 +1,4 @@
-//! The state of a device that is kept through its boots.
+//! The state of a device that persists across its boots.
 
 ghost use Rattle.std.specs.Prelude.{◌≡◌, ◌<◌, ◌≤◌, ◌^◌, ◌==◌, ℕ, length, drop, slice_index};
 ghost use Rattle.std.specs.List.{list_all};
@@ -6,16 +6,16 @@ ghost use Rattle.set_log.specs.Record.{fits, kind_fits, kind_number, kind_of};
 
 use common::limits::{MOST_BOOTS_LEFT, MOST_IMAGES};
 
-/// What a device is in the midst of. The numbers in records are 1 to 6, in this order.
+/// The phase of an upgrade. The numbers in records are 1 to 6, in this order.
 #[derive(Clone, Copy, Debug, PartialEq, Eq)]
 pub enum RecordKind {
-    /// Nothing: the running images stay.
+    /// No upgrade: the running images stay.
     Steady,
     /// The images of the set are being swapped in.
     Swap,
     /// They are swapped in, and their trailers are being settled.
     Settle,
-    /// They are tried.
+    /// They are on trial.
     Trial,
     /// They are being swapped back.
     Back,
@@ -23,21 +23,21 @@ pub enum RecordKind {
     BackSettle,
 }
 
-/// The state of a device that is kept through its boots. A record of the log is one such state; it
-/// *fits* a number of images where it keeps the table of records (`fits`).
+/// The state of a device that persists across its boots. A record of the log holds one such state.
+/// A state *fits* a number of images if it keeps the table of records (`fits`).
 #[derive(Clone, Copy, Debug, PartialEq, Eq)]
 pub struct State {
-    /// What the device is in the midst of.
+    /// The phase of the upgrade.
     pub kind: RecordKind,
-    /// The set of images that this is about: bit i for image i.
+    /// The set of images of the upgrade: bit i for image i.
     pub mask: u8,
-    /// Whether the set is to stay without a trial.
+    /// Whether the set stays without a trial.
     pub permanent: bool,
-    /// The sequence number of the last manifest that was accepted.
+    /// The sequence number of the last accepted manifest.
     pub sequence: u32,
-    /// The least security counter that each image may have; 0 past the last image.
+    /// The lowest security counter that each image may have; 0 past the last image.
     pub floors: [u32; MOST_IMAGES],
-    /// In a trial, how many boots more it lasts, 0 to 6; else 0.
+    /// In a trial, the number of further boots that it lasts, 0 to 6; otherwise 0.
     pub left: u8,
 }
 
@@ -56,7 +56,7 @@ impl RecordKind {
         }
     }
 
-    /// The kind of a number.
+    /// The kind with a number.
     pub(crate) fn from_number(number: u8) -> Option<RecordKind>
         ensures { result ≡ kind_of number }
     {
@@ -79,7 +79,7 @@ fn are_zero(numbers: &[u32]) -> bool
     numbers.iter().all(|number| *number == 0)
 }
 
-/// Whether the floors of images that aren't there are 0.
+/// Whether all floors past the last image are 0.
 fn has_no_floor_from(floors: &[u32; MOST_IMAGES], images: u8) -> bool
     requires { images ≤ MOST_IMAGES }
     ensures { result ≡ list_all (λ floor. floor == 0) (drop images floors.now) }
@@ -88,10 +88,12 @@ fn has_no_floor_from(floors: &[u32; MOST_IMAGES], images: u8) -> bool
 }
 
 impl State {
-    /// Whether the state keeps the table of records, on a device of so many images, at most 8: the
-    /// set is of images of the device; `Steady` has no set, isn't permanent and has no boots left;
-    /// each other kind has a set, with 0 to 6 boots left in `Trial` and none in the others; and the
-    /// floors past the last image are 0.
+    /// Whether the state keeps the table of records on a device with `images` images, at most 8:
+    ///
+    /// - The set has only images of the device.
+    /// - `Steady` has no set, isn't permanent and has no boots left.
+    /// - Each other kind has a set, with 0 to 6 boots left in `Trial` and none in the others.
+    /// - The floors past the last image are 0.
     ///
     /// Does not allocate.
     pub fn fits(&self, images: u8) -> bool
@@ -103,7 +105,7 @@ impl State {
             && has_no_floor_from(&self.floors, images)
     }
 
-    /// Whether set, permanence and boots left are those of the kind.
+    /// Whether the set, the permanence and the boots left match the kind.
     fn fits_kind(&self) -> bool
         ensures { result ≡ kind_fits self.now.kind self.now.mask self.now.permanent self.now.left }
     {

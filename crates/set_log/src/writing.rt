@@ -1,4 +1,4 @@
-//! Writing a record, so that the old one or the new one stands wherever power fails.
+//! Writes records so that a power cut leaves the old record or the new one.
 
 ghost use Rattle.std.specs.Prelude.{◌≢◌, None};
 ghost use Rattle.sector_map.specs.Map.{IsLaidOut};
@@ -12,8 +12,8 @@ use crate::places::{close, erase_sector, set_gate, write_body};
 use flash_model::{Flash, Result};
 use sector_map::SectorMap;
 
-/// Writes a record at a free place of a sector, and then its gate: up to the gate the record
-/// doesn't count.
+/// Writes a record at a free place of a sector, and then its gate. The record doesn't count until
+/// its gate is set.
 fn write_record<F: Flash>(
     flash: &mut F,
     map: &SectorMap,
@@ -29,8 +29,8 @@ fn write_record<F: Flash>(
     set_gate(flash, map, sector, place)
 }
 
-/// Erases the sector after the active one, writes the record there, and then closes the active one:
-/// up to that unit this is the one that is read.
+/// Erases the sector after the active one, writes the record there, and then closes the active one.
+/// The active sector is read until its closing unit is set.
 fn move_on<F: Flash>(flash: &mut F, map: &SectorMap, active: u32, body: &[u8; RECORD]) -> Result<()>
     requires laid_out { IsLaidOut map.now (F.chip flash.old) }
     requires active { IsActive map.now.sector_size
@@ -43,7 +43,7 @@ fn move_on<F: Flash>(flash: &mut F, map: &SectorMap, active: u32, body: &[u8; RE
     close(flash, map, active)
 }
 
-/// Writes a record behind the one that stands.
+/// Writes a record after the current one.
 pub(crate) fn append_record<F: Flash>(
     flash: &mut F,
     map: &SectorMap,
@@ -73,8 +73,8 @@ fn erase_log<F: Flash>(flash: &mut F, map: &SectorMap) -> Result<()>
     Ok(())
 }
 
-/// Erases the log, writes a record at its first place, and closes the last sector, which makes the
-/// first the active one.
+/// Erases the log, writes a record at its first place, and closes the last sector. This makes the
+/// first sector the active one.
 pub(crate) fn start_record<F: Flash>(
     flash: &mut F,
     map: &SectorMap,

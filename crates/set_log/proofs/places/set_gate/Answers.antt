@@ -10,7 +10,7 @@ use Rattle.sector_map.proofs.Parts.{laid_out_kept}
 use Rattle.set_log.proofs.View.{IsAt, at_gate, at_inside, flash_erased, place_aligned, log_alone, log_same, log_set, log_reads}
 use Rattle.set_log.proofs.places.set_gate.Goals as goal
 
--- where the gate lies
+-- the address of the gate
 gate_at : (map : SectorMap) (chip : Chip) (sector place start : ℕ) → CanSetGate map sector place chip
     → start ≡ place_of_record map sector place
     → IsAt map (start + 56) (sector * map.sector_size + 64 * place + 56) 8
