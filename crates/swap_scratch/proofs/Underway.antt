@@ -18,7 +18,7 @@ use Rattle.swap_scratch.specs.Swap.{IsAllCounted}
 use Rattle.swap_scratch.proofs.Sizes.{used_kept}
 use Rattle.swap_scratch.proofs.Taking.{rest_refl, rest_trans}
 
--- A call that swaps so many sectors has come to this status.
+-- A call that swaps this number of sectors has reached this status.
 pub record IsUnderway (map : SectorMap) (image : ℕ) (side : Side) (sectors status : ℕ) (old now : Chip)
     : Type 0 where
   pub laid_out : IsLaidOut map now
@@ -35,7 +35,7 @@ pub record IsUnderway (map : SectorMap) (image : ℕ) (side : Side) (sectors sta
   pub uncut : IsUncut old now
   pub asleep : old.is_on ≡ false → now ≡ old
 
--- It begins where the swap stands.
+-- The call begins at the swap's place.
 pub first_status : (map : SectorMap) (image : ℕ) (side : Side) (sectors status : ℕ) (old : Chip)
     → IsLaidOut map old → sectors ≡ used_of map old side image → status ≡ status_count_of map old image side
     → IsUnderway map image side sectors status old old
@@ -61,7 +61,7 @@ module _ (map : SectorMap) (image : ℕ) (side : Side) (sectors status : ℕ) (o
     (kept : IsUnderway map image side sectors status old now) (left : status < 3 * sectors)
     (taken : TakesStep map image side status now new step)
   where
-    -- a step is left, so not all were counted at first
+    -- A step is left, so not all were counted at first.
     not_all_counted : IsAllCounted map old side image → ⊥
     not_all_counted done =
         let same = kept.idle done in
@@ -75,7 +75,7 @@ module _ (map : SectorMap) (image : ℕ) (side : Side) (sectors status : ℕ) (o
     rest_on : KeepsRest map side old new
     rest_on = rest_trans _ _ _ _ _ has.laid_out kept.laid_out kept.rest taken.rest
 
-    -- the swap stands where it stood before the step, or behind it
+    -- The swap is at its place before the step, or at a later one.
     resumes_on : (x y : List ℕ) (c : ℕ) → IsImagePlace map old side image x y c
         → (d : ℕ) × (c ≤ d) × IsImagePlace map new side image x y d
     resumes_on x y c was =
@@ -85,7 +85,7 @@ module _ (map : SectorMap) (image : ℕ) (side : Side) (sectors status : ℕ) (o
         (λ (at : IsImagePlace map new side image x y (status + 1)). (status + 1, omega (arith, before.0), at))
         (taken.resumes x y before.1)
 
-    -- The call ends behind a step that failed, or one whose status couldn't be read.
+    -- The call ends after a step that failed, or if the next status couldn't be read.
     pub ends_in_step : {U : Type 0} (result : Result U FlashError) → IsErr result → Ends result now new
         → SwapsImage map image side old new result
     ends_in_step result error ends =

@@ -1,10 +1,10 @@
--- What a call that copies does: each record is one call.
+-- What each call that copies does: one record for each call.
 use Rattle.std.specs.Prelude.{◌≡◌, ◌≢◌, ℕ, ◌+◌, ◌*◌, ◌/◌, ◌%◌, ◌<◌, ◌≤◌, ◌^◌, Result, OnOk}
 use Rattle.flash_model.specs.declared.error.FlashError.{FlashError}
 use Rattle.flash_model.specs.Chip.{Chip, size_of, Ends, IsCopy, IsErased, SameOutside}
 
--- So many bytes can be copied from one place to another: both ranges lie in the flash, and the
--- second one is erased, and made of whole units.
+-- A number of bytes can be copied from one address to another: both ranges are inside the flash,
+-- and the second range is erased and consists of whole units.
 pub record CanCopy (from to n : ℕ) (chip : Chip) : Type 0 where
   pub from_inside : from + n ≤ size_of chip
   pub to_inside : to + n ≤ size_of chip
@@ -12,18 +12,18 @@ pub record CanCopy (from to n : ℕ) (chip : Chip) : Type 0 where
   pub place : to % 8 ≡ 0
   pub units : n % 8 ≡ 0
 
--- A call copies so many bytes from one place to another.
+-- A call copies a number of bytes from one address to another.
 pub record Copies (from to n : ℕ) (old new : Chip) {T : Type 0} (result : Result T FlashError)
     : Type 0 where
-  -- Nothing else is written,
+  -- Only the target range is written.
   pub outside : SameOutside to n old new
-  -- the bytes stand there where the call ends,
+  -- If the call succeeds, the target range holds the bytes.
   pub ok : OnOk result (IsCopy from to n old new)
-  -- and no sector is erased.
+  -- If the call succeeds, no sector is erased.
   pub erases : OnOk result (new.erases ≡ old.erases)
   pub ends : Ends result old new
 
--- One sector can be copied to another: the flash has both, and they are made of whole units.
+-- One sector can be copied to another: the flash has both, and they consist of whole units.
 pub record CanCopySector (from to : ℕ) (chip : Chip) : Type 0 where
   pub from_inside : from < chip.sectors
   pub to_inside : to < chip.sectors
@@ -34,11 +34,11 @@ pub record CanCopySector (from to : ℕ) (chip : Chip) : Type 0 where
 -- A call erases a sector, and copies another one to it.
 pub record CopiesSector (from to : ℕ) (old new : Chip) {T : Type 0} (result : Result T FlashError)
     : Type 0 where
-  -- No other sector is written,
+  -- No other sector is written.
   pub outside : SameOutside (to * old.sector_size) old.sector_size old new
-  -- it reads as the other one where the call ends,
+  -- If the call succeeds, the sector holds the bytes of the other one.
   pub ok : OnOk result
       (IsCopy (from * old.sector_size) (to * old.sector_size) old.sector_size old new)
-  -- and one sector is erased.
+  -- If the call succeeds, one sector is erased.
   pub erases : OnOk result (new.erases ≡ old.erases + 1)
   pub ends : Ends result old new

@@ -1,4 +1,4 @@
--- What a call that takes steps of the swap of one image does: each record is one call.
+-- What each call that takes steps of the swap of one image does: one record for each call.
 use Rattle.std.specs.Prelude.{◌≡◌, ◌⊎◌, ℕ, ◌+◌, ◌*◌, ◌/◌, ◌%◌, ◌<◌, ◌≤◌, false, List}
 use Rattle.std.specs.Prelude.{Result, IsErrOf, OnOk, IfOk}
 use Rattle.flash_model.specs.declared.error.FlashError.{FlashError}
@@ -17,101 +17,103 @@ use Rattle.swap_scratch.specs.Swap.{IsAllCounted}
 -- A call reads how many sectors of each slot of an image a swap moves.
 pub record ReadsUsed (map : SectorMap) (image : ℕ) (side : Side) (old new : Chip)
     (result : Result ℕ FlashError) : Type 0 where
-  -- Nothing changes,
+  -- Nothing changes.
   pub same : new ≡ old
-  -- the answer is exact,
+  -- If the call succeeds, the result is exact.
   pub ok : IfOk result (λ used. used ≡ used_of map old side image)
-  -- and no more than the slot has.
+  -- If the call succeeds, the result is at most the number of sectors of the slot.
   pub few : IfOk result (λ used. used ≤ slot_sectors map image)
   pub erases : OnOk result (new.erases ≡ old.erases)
-  -- A flash without power is answered so.
+  -- If the flash is off, the call returns `Off`.
   pub off : old.is_on ≡ false → IsErrOf result Off
   pub ends : Ends result old new
 
--- A call reads how far the swap of an image has come that its trailer of a side counts.
+-- A call reads the progress of the swap of an image, as the trailer of a side counts it.
 pub record ReadsProgress (map : SectorMap) (image : ℕ) (side : Side) (old new : Chip)
     (result : Result Progress FlashError) : Type 0 where
-  -- Nothing changes,
+  -- Nothing changes.
   pub same : new ≡ old
-  -- and both numbers are exact.
+  -- If the call succeeds, both numbers are exact.
   pub ok : IfOk result (λ progress. (progress.taken ≡ status_count_of map old image side)
       × (progress.steps ≡ steps_of map old side image))
-  -- A flash without power is answered so.
+  -- If the flash is off, the call returns `Off`.
   pub off : old.is_on ≡ false → IsErrOf result Off
   pub ends : Ends result old new
 
--- The swap of so many sectors of each slot of an image has a step after so many.
+-- The swap of `used` sectors of each slot of an image has step `status`, counted from 0.
 pub record IsStep (map : SectorMap) (image used status : ℕ) : Type 0 where
   pub there : image < map.images
   pub few : used ≤ slot_sectors map image
   pub below : status < 3 * used
 
--- A call copies the sector of the step after so many.
+-- A call copies the sector of step `status`.
 pub record MovesSector (map : SectorMap) (image used status : ℕ) (old new : Chip) {T : Type 0}
     (result : Result T FlashError) : Type 0 where
-  -- Nothing is written but the slots of the image, and scratch.
+  -- Only the slots of the image and scratch are written.
   pub outside : Keeps map (moved_of image) old new
-  -- Whatever happened, the old contents stand as they stood,
+  -- In each case the old contents are still at their places.
   pub kept : (x y : ℕ → ℕ → ℕ)
       → IsPartway old (sectors_of_swap map image used) x y (status / 3) (status % 3)
       → IsPartway new (sectors_of_swap map image used) x y (status / 3) (status % 3)
-  -- and as after the step where the call ends.
+  -- If the call succeeds, the old contents are also at their places after the step.
   pub moved : OnOk result ((x y : ℕ → ℕ → ℕ)
       → IsPartway old (sectors_of_swap map image used) x y (status / 3) (status % 3)
       → IsPartway new (sectors_of_swap map image used) x y ((status + 1) / 3) ((status + 1) % 3))
-  -- What lies behind the sectors of the swap stays.
+  -- The bytes after the sectors of the swap don't change.
   pub behind : KeepsBehind map image (used * map.sector_size) old new
-  -- One sector is erased.
+  -- A call that succeeds erases one sector.
   pub erases : OnOk result (new.erases ≡ old.erases + 1)
   pub ends : Ends result old new
 
--- The step after so many is the next one of the swap of an image: so many are counted.
+-- Step `status` is the next one of the swap of an image: the trailer counts this many steps.
 pub record IsNextStep (map : SectorMap) (image : ℕ) (side : Side) (sectors status : ℕ) (chip : Chip)
     : Type 0 where
   pub used : sectors ≡ used_of map chip side image
   pub count : status ≡ status_count_of map chip image side
   pub below : status < 3 * sectors
 
--- A call takes the step after so many, and counts it.
+-- A call takes step `status`, and counts it.
 pub record TakesStep (map : SectorMap) (image : ℕ) (side : Side) (status : ℕ) (old new : Chip)
     {T : Type 0} (result : Result T FlashError) : Type 0 where
-  -- Nothing is written but the slots of the image, its trailer of the side and scratch,
+  -- Only the slots of the image, its trailer of the side, and scratch are written.
   pub outside : Keeps map (swap_one image side) old new
-  -- of the slots only the sectors that the swap moves, of the trailer only their status units.
+  -- In the slots only the sectors that the swap moves are written, and in the trailer only the
+  -- status units of these sectors.
   pub rest : KeepsRest map side old new
-  -- Whatever happened, the swap stands at this step or at the next one,
+  -- In each case the swap is at this step or at the next one.
   pub resumes : (x y : List ℕ) → IsImagePlace map old side image x y status
       → IsImagePlace map new side image x y status
       ⊎ IsImagePlace map new side image x y (status + 1)
-  -- and at the next one where the call ends.
+  -- If the call succeeds, the swap is at the next step.
   pub taken : OnOk result ((x y : List ℕ) → IsImagePlace map old side image x y status
       → IsImagePlace map new side image x y (status + 1))
-  -- The count goes up, wherever the swap stood.
+  -- If the call succeeds, the count increases, whatever the place of the swap.
   pub counted : OnOk result (status < status_count_of map new image side)
-  -- One sector is erased.
+  -- A call that succeeds erases one sector.
   pub erases : OnOk result (new.erases ≡ old.erases + 1)
   pub ends : Ends result old new
 
--- A call swaps the slots of an image, from wherever the swap stands.
+-- A call swaps the slots of an image, from any place of the swap.
 pub record SwapsImage (map : SectorMap) (image : ℕ) (side : Side) (old new : Chip) {T : Type 0}
     (result : Result T FlashError) : Type 0 where
-  -- Nothing is written but the slots of the image, its trailer of the side and scratch,
+  -- Only the slots of the image, its trailer of the side, and scratch are written.
   pub outside : Keeps map (swap_one image side) old new
-  -- of the slots only the sectors that the swap moves, of the trailer only their status units,
+  -- In the slots only the sectors that the swap moves are written, and in the trailer only the
+  -- status units of these sectors.
   pub rest : KeepsRest map side old new
-  -- and nothing at all where all steps are counted.
+  -- If all steps are counted, nothing changes.
   pub idle : IsAllCounted map old side image → new ≡ old
-  -- Whatever happened, the swap stands where it stood or further on,
+  -- In each case the swap is at the old step or at a later one.
   pub resumes : (x y : List ℕ) (c : ℕ) → IsImagePlace map old side image x y c
       → (d : ℕ) × (c ≤ d) × IsImagePlace map new side image x y d
-  -- and at its end where the call ends.
+  -- If the call succeeds, the swap is at its end.
   pub swapped : OnOk result ((x y : List ℕ) (c : ℕ) → IsImagePlace map old side image x y c
       → IsImagePlace map new side image x y (steps_of map old side image))
-  -- Then all steps are counted, wherever the swap stood,
+  -- If the call succeeds, all steps are counted, whatever the place of the swap was.
   pub counted : OnOk result (IsAllCounted map new side image)
-  -- and a sector was erased for each step that was left.
+  -- A call that succeeds erases one sector for each step that was left.
   pub erases : OnOk result ((x y : List ℕ) (c : ℕ) → IsImagePlace map old side image x y c
       → new.erases + c ≡ old.erases + steps_of map old side image)
-  -- A flash without power is answered so.
+  -- If the flash is off, the call returns `Off`.
   pub off : old.is_on ≡ false → IsErrOf result Off
   pub ends : Ends result old new

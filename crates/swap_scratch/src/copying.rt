@@ -1,4 +1,4 @@
-//! Copies of sectors, piece by piece.
+//! Copies sectors through a buffer.
 
 ghost use Rattle.std.specs.Prelude.{◌⊎◌, ◌+◌, ◌<◌, ◌≤◌, ◌^◌, length};
 ghost use Rattle.flash_model.specs.Chip.{size_of};
@@ -6,7 +6,7 @@ ghost use Rattle.swap_scratch.specs.Copies.{CanCopy, CanCopySector, Copies, Copi
 
 use flash_model::{Flash, Result};
 
-/// How many bytes are copied at once, whole units.
+/// The number of bytes that are copied in one piece: whole units.
 const PIECE: usize = 256;
 
 /// Copies as many bytes as the buffer has, through it.
@@ -20,7 +20,7 @@ fn copy_piece<F: Flash>(flash: &mut F, from: u32, to: u32, piece: &mut [u8]) -> 
     flash.program(to, piece)
 }
 
-/// Copies a range to an erased one that lies apart.
+/// Copies a range to an erased range that doesn't overlap it.
 #[tactic(auto, using(flash_model::proofs::Copies::copied_more, flash_model::proofs::Erased::erased_after))]
 fn copy_range<F: Flash>(flash: &mut F, from: u32, to: u32, len: u32) -> Result<()>
     requires range { CanCopy from to len (F.chip flash.old) }

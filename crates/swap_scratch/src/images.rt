@@ -1,4 +1,4 @@
-//! The swap of the slots of one image.
+//! Swaps the slots of one image.
 
 ghost use Rattle.sector_map.specs.Map.{HasImage};
 ghost use Rattle.swap_scratch.specs.Steps.{SwapsImage};
@@ -9,8 +9,8 @@ use flash_model::{Flash, Result};
 use sector_map::{SectorMap, Side};
 use trailer::status_count;
 
-/// Swaps the slots of one image, from wherever the swap stands. An image that is done isn't
-/// touched: scratch may hold a sector of a later one.
+/// Swaps the slots of one image, from any place of the swap. If all its steps are counted, nothing
+/// is touched, since scratch may hold a sector of a later image.
 pub(crate) fn swap_image<F: Flash>(
     flash: &mut F,
     map: &SectorMap,

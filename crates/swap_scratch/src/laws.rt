@@ -1,11 +1,11 @@
-//! What a place of a swap is, law by law.
+//! Laws about a place of a swap.
 
 ghost use Rattle.swap_scratch.specs.Laws.{SwapLaws};
 
 use sector_map::SectorMap;
 
-/// The laws of a place of a swap, by which calls before a swap and between its parts are joined to
-/// it.
+/// Laws about a place of a swap. With them, callers join the calls before a swap and between its
+/// parts to it.
 pub fn swap_laws(map: &SectorMap)
     ensures { SwapLaws map.now }
 {}

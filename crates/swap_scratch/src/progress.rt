@@ -1,4 +1,4 @@
-//! How far the swap of the slots of an image has come.
+//! Reads the progress of the swap of an image.
 
 ghost use Rattle.sector_map.specs.Map.{HasImage};
 ghost use Rattle.swap_scratch.specs.Steps.{ReadsProgress};
@@ -8,23 +8,23 @@ use flash_model::{Flash, Result};
 use sector_map::{SectorMap, Side};
 use trailer::status_count;
 
-/// How far the swap of the slots of an image has come.
+/// The progress of the swap of the slots of an image.
 #[derive(Clone, Copy)]
 pub struct Progress {
-    /// How many steps are taken, as the trailer counts them.
+    /// The number of completed steps, as the trailer counts them.
     pub taken: u32,
-    /// How many steps there are in all: three for each sector that the swap moves.
+    /// The number of all steps: three for each sector of a slot that the swap moves.
     pub steps: u32,
 }
 
-/// How far the swap of the slots of an image has come that is counted in its trailer of a side.
+/// Reads the progress of the swap of an image's slots, as the image's trailer of `side` counts it.
 /// Does not allocate.
 ///
-/// The map is laid out on the flash, and has the image, which is told by its number from 0. Where
-/// no swap was begun with that trailer, the number says nothing.
+/// The map must be laid out on the flash, and must have the image. `image` is its number, from 0.
+/// If no swap was started with that trailer, the number of completed steps has no meaning.
 ///
 /// # Errors
-/// `Off` where the flash was off. Nothing changes in any case.
+/// `Off` if the flash was off. Nothing changes in any case.
 pub fn swap_progress<F: Flash>(
     flash: &mut F,
     map: &SectorMap,

@@ -1,4 +1,5 @@
-//! The steps of the swap of one image: each copies a sector, and is then counted by a status unit.
+//! Takes the steps of the swap of one image: each step copies a sector, and is then counted by a
+//! status unit.
 
 ghost use Rattle.std.specs.Prelude.{◌/◌, ◌%◌};
 ghost use Rattle.sector_map.specs.Map.{HasImage, IsLaidOut};
@@ -10,8 +11,8 @@ use flash_model::{Flash, Result};
 use sector_map::{SectorMap, Side};
 use trailer::push_status;
 
-/// The sectors that the step after so many copies from and to. The indices go from the highest of
-/// the used ones to the lowest.
+/// The source and the target sector of step `status`, counted from 0. The steps go from the highest
+/// index of the used sectors to the lowest.
 #[tactic(auto, using(crate::proofs::Sizes::slot_addressed))]
 fn sectors_of_step(map: &SectorMap, image: u8, used: u32, status: u32) -> (u32, u32)
     requires { IsStep map.now image used status }
@@ -28,7 +29,7 @@ fn sectors_of_step(map: &SectorMap, image: u8, used: u32, status: u32) -> (u32, 
     }
 }
 
-/// Copies the sector of the step after so many.
+/// Copies the sector of step `status`, counted from 0.
 fn move_sector<F: Flash>(
     flash: &mut F,
     map: &SectorMap,
@@ -44,8 +45,8 @@ fn move_sector<F: Flash>(
     copy_sector(flash, from, to)
 }
 
-/// Takes the step after so many, and counts it. Where the flash is at no place of a swap, units
-/// behind the first erased one may be set; then the count goes up by more than one.
+/// Takes step `status`, counted from 0, and counts it. If the flash is at no place of a swap, units
+/// after the first erased one may be set. Then the count increases by more than one.
 pub(crate) fn take_step<F: Flash>(
     flash: &mut F,
     map: &SectorMap,

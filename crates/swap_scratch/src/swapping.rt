@@ -1,4 +1,4 @@
-//! The swap of the slots of the images of a mask.
+//! Swaps the slots of a set of images.
 
 ghost use Rattle.std.specs.Prelude.{◌<◌};
 ghost use Rattle.sector_map.specs.Map.{HasImages};
@@ -8,7 +8,7 @@ use crate::images::swap_image;
 use flash_model::{Flash, Result};
 use sector_map::{SectorMap, Side, is_member};
 
-/// Swaps the slots of an image, where it is in the mask.
+/// Swaps the slots of an image if the image is in the mask.
 fn swap_member<F: Flash>(
     flash: &mut F,
     map: &SectorMap,
@@ -27,19 +27,21 @@ fn swap_member<F: Flash>(
 }
 
 /// Swaps the primary and the secondary slot of each image of a mask through scratch, in ascending
-/// order, begun or interrupted anywhere.
+/// order. It continues a swap that was interrupted anywhere.
 ///
-/// The map is laid out on the flash, and the mask, an image a bit, names images of the map only.
-/// Progress is counted in the status units of the images' trailers of `side`. The size in such a
-/// trailer says how many bytes of each slot of its image are moved, rounded up to whole sectors;
-/// where it holds no size all sectors are. Another call with the same mask and side goes on where
-/// the last one ended, and erases one sector for each step that is left; where none is, as of a
-/// mask of no image, nothing changes. Bytes are copied through a buffer of 256. Does not allocate.
+/// The map must be laid out on the flash. Bit i of the mask is image i: the mask must have only
+/// images of the map. The status units of the images' trailers of `side` count the progress. The
+/// size in such a trailer is the number of bytes of each slot of its image that are moved, rounded
+/// up to whole sectors. If the trailer holds no size, all sectors are moved.
+///
+/// Another call with the same mask and side continues after the last step, and erases one sector
+/// for each remaining step. If no step remains, for example for an empty mask, nothing changes.
+/// Bytes are copied through a buffer of 256 bytes. Does not allocate.
 ///
 /// # Errors
-/// `Cut` where power failed in the midst of a write. The flash then stands at a place of the same
-/// swap: each byte of the old contents stands in a slot of its image or in scratch, and another
-/// call ends the swap. `Off` where the flash was off before: nothing changed.
+/// `Cut` if power failed during a write. The flash is then at a place of the same swap: each byte
+/// of the old contents is in a slot of its image or in scratch, and another call completes the
+/// swap. `Off` if the flash was already off: nothing changed.
 pub fn swap_set<F: Flash>(flash: &mut F, map: &SectorMap, mask: u8, side: Side) -> Result<()>
     requires images { HasImages map.now mask (F.chip flash.old) }
     ensures { Swaps map.now mask side (F.chip flash.old) (F.chip flash.new) result }

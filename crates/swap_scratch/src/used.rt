@@ -1,4 +1,4 @@
-//! How much of each slot a swap moves.
+//! Finds the number of sectors of each slot that a swap moves.
 
 ghost use Rattle.std.specs.Prelude.{◌≡◌, ◌<◌, IfSome, Option};
 ghost use Rattle.sector_map.specs.Map.{HasImage, slot_sectors};
@@ -9,7 +9,7 @@ use flash_model::{Flash, Result};
 use sector_map::{SectorMap, Side};
 use trailer::read_size;
 
-/// The sectors that a size takes, and all of the slot where there is none.
+/// The number of sectors that hold a size, or all sectors of the slot if there is no size.
 fn sectors_for(map: &SectorMap, image: u8, size: Option<u32>) -> u32
     requires there { image < map.now.images }
     requires some { IfSome size (λ n. 0 < n) }
@@ -21,7 +21,7 @@ fn sectors_for(map: &SectorMap, image: u8, size: Option<u32>) -> u32
     }
 }
 
-/// How many sectors of each slot of an image a swap moves.
+/// Reads how many sectors of each slot of an image a swap moves.
 #[tactic(auto, using(crate::proofs::Sizes::used_is, crate::proofs::Sizes::some_size))]
 pub(crate) fn used_sectors<F: Flash>(
     flash: &mut F,

@@ -16,7 +16,7 @@ use Rattle.flash_model.proofs.Ending.{uncut_refl, uncut_trans, ends_after}
 use Rattle.flash_model.proofs.Ending.{at_error, ends_passed, ends_well, asleep_trans}
 use Rattle.swap_scratch.proofs.swapping.swap_set.Goals as goal
 
--- a member that had no step left changed nothing, nor did those before it
+-- A member that had no step left changed nothing, nor did those before it.
 idle_still : (map : SectorMap) (side : Side) (mask i : ℕ) (old mid : Chip) {new : Chip}
     → ((is_member mask i ≡ true → IsAllCounted map mid side i) → new ≡ mid) → mid ≡ old
     → (is_member mask i ≡ true → IsAllCounted map old side i) → new ≡ old
