@@ -1,5 +1,5 @@
--- Laws of a header's faults: bytes have one at most, and none where they begin with a header that
--- is accepted.
+-- Laws about a header's faults: bytes have at most one, and none if they begin with an accepted
+-- header.
 use Rattle.std.specs.Prelude.{◌≡◌, ℕ, zero, suc, ◌<◌, ◌≤◌, List, length}
 use Rattle.std.proofs.Common.{refl, sym, ap, subst, ◌∙◌, arith}
 use Rattle.byteorder.specs.Endian.{little_number}
@@ -11,14 +11,14 @@ use Rattle.common.proofs.ChecksLaws.{FailsFirst-unique}
 use Rattle.image_header.specs.Header.{BeginsWith, HasKnownFlags, IsAccepted, IsHeaderFault, header_magic}
 use Rattle.image_header.proofs.Laws.{BeginsWith-length, BeginsWith-magic, header-unique}
 
--- The checks of a header in their order ..
+-- The checks of a header, in their order.
 abbrev header_check : List ℕ → ℕ → Type 0
 header_check bytes zero = 32 ≤ length bytes
 header_check bytes (suc zero) = little_number 4 bytes ≡ header_magic
 header_check bytes (suc (suc zero)) = (header : Header) → BeginsWith bytes header → 32 ≤ header.header_size
 header_check bytes place = (header : Header) → BeginsWith bytes header → HasKnownFlags header
 
--- .. and what it is called that one fails.
+-- The fault of each check that fails.
 abbrev header_fault_at : ℕ → HeaderError
 header_fault_at zero = Short
 header_fault_at (suc zero) = BadMagic
@@ -41,7 +41,7 @@ fails_at bytes UnsupportedFlags failed =
     (((tt, BeginsWith-length bytes failed.0 failed.1), BeginsWith-magic bytes failed.0 failed.1), long) in
     (3, (passed, λ known. failed.2.unknown (known failed.0 failed.1)), refl)
 
--- Bytes have one fault at most ..
+-- Bytes have at most one fault.
 pub header_fault-unique : (bytes : List ℕ) (first second : HeaderError)
     → IsHeaderFault bytes first → IsHeaderFault bytes second → first ≡ second
 header_fault-unique bytes first second a b =
@@ -49,7 +49,7 @@ header_fault-unique bytes first second a b =
     let too = fails_at bytes second b in
     at.2 ∙ ap header_fault_at (FailsFirst-unique (header_check bytes) at.0 too.0 at.1 too.1) ∙ sym too.2
 
--- .. and none where they begin with a header that is accepted.
+-- Bytes that begin with an accepted header have no fault.
 pub accepted_has_no_fault : (bytes : List ℕ) (header : Header) (fault : HeaderError)
     → BeginsWith bytes header → IsAccepted header → IsHeaderFault bytes fault → ⊥
 accepted_has_no_fault bytes header Short begins accepted failed = omega

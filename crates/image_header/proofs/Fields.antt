@@ -10,23 +10,23 @@ use Rattle.common.proofs.Bytes.{IsBytes-drop, IsBytes-take}
 use Rattle.image_header.specs.declared.header.Header.{Header}
 use Rattle.image_header.specs.Header.{BeginsWith, FitsHeader, field_bytes, header_magic}
 
--- Nothing stands behind a field within the part that is written.
+-- The first n bytes have nothing after byte n.
 pub drop-take_same : (n : ℕ) (bytes : List ℕ) → drop n (take n bytes) ≡ []
 drop-take_same n bytes = drop_all n (take n bytes) (omega (arith, length-take n bytes))
 
--- Bytes from place k are n bytes, and those after them.
+-- The bytes from place k on are n bytes and those after them.
 drop-part : (k n : ℕ) (bytes part : List ℕ) → part ≡ take n (drop k bytes) → drop k bytes ≡ part ++ drop (k + n) bytes
 drop-part k n bytes part e =
     sym (take-append-drop n (drop k bytes)) ∙ rw (e, drop-drop n k bytes) refl
 
--- One byte, and what follows it.
+-- One byte, and the bytes after it.
 pub drop-number_1 : (k : ℕ) (bytes : List ℕ) → k + 1 ≤ length bytes → IsBytes bytes
     → drop k bytes ≡ little_bytes 1 (slice_index bytes k) ++ drop (k + 1) bytes
 drop-number_1 k bytes within fits =
     let byte : slice_index bytes k % 256 ≡ slice_index bytes k = mod-eq_of_lt (fits k) in
     rw (byte, add-one) (drop-cons bytes k 0 (omega arith))
 
--- A number of two bytes, and what follows it.
+-- A number of two bytes, and the bytes after it.
 pub drop-number_2 : (k x : ℕ) (bytes : List ℕ) → k + 2 ≤ length bytes → IsBytes bytes
     → x ≡ little_number 2 (take 2 (drop k bytes)) → drop k bytes ≡ little_bytes 2 x ++ drop (k + 2) bytes
 drop-number_2 k x bytes within fits e =
@@ -35,7 +35,7 @@ drop-number_2 k x bytes within fits e =
     let bounded = IsBytes-take 2 (drop k bytes) (IsBytes-drop k bytes fits) in
     drop-part k 2 bytes (little_bytes 2 x) (le_bytes_2 part x whole bounded (omega arith))
 
--- A number of four bytes, and what follows it.
+-- A number of four bytes, and the bytes after it.
 pub drop-number_4 : (k x : ℕ) (bytes : List ℕ) → k + 4 ≤ length bytes → IsBytes bytes
     → x ≡ little_number 4 (take 4 (drop k bytes)) → drop k bytes ≡ little_bytes 4 x ++ drop (k + 4) bytes
 drop-number_4 k x bytes within fits e =
@@ -44,8 +44,7 @@ drop-number_4 k x bytes within fits e =
     let bounded = IsBytes-take 4 (drop k bytes) (IsBytes-drop k bytes fits) in
     drop-part k 4 bytes (little_bytes 4 x) (le_bytes_4 part x whole bounded (omega arith))
 
--- Bytes that begin with the magic number and go on with the fields of a header begin with that
--- header.
+-- Bytes begin with a header if they begin with the magic number, followed by the header's fields.
 pub BeginsWith-fields : (bytes : List ℕ) (header : Header) → 32 ≤ length bytes → IsBytes bytes
     → little_number 4 bytes ≡ header_magic → FitsHeader header → drop 4 bytes ≡ field_bytes header ++ drop 32 bytes
     → BeginsWith bytes header

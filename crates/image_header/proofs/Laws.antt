@@ -1,4 +1,4 @@
--- Laws of headers, for the crates above.
+-- Laws about headers, for the crates above.
 use Rattle.std.specs.Prelude.{◌≡◌, ℕ, ◌^◌, ◌<◌, ◌≤◌, List, ◌++◌, length, drop, refl}
 use Rattle.std.proofs.Common.{sym, ap, ◌∙◌, arith}
 use Rattle.byteorder.specs.Endian.{little_bytes, little_number}
@@ -10,17 +10,17 @@ use Rattle.image_header.specs.Header.{header_magic, header_bytes, BeginsWith}
 pub length-header_bytes : (header : Header) → length (header_bytes header) ≡ 32
 length-header_bytes header = refl
 
--- What follows is what stands from byte 32 on.
+-- The rest is the bytes from byte 32 on.
 pub header_bytes-rest : (bytes : List ℕ) (header : Header) (h : BeginsWith bytes header) → h.rest ≡ drop 32 bytes
 header_bytes-rest bytes header h = sym (ap (drop 32) h.parts)
 
--- Bytes that begin with a header are 32 at least.
+-- Bytes that begin with a header have length 32 or more.
 pub BeginsWith-length : (bytes : List ℕ) (header : Header) → BeginsWith bytes header → 32 ≤ length bytes
 BeginsWith-length bytes header h =
     let e : length bytes ≡ length (header_bytes header ++ h.rest) = ap length h.parts in
     omega arith
 
--- The header that the first 32 bytes hold, if they hold one.
+-- The header in the first 32 bytes, if they hold one.
 abbrev header_at : List ℕ → Header
 header_at bytes = record {
   load_address = little_number 4 (drop 4 bytes);
@@ -37,12 +37,12 @@ header_at bytes = record {
   pad = little_number 4 (drop 28 bytes);
 }
 
--- A number that stands in bytes is what is read there.
+-- A number in bytes is the number that is read there.
 little_number-drop : (n k x : ℕ) (bytes rest : List ℕ) → x < 256 ^ n → drop k bytes ≡ little_bytes n x ++ rest
     → little_number n (drop k bytes) ≡ x
 little_number-drop n k x bytes rest fits e = ap (little_number n) e ∙ little_number-reads_back n x rest fits
 
--- The one header that bytes may begin with.
+-- The only header with which bytes may begin.
 header_at-BeginsWith : (bytes : List ℕ) (header : Header) → BeginsWith bytes header → header_at bytes ≡ header
 header_at-BeginsWith bytes header h =
     rw (
@@ -58,7 +58,7 @@ header_at-BeginsWith bytes header h =
       little_number-drop 4 28 header.pad bytes _ h.fits.pad (ap (drop 28) h.parts),
     ) refl
 
--- Bytes begin with one header at most.
+-- Bytes begin with at most one header.
 pub header-unique : (bytes : List ℕ) (first second : Header) → BeginsWith bytes first → BeginsWith bytes second
     → first ≡ second
 header-unique bytes first second a b = sym (header_at-BeginsWith bytes first a) ∙ header_at-BeginsWith bytes second b

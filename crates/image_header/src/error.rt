@@ -1,20 +1,20 @@
-//! Why bytes begin with no header that is accepted.
+//! The error of reading a header.
 
 ghost use Rattle.std.specs.Prelude.{◌≡◌};
 ghost use Rattle.image_header.specs.Codes.{code_of, name_of};
 
 use thiserror::Error;
 
-/// Why bytes begin with no header that is accepted: the first check that fails.
+/// Why bytes don't begin with an accepted header: the first check that fails.
 #[derive(Clone, Copy, Debug, PartialEq, Eq, Error)]
 pub enum HeaderError {
-    /// There are fewer than 32 bytes.
+    /// The input has fewer than 32 bytes.
     #[error("fewer than 32 bytes")]
     Short,
     /// The magic number isn't 0x96f3b83d.
     #[error("another magic number than 0x96f3b83d")]
     BadMagic,
-    /// The header's length is below 32.
+    /// The header's length is less than 32.
     #[error("a header length below 32")]
     BadHeaderSize,
     /// A flag is set that isn't accepted.
@@ -23,7 +23,7 @@ pub enum HeaderError {
 }
 
 impl HeaderError {
-    /// The number of the kind, 1 to 4 in the order of the checks.
+    /// The number of this kind: 1 to 4, in the order of the checks.
     pub fn code(self) -> u8
         ensures { result ≡ code_of self }
     {
@@ -35,7 +35,7 @@ impl HeaderError {
         }
     }
 
-    /// The name of the kind, as a program prints it.
+    /// The name of this kind, as programs print it.
     pub fn name(self) -> &'static str
         ensures { result.now ≡ name_of self }
     {

@@ -1,4 +1,4 @@
-//! Reading a header.
+//! Reads a header.
 
 ghost use Rattle.std.specs.Prelude.{◌≡◌, ◌≤◌, Err, IfErr, IfOk, Ok, length};
 ghost use Rattle.byteorder.specs.Endian.{little_number};
@@ -11,7 +11,8 @@ use crate::header::{ACCEPTED_FLAGS, HEADER_LENGTH, Header, MAGIC};
 use byteorder::{ByteOrder, LittleEndian};
 use version_order::Version;
 
-/// The header in the first 32 bytes, whatever the magic number before its fields.
+/// Reads the fields of the header in the first 32 bytes. It doesn't check the magic number before
+/// them.
 fn fields(bytes: &[u8]) -> Header
     requires { 32 ≤ length bytes.now }
     ensures { little_number 4 bytes.now ≡ header_magic → BeginsWith bytes.now result }
@@ -33,19 +34,20 @@ fn fields(bytes: &[u8]) -> Header
 }
 
 impl Header {
-    /// Reads the header that bytes begin with; what follows its 32 bytes isn't looked at.
+    /// Reads the header at the beginning of the bytes. It ignores the bytes after the first 32.
     ///
-    /// The checks are made in the order of [`HeaderError`]'s kinds, and the first that fails is the
-    /// error.
+    /// # Errors
+    /// The checks are made in the order of [`HeaderError`]'s kinds. The error is the first check
+    /// that fails.
     pub fn read(bytes: &[u8]) -> Result<Header, HeaderError>
-        // What is read is accepted, and the bytes begin with it.
+        // A header that is read is accepted, and the bytes begin with it.
         ensures read { IfOk result (λ header. BeginsWith bytes.now header × IsAccepted header) }
-        // Each header that is accepted is read.
+        // Each accepted header is read.
         ensures only { (header : Header) → BeginsWith bytes.now header → IsAccepted header
             → result ≡ Ok header }
-        // The error is the first check that fails ..
+        // The error is the first check that fails.
         ensures fault { IfErr result (IsHeaderFault bytes.now) }
-        // .. and where one fails first, that is the error.
+        // The first check that fails is the error.
         ensures refused { (fault : HeaderError) → IsHeaderFault bytes.now fault
             → result ≡ Err fault }
     {

@@ -1,11 +1,11 @@
-//! The 32 bytes that an image in MCUboot's format begins with.
+//! Reads and writes the 32-byte header at the beginning of an image in MCUboot's format.
 //!
 //! - Promises: A header is read and written exactly, and a refusal is the first check that fails.
 //! - Main calls: `Header::read`, `Header::write`
 //! - Allocates: no.
-//! - Callers: any crate that reads headers alone; whole images are read by the crate above.
+//! - Callers: any crate that reads only headers; the crate above reads whole images.
 //!
-//! What is written is read back if the header is accepted: its flags are known and its header size
+//! A written header is read back if it is accepted: it has only accepted flags, and its header size
 //! is 32 or more.
 #![tactic(auto)]
 

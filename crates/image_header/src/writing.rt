@@ -1,4 +1,4 @@
-//! Writing a header.
+//! Writes a header.
 
 ghost use Rattle.std.specs.Prelude.{◌≡◌, ◌≤◌, ◌++◌, drop, length};
 ghost use Rattle.byteorder.specs.Endian.{little_bytes};
@@ -7,7 +7,7 @@ ghost use Rattle.image_header.specs.Header.{header_bytes};
 use crate::header::{HEADER_LENGTH, Header, MAGIC};
 use byteorder::{ByteOrder, LittleEndian};
 
-/// Writes a number of one byte, as [`ByteOrder::write_u16`] writes one of two.
+/// Writes a number of one byte, as [`ByteOrder::write_u16`] writes one of two bytes.
 fn write_u8(buffer: &mut [u8], n: u8)
     requires { 1 ≤ length buffer.old }
     ensures { buffer.new ≡ little_bytes 1 n ++ drop 1 buffer.old }
@@ -16,9 +16,8 @@ fn write_u8(buffer: &mut [u8], n: u8)
 }
 
 impl Header {
-    /// The 32 bytes of a header: the magic number, and its fields in their order.
-    ///
-    /// A header that [`Header::read`] refuses is written too.
+    /// Returns the 32 bytes of a header: the magic number, and the fields in their order. It also
+    /// writes headers that [`Header::read`] refuses.
     pub fn write(&self) -> [u8; 32]
         ensures { result ≡ header_bytes self.now }
     {

@@ -1,4 +1,4 @@
--- Field by field, the bytes are the header's.
+-- Each field of the bytes is the header's field.
 use Rattle.std.proofs.Common.{◌≡◌, ◌++◌, drop, ◌∙◌, slice_index, arith, rules}
 use Rattle.common.specs.Bytes.{IsBytes}
 use Rattle.image_header.specs.declared.header.Header.{Header}

@@ -1,4 +1,4 @@
--- Each field is written over all of its part, so the parts in a row are the header's bytes.
+-- Each field is written over its complete part, so the concatenated parts are the header's bytes.
 use Rattle.std.proofs.Common.{◌≡◌}
 use Rattle.byteorder.specs.Endian.{little_bytes}
 use Rattle.image_header.specs.Header.{header_magic}
