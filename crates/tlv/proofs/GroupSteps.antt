@@ -1,4 +1,4 @@
--- Groups as their entries are counted and written, one by one.
+-- The entries of groups, counted and written one by one.
 use Rattle.std.proofs.Common.{◌≡◌, ℕ, ◌+◌, ◌*◌, ◌<◌, List, [], ◌++◌, length, get_or, map, take, refl, sym, ap, ◌∙◌, length-append}
 use Rattle.std.proofs.lemmas.List.Folds.{flat_map-map}
 use Rattle.std.specs.Borrow.{Bor}
@@ -11,7 +11,7 @@ use Rattle.tlv.specs.Making.{HasAlternatives, group_entry, group_of, groups_of}
 use Rattle.tlv.proofs.MakingSteps.{mapped_more, pieces_more}
 use Rattle.tlv.proofs.ProtectedLaws.{groups_size, length-group_entry}
 
--- A group's entry, of its alternatives.
+-- The entry of a group, by its alternatives.
 abbrev pub group_piece : Bor (List Dependency) → List ℕ
 group_piece alternatives = entry_bytes (group_entry (group_of alternatives))
 
@@ -21,7 +21,7 @@ group_pieces groups =
     flat_map-map entry_bytes group_entry (groups_of groups)
     ∙ flat_map-map (λ group. entry_bytes (group_entry group)) group_of groups
 
--- One group's entry more.
+-- One more group's entry is written.
 pub groups_more : (groups : List (Bor (List Dependency))) (i : ℕ) (other : Bor (List Dependency))
     (start was now : List ℕ) → i < length groups
     → was ≡ start ++ entries_bytes (map group_entry (groups_of (take i groups)))
@@ -32,7 +32,7 @@ groups_more groups i other start was now within e f =
     (e ∙ ap (λ (bytes : List ℕ). start ++ bytes) (group_pieces (take i groups))) f
     ∙ ap (λ (bytes : List ℕ). start ++ bytes) (sym (group_pieces (take (i + 1) groups)))
 
--- The bytes that it takes.
+-- One more group's entry adds its length.
 pub groups_size-more : (groups : List (Bor (List Dependency))) (i : ℕ) (other : Bor (List Dependency))
     → i < length groups
     → groups_size (groups_of (take (i + 1) groups)) ≡ groups_size (groups_of (take i groups)) +
@@ -43,14 +43,14 @@ groups_size-more groups i other within =
     ap length (sym (groups_more groups i other [] was (was ++ piece) within refl refl)) ∙ length-append was piece
     ∙ ap (λ (n : ℕ). length was + n) (length-group_entry (group_of (get_or groups i other)))
 
--- Each group has alternatives where all have.
+-- If all groups have their alternatives, each has.
 pub alternatives_at : (groups : List (Bor (List Dependency))) (i : ℕ) (other : Bor (List Dependency))
     → i < length groups → AllByRecursion HasAlternatives (groups_of groups)
     → HasAlternatives (group_of (get_or groups i other))
 alternatives_at groups i other within each =
     All-from_AllByRecursion-map HasAlternatives group_of groups each i other within
 
--- One group more fits.
+-- One more group fits.
 pub groups_fit_more : (groups : List (Bor (List Dependency))) (i : ℕ) (other : Bor (List Dependency))
     → i < length groups → AllByRecursion HasAlternatives (groups_of groups)
     → AllByRecursion FitsGroup (groups_of (take i groups))

@@ -1,5 +1,4 @@
--- The protected entries that are made: how long they are, that they fit, and which values they
--- hold.
+-- The protected entries of an image that is made: their lengths, that they fit, and their values.
 use Rattle.std.proofs.Common.{◌≡◌, ℕ, ◌+◌, ◌*◌, ◌^◌, ◌<◌, ◌≤◌, Option, None, Some, nat_eq, List, [], ◌∷◌, ◌++◌, length, map, unwrap_or, refl, ap, ◌∙◌, inl, inr, arith, length-append}
 use Rattle.std.proofs.lemmas.Grind.{flat_map-append}
 use Rattle.std.proofs.lemmas.List.{append-nil, map-append}
@@ -20,18 +19,18 @@ entries_for counter dependencies groups = counter_entries counter ++ need_entrie
 
 -- ---- lengths
 
--- The entries of dependencies take sixteen bytes each.
+-- The entry of a dependency has 16 bytes.
 length-dependency_entries : (dependencies : List Dependency)
     → length (entries_bytes (map dependency_entry dependencies)) ≡ 16 * length dependencies
 length-dependency_entries [] = refl
 length-dependency_entries (dependency ∷ dependencies) = omega (arith, length-dependency_entries dependencies)
 
--- The entry of a group takes four bytes, and twelve for each alternative.
+-- The entry of a group has 4 bytes, and 12 for each alternative.
 pub length-group_entry : (group : Group)
     → length (entry_bytes (group_entry group)) ≡ 4 + 12 * length group.alternatives.items
 length-group_entry group = omega (arith, length-alternatives_bytes group.alternatives.items)
 
--- The entries of groups, as many bytes as they take.
+-- The length of the entries of groups.
 abbrev pub groups_size : List Group → ℕ
 groups_size groups = length (entries_bytes (map group_entry groups))
 
@@ -47,7 +46,7 @@ groups_size-le (group ∷ groups) each =
       groups_size-le groups each.1,
     )
 
--- The length of the counter's entry, where there is one.
+-- The length of the counter's entry, if there is one.
 abbrev counter_size : Option ℕ → ℕ
 counter_size counter = length (entries_bytes (counter_entries counter))
 
@@ -55,7 +54,7 @@ counter_size-le : (counter : Option ℕ) → counter_size counter ≤ 8
 counter_size-le None = omega arith
 counter_size-le (Some counter) = omega arith
 
--- All of them.
+-- The length of the entries of dependencies and groups.
 length-need_entries : (dependencies : List Dependency) (groups : List Group)
     → length (entries_bytes (need_entries dependencies groups)) ≡ 16 * length dependencies + groups_size groups
 length-need_entries dependencies groups =
@@ -69,7 +68,7 @@ pub length-entries : (counter : Option ℕ) (dependencies : List Dependency) (gr
 length-entries None dependencies groups = omega (arith, length-need_entries dependencies groups)
 length-entries (Some counter) dependencies groups = omega (arith, length-need_entries dependencies groups)
 
--- The area has its head where there is an entry, and is absent where there is none.
+-- The area has its head if it has an entry, and is absent otherwise.
 pub area_size_of-some : (entries : List Entry) → 0 < area_size_of entries + length (entries_bytes entries)
     → area_size_of entries ≡ 4 + length (entries_bytes entries)
 area_size_of-some [] some = absurd (omega arith)
@@ -83,7 +82,7 @@ area_size_of-within : (entries : List Entry) → area_size_of entries ≤ 4 + le
 area_size_of-within [] = omega arith
 area_size_of-within (entry ∷ entries) = omega arith
 
--- The protected area takes at most 476 bytes.
+-- The protected area has at most 476 bytes.
 pub area_size_of-le : (counter : Option ℕ) (dependencies : List Dependency) (groups : List Group)
     → length dependencies ≤ 16 → AreGroups groups
     → area_size_of (counter_entries counter ++ need_entries dependencies groups) ≤ 476
@@ -100,14 +99,14 @@ area_size_of-le counter dependencies groups few are =
 
 -- ---- values
 
--- The values of two lists of entries, one after the other.
+-- The values of two concatenated lists of entries.
 values_of-append : (kind : ℕ) (xs ys : List Entry) → values_of kind (xs ++ ys) ≡ values_of kind xs ++ values_of kind ys
 values_of-append kind xs ys =
     let own = filter (λ (entry : Entry). nat_eq entry.kind kind) in
     ap (map (λ (entry : Entry). entry.value)) (filter-append (λ (entry : Entry). nat_eq entry.kind kind) xs ys)
     ∙ map-append (λ (entry : Entry). entry.value) (own xs) (own ys)
 
--- Entries that are all of a type give the values of all ..
+-- Entries that all have a type give the values of all.
 values_of-own : {X : Type 0} (kind : ℕ) (entry_of : X → Entry) → ((x : X) → (entry_of x).kind ≡ kind) → (xs : List X)
     → values_of kind (map entry_of xs) ≡ map (λ x. (entry_of x).value) xs
 values_of-own kind entry_of same [] = refl
@@ -115,14 +114,14 @@ values_of-own kind entry_of same (x ∷ xs) =
     values_of-same kind (entry_of x) (map entry_of xs) (same x)
     ∙ ap (λ (values : List (List ℕ)). (entry_of x).value ∷ values) (values_of-own kind entry_of same xs)
 
--- .. and those that are all of another give none.
+-- Entries that all have another type give none.
 values_of-others : {X : Type 0} (kind : ℕ) (entry_of : X → Entry) → ((x : X) → (entry_of x).kind ≡ kind → ⊥)
     → (xs : List X) → values_of kind (map entry_of xs) ≡ []
 values_of-others kind entry_of other [] = refl
 values_of-others kind entry_of other (x ∷ xs) =
     values_of-other kind (entry_of x) (map entry_of xs) (other x) ∙ values_of-others kind entry_of other xs
 
--- The values of the entries behind the counter's, type by type.
+-- The values of the entries after the counter's, type by type.
 need_values : (kind : ℕ) (dependencies : List Dependency) (groups : List Group) (front back : List (List ℕ))
     → values_of kind (map dependency_entry dependencies) ≡ front → values_of kind (map group_entry groups) ≡ back
     → values_of kind (need_entries dependencies groups) ≡ front ++ back
@@ -153,7 +152,7 @@ no_counter dependencies groups =
     (values_of-others counter_kind dependency_entry (λ _ same. omega (arith, same)) dependencies)
     (values_of-others counter_kind group_entry (λ _ same. omega (arith, same)) groups)
 
--- The counter's entry is of another type.
+-- The counter's entry has another type.
 pub values_of-dependency_kind : (counter : Option ℕ) (dependencies : List Dependency) (groups : List Group)
     → values_of dependency_kind (counter_entries counter ++ need_entries dependencies groups) ≡ map dependency_bytes
     dependencies
@@ -165,7 +164,7 @@ pub values_of-group_kind : (counter : Option ℕ) (dependencies : List Dependenc
 values_of-group_kind None dependencies groups = group_values dependencies groups
 values_of-group_kind (Some counter) dependencies groups = group_values dependencies groups
 
--- The counter is the one that was asked for, or 0 where none was.
+-- The counter is the given one, or 0 if none is given.
 pub spells_counter : (counter : Option ℕ) (dependencies : List Dependency) (groups : List Group)
     → unwrap_or counter 0 < 2 ^ 32
     → SpellCounter (values_of counter_kind (counter_entries counter ++ need_entries dependencies groups))

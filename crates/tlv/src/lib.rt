@@ -1,10 +1,10 @@
-//! Makes an image from given values, and passes on the calls of `image_reading`.
+//! Makes an image from given values, and re-exports the calls of `image_reading`.
 //!
-//! - Promises: The image is intact and has exactly the given values; otherwise the lowest refusal
-//!   that applies is returned.
+//! - Promises: The image is intact and has exactly the given values; otherwise the first check that
+//!   fails is returned.
 //! - Main calls: `make_image`
 //! - Allocates: to make an image.
-//! - Callers: tools of a host. What a device needs to know of images is in the crate below alone.
+//! - Callers: tools of a host. A device needs only the crate below, which reads images.
 #![tactic(auto)]
 
 mod make;

@@ -1,4 +1,4 @@
-//! The groups of an image that is made: whether it may have them, and writing their entries.
+//! Checks the groups of an image, and writes their entries.
 
 ghost use Rattle.std.specs.Prelude.{◌≡◌, ◌↔◌, ◌≤◌, ◌++◌, IsTrue, OnOk, length, map};
 ghost use Rattle.std.specs.List.{AllByRecursion};
@@ -12,8 +12,8 @@ use image_reading::format::{DEPENDENCY_LENGTH, GROUP_KIND, HEAD_LENGTH};
 use std::alloc::{AllocError, Allocator};
 use version_order::Dependency;
 
-/// Whether an image may have these groups: there aren't too many, and each has one alternative at
-/// least and not too many.
+/// Whether an image may have these groups: at most `MOST_GROUPS`, each with at least one
+/// alternative and at most `MOST_ALTERNATIVES`.
 pub fn are_groups(groups: &[&[Dependency]]) -> bool
     ensures { IsTrue result ↔ AreGroups (groups_of groups.now) }
 {
@@ -41,7 +41,7 @@ pub fn groups_length(groups: &[&[Dependency]]) -> usize
     length
 }
 
-/// Writes the alternatives of a group at the end of the bytes.
+/// Appends the alternatives of a group.
 #[tactic(auto, using(std::proofs::lemmas::List::take_all))]
 fn push_alternatives<A: Allocator>(
     bytes: &mut Vec<u8, A>,
@@ -57,7 +57,7 @@ fn push_alternatives<A: Allocator>(
     Ok(())
 }
 
-/// Writes the entry of a group at the end of the bytes.
+/// Appends the entry of a group.
 fn push_group<A: Allocator>(
     bytes: &mut Vec<u8, A>,
     alternatives: &[Dependency],
@@ -73,7 +73,7 @@ fn push_group<A: Allocator>(
     push_alternatives(bytes, alternatives)
 }
 
-/// Writes the entries of groups at the end of the bytes.
+/// Appends the entries of groups.
 #[tactic(auto, using(std::proofs::lemmas::List::take_all))]
 pub fn push_groups<A: Allocator>(
     bytes: &mut Vec<u8, A>,
