@@ -1,4 +1,5 @@
--- Laws of the texts of versions: what is read is spelled so, and what is spelled so is read.
+-- Laws about the texts of versions: a text is read as a version exactly if it is that version's
+-- text.
 use Rattle.std.proofs.Common.{◌≡◌, ℕ, ◌^◌, ◌<◌, ◌≤◌, ◌⊎◌, ◌++◌, List, ◌∷◌, Option, Some, None, refl, sym, ap, ◌∙◌, inl, inr, arith}
 use Rattle.std.specs.Prelude.{decimal}
 use Rattle.std.proofs.lemmas.Option.{option_and_then_some, none-some, same_Some}
@@ -8,7 +9,7 @@ use Rattle.version_order.proofs.OrderLaws.{version_from-parts}
 use Rattle.version_order.specs.VersionText.{FitsFields, IsVersionText, version_from, part_at, build_at, revision_at, minor_at, version_of}
 use Rattle.version_order.specs.declared.version.Version.{Version}
 
--- Reading a number, with its separator and what follows, or alone.
+-- A number is read with its separator and the text after it, or alone.
 part_at-more : (limit separator n : ℕ) (next : ℕ → Option (List ℕ) → Option Version) (after : List ℕ)
     → n < limit → n < 2 ^ 32 → separator < 48
     → part_at limit separator next (decimal n ++ separator ∷ after) ≡ next n (Some after)
@@ -56,7 +57,7 @@ build_at-last : (major minor revision build : ℕ) → build < 2 ^ 32
     → build_at major minor revision (Some (decimal build)) ≡ Some (version_from major minor revision build)
 build_at-last major minor revision build fits = rw (number_below-decimal (2 ^ 32) build fits fits) refl
 
--- the answer where a version is read
+-- The result if a version is read.
 abbrev answer : Version → Option Version
 answer version = Some version
 
@@ -83,12 +84,12 @@ version_of-text text version (fits, inr (inr (inr (no_minor, no_revision, no_bui
     rw short (version_of-last version.major fits.major
     ∙ ap answer (version_from-parts version.major 0 0 0 version refl (sym no_minor) (sym no_revision) (sym no_build)))
 
--- a number, with its separator and what follows, or alone
+-- A number, with its separator and the text after it, or alone.
 abbrev part_text : ℕ → ℕ → Option (List ℕ) → List ℕ
 part_text separator n None = decimal n
 part_text separator n (Some after) = decimal n ++ separator ∷ after
 
--- a text that is cut is what was before the separator, the separator and what follows
+-- A text that is split is the part before the separator, the separator and the part after it.
 part_text-cut : (separator : ℕ) (text : List ℕ) (n : ℕ) → (cut separator text).0 ≡ decimal n
     → text ≡ part_text separator n (cut separator text).1
 part_text-cut separator text n front =
@@ -97,8 +98,8 @@ part_text-cut separator text n front =
       | Some after ↦ λ found. rw front at (cut-parts separator text after found)
     ] refl
 
--- what was read of a part: the number, what follows its separator, and the version that was made of
--- both
+-- A part that was read: the number, the text after its separator, and the version that was made
+-- from both.
 record SpellsPart (limit separator : ℕ) (next : ℕ → Option (List ℕ) → Option Version) (text : List ℕ)
     (version : Version) : Type 0 where
   number : ℕ
@@ -123,7 +124,7 @@ part_at-spelled limit separator next text version read =
       made = made;
     })
 
--- what reading found, part by part: the numbers before, and the text of those that follow
+-- A version that was read part by part: the numbers before, and the text of those that follow.
 record SpellsBuild (major minor revision : ℕ) (rest : Option (List ℕ)) (version : Version) : Type 0 where
   same_major : version.major ≡ major
   same_minor : version.minor ≡ minor
@@ -131,7 +132,7 @@ record SpellsBuild (major minor revision : ℕ) (rest : Option (List ℕ)) (vers
   build_fits : version.build < 2 ^ 32
   spelled : (rest ≡ Some (decimal version.build)) ⊎ ((version.build ≡ 0) × (rest ≡ None))
 
--- the parts of a version that was made of them
+-- The parts of a version that was made from them.
 SpellsBuild-made : (major minor revision build : ℕ) (rest : Option (List ℕ)) (version : Version)
     → Some (version_from major minor revision build) ≡ Some version → build < 2 ^ 32
     → (rest ≡ Some (decimal build)) ⊎ ((build ≡ 0) × (rest ≡ None))
@@ -243,7 +244,7 @@ minor_at-spelled major (Some text) version read =
       ];
     }
 
--- What is read of a text is the version that it spells.
+-- The version that is read from a text is the text's version.
 pub version_of-spelled : (text : List ℕ) (version : Version) → version_of text ≡ Some version
     → IsVersionText text version
 unfolding version_of
@@ -270,14 +271,14 @@ version_of-spelled text version read =
       ],
     )
 
--- a number and a separator, before a text that lacks the byte
+-- A number and a separator, followed by a text that lacks the byte, lack the byte.
 LacksByte-part : (byte n separator : ℕ) (after : List ℕ) → byte < 43 → n < 2 ^ 32 → 43 ≤ separator
     → LacksByte byte after → LacksByte byte (decimal n ++ separator ∷ after)
 LacksByte-part byte n separator after low fits high lacks =
     let digits = LacksByte-decimal byte n (omega arith) (omega arith) in
     LacksByte-append byte (decimal n) (separator ∷ after) digits (λ e. omega arith, lacks)
 
--- The text of a version has digits, full stops and a plus sign alone, and no byte below 43.
+-- The text of a version has only digits, full stops and a plus sign, and so no byte below 43.
 pub LacksByte-version : (byte : ℕ) (text : List ℕ) (version : Version) → byte < 43 → IsVersionText text version
     → LacksByte byte text
 LacksByte-version byte text version low (fits, spelled) =

@@ -1,4 +1,4 @@
-//! What one image asks of any one of several others.
+//! A group: several dependencies of which an image requires one.
 
 ghost use Rattle.std.specs.Prelude.{◌≡◌};
 
@@ -6,7 +6,7 @@ use crate::dependency::Dependency;
 use arrayvec::ArrayVec;
 use common::limits::MOST_ALTERNATIVES;
 
-/// A group of an image: one of several dependencies has to be met, whichever it is.
+/// A group of an image: at least one of several dependencies must be met.
 ///
 /// In an image it is an entry of type 0xA0 (bootswap's own, in the range that MCUboot's design
 /// document, "Image format", leaves to vendors).
@@ -18,7 +18,7 @@ pub struct Group {
 }
 
 impl Group {
-    /// The same group once more. Unlike `clone` it can't fail: nothing is allocated.
+    /// Returns a copy of the group. Unlike `clone` it can't fail, since it allocates nothing.
     pub fn copied(&self) -> Group
         ensures { result ≡ self.now }
     {

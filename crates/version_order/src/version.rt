@@ -1,4 +1,4 @@
-//! A version of an image, and the order of versions.
+//! The version of an image, and the order of versions.
 
 ghost use Rattle.std.proofs.Common.{rules};
 ghost use Rattle.std.specs.Cmp.{partial_order_from_own_ties};
@@ -11,8 +11,8 @@ use std::cmp::Ordering;
 /// The version of an image, `major.minor.revision+build` (`struct image_version` of MCUboot's image
 /// header: MCUboot design document, "Image format").
 ///
-/// Versions are ordered by these four numbers, in this order. MCUboot's dependency check leaves the
-/// build number out unless `MCUBOOT_VERSION_CMP_USE_BUILD_NUMBER` is set; here it always counts.
+/// These four numbers order versions, in this order. MCUboot's dependency check ignores the build
+/// number unless `MCUBOOT_VERSION_CMP_USE_BUILD_NUMBER` is set. Here it always counts.
 #[derive(Clone, Copy, Debug, Default, PartialEq, Eq, Hash)]
 pub struct Version {
     /// The major version, 0 to 255 (`iv_major`).

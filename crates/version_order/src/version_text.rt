@@ -1,4 +1,4 @@
-//! The text of a version.
+//! Reads and prints the text of a version.
 
 ghost use Rattle.std.specs.Prelude.{◌≡◌, IfOk, OnErr, Some};
 ghost use Rattle.std.specs.Result.{result_ok};
@@ -10,7 +10,7 @@ use crate::version::Version;
 use common::ascii::{cut, number, number_u8, number_u16};
 use std::fmt;
 
-/// The version that a text spells, read from left to right.
+/// Reads the version of a text from left to right.
 #[tactic(auto, unfolding(crate::specs::VersionText::version_of))]
 fn read(text: &[u8]) -> Option<Version>
     ensures { result ≡ version_of text.now }
@@ -35,12 +35,14 @@ fn read(text: &[u8]) -> Option<Version>
 }
 
 impl Version {
-    /// Reads a version from ASCII text: `major.minor.revision+build`, each part in decimal, without
+    /// Reads a version from ASCII text: `major.minor.revision+build`. Each part is decimal, without
     /// leading zeros and within its field (the form that MCUboot's `imgtool` takes).
     ///
-    /// Parts may be left out from the right, with the separator before them, and are 0 then: `1.2`
-    /// is `1.2.0+0`. Any other text is refused with [`BadVersion`], spaces and the empty text
-    /// included.
+    /// Parts may be left out from the right, with the separator before them. They are then 0: `1.2`
+    /// is `1.2.0+0`.
+    ///
+    /// # Errors
+    /// [`BadVersion`] for any other text, including spaces and the empty text.
     #[tactic(auto, using(crate::proofs::Readings::readings))]
     pub fn from_ascii(text: &[u8]) -> Result<Version, BadVersion>
         ensures value { result_ok result ≡ version_of text.now }
@@ -52,6 +54,9 @@ impl Version {
     }
 
     /// Reads a version from text, as [`Version::from_ascii`] does.
+    ///
+    /// # Errors
+    /// [`BadVersion`], for the same texts.
     pub fn parse(text: &str) -> Result<Version, BadVersion>
         ensures value { result_ok result ≡ version_of text.now }
         ensures spelled { IfOk result (λ version. IsVersionText text.now version) }
