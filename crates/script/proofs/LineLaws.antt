@@ -1,4 +1,4 @@
--- Reading a line finds what its text says, and nothing else.
+-- A text is read as a line exactly if it is the text of that line.
 use Rattle.std.proofs.Common.{◌≡◌, ℕ, ◌%◌, ◌^◌, ◌<◌, ◌≤◌, List, [], ◌∷◌, ◌++◌, length, eqb, Option, Some, None, refl, sym, ap, ◌∙◌, subst, inl, inr, arith}
 use Rattle.std.specs.Prelude.{IfNone, IfSome, codes, decimal, option_and_then, option_map}
 use Rattle.std.specs.Char.{is_ascii_hexdigit}
@@ -19,7 +19,7 @@ use Rattle.script.specs.Said.{PartWords, Said, SaidEvent, SaidTorn, file_of, sai
 use Rattle.script.specs.Said.{Cut, Done, Event, Hex, Keep}
 use Rattle.script.proofs.WordLaws.{name_of-spelled, name_of-text, word_of-spelled, word_of-text}
 
--- ---- what is spelled is read
+-- ---- the text of a line is read as that line
 
 part_of-text : (part : PartWords) → FitsPart (Some part) → part_of (part.from ␣ part.count) ≡ Some part
 unfolding part_of
@@ -90,7 +90,7 @@ piece_of-part image file part (small, named, fits) =
       part_of-text part fits,
     ) refl
 
--- The first word tells which fields follow.
+-- The first word decides which fields follow.
 said_of-cut : (fields : List ℕ) → said_of (codes "cut" ␣ fields) ≡ cut_line_of fields
 unfolding said_of cut
 said_of-cut fields = refl
@@ -105,7 +105,7 @@ said_of-piece : (fields : List ℕ)
 unfolding said_of event_at cut
 said_of-piece fields = refl
 
--- A line that begins with this word is an event of the image that its fields name.
+-- A line that begins with this word is an event of the image that its field names.
 abbrev ReadsImage : List ℕ → Type 0
 ReadsImage word = (fields : List ℕ)
     → said_of (word ␣ fields)
@@ -131,7 +131,7 @@ said_of-reset : said_of (codes "reset") ≡ Some (Event event.Reset)
 unfolding said_of
 said_of-reset = refl
 
--- A piece that fits is read in its spelling.
+-- The text of a piece that fits is read as that piece.
 said_of-piece-line : (image : ℕ) (name : List ℕ) (part : Option PartWords)
     → FitsEvent (event.Piece image (file_of name part))
     → said_of (piece_text image name part) ≡ Some (Event (event.Piece image (file_of name part)))
@@ -141,7 +141,7 @@ said_of-piece-line image name (Some part) fits =
     said_of-piece (decimal image ␣ name ␣ part.from ␣ part.count)
     ∙ ap (option_map (λ happened. Event happened)) (piece_of-part image name part fits)
 
--- A line that fits is read in its spelling.
+-- The text of a line that fits is read as that line.
 said_of-line : (found : Said) → IsLineText (line_text found) found → said_of (line_text found) ≡ Some found
 said_of-line (Cut write torn) ((some, fits, torn_fits), is) =
     said_of-cut (decimal write ␣ torn_text torn) ∙ cut_line_of-text write torn some fits torn_fits
@@ -161,7 +161,7 @@ said_of-line (Event event.Reset) is = said_of-reset
 pub said_of-text : (text : List ℕ) (found : Said) → IsLineText text found → said_of text ≡ Some found
 said_of-text text found (fits, is) = ap said_of is ∙ said_of-line found (fits, refl)
 
--- ---- what is read is spelled so
+-- ---- a line that is read has that text
 
 part_of-spelled : (text : List ℕ) (part : PartWords) → part_of text ≡ Some part
     → FitsPart (Some part) × (text ≡ part.from ␣ part.count)
@@ -231,7 +231,7 @@ cut_line_of-spelled fields found read =
           ((counted, write_found.1, torn_found.0), ap (λ t. codes "cut" ␣ t) whole)
     ])))
 
--- An event that was read in a text.
+-- A text is that of an event, which fits.
 abbrev SaysEvent : List ℕ → SaidEvent → Type 0
 SaysEvent text happened = FitsEvent happened × (text ≡ event_text happened)
 
@@ -313,7 +313,7 @@ line_at-spelled word fields found read =
     let (happened, is_event, made) = option_map-Some _ (event_at word fields) found (rw not_cut at read) in
     subst (λ (s : Said). IsLineText (word ␣ fields) s) made (event_at-spelled word fields happened is_event))
 
--- A text that is read as a line says that line.
+-- A text that is read as a line is the text of that line.
 pub said_of-spelled : (text : List ℕ) (found : Said) → said_of text ≡ Some found → IsLineText text found
 unfolding said_of
 said_of-spelled text found read =
@@ -328,9 +328,9 @@ said_of-spelled text found read =
     option_and_then_some _ (cut 32 text).1 found (rw not_reset at read) (λ fields is_fields read_on.
     rw (cut-parts 32 text fields is_fields) (line_at-spelled (cut 32 text).0 fields found read_on))))
 
--- ---- what the reader promises
+-- ---- laws of the public calls
 
--- A text says one line at most.
+-- A text is that of at most one line.
 pub one_line : (text : List ℕ) (one other : Said) → IsLineText text one → IsLineText text other → one ≡ other
 one_line text one other says_one says_other =
     same_Some one other (sym (said_of-text text one says_one) ∙ said_of-text text other says_other)

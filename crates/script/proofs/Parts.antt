@@ -1,4 +1,4 @@
--- A part of bytes is told by its two words.
+-- Two words determine a part of bytes.
 use Rattle.std.proofs.Common.{◌≡◌, ℕ, ◌+◌, ◌^◌, ◌<◌, ◌≤◌, List, length, Option, Some, None, Bor, sym, ◌∙◌, arith}
 use Rattle.std.specs.Prelude.{IfNone, IsSome, decimal}
 use Rattle.std.proofs.lemmas.Bool.{false≢true}
@@ -6,7 +6,7 @@ use Rattle.std.proofs.lemmas.Fmt.{decimal_injective}
 use Rattle.script.specs.Part.{IsPart}
 use Rattle.script.specs.Said.{PartWords}
 
--- The bytes have a part that words of these numbers name.
+-- If words with these numbers name a part, the bytes have it.
 pub IsPart-within : (words : PartWords) (bytes part : List ℕ) (from count : ℕ) → words.from ≡ decimal from
     → words.count ≡ decimal count → from < 2 ^ 64 → count < 2 ^ 64 → length bytes < 2 ^ 64
     → IsPart words bytes part → from + count ≤ length bytes
@@ -16,7 +16,7 @@ IsPart-within words bytes part from count is_from is_count from_fits count_fits 
     let count_is = decimal_injective count many count_fits (omega arith) (sym is_count ∙ says_many) in
     omega arith
 
--- None is given only where there is no part.
+-- The result is none only if there is no part.
 pub no_part : (words : PartWords) (bytes : List ℕ) (result : Option (Bor (List ℕ)))
     → ((part : List ℕ) → IsPart words bytes part → IsSome result)
     → IfNone result ((part : List ℕ) → IsPart words bytes part → ⊥)

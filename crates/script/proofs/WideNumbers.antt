@@ -1,4 +1,4 @@
--- What `parse` gives of a text as a number of 64 bits is what the text spells.
+-- `parse` of a text without padding returns the number of 64 bits whose decimal text it is.
 use Rattle.std.proofs.Common.{◌≡◌, ◌≢◌, ℕ, ◌^◌, ◌<◌, List, length, get_or, None, Bor, Result, Ok, Err, sym, ap, ◌∙◌, inl, inr, arith}
 use Rattle.std.specs.Prelude.{decimal, IfSome, IfNone}
 use Rattle.std.specs.Result.{result_ok}
@@ -12,11 +12,11 @@ use Rattle.std.proofs.lemmas.Str.Parse.{IsNumeralModel, numerals_by_value, tells
 use Rattle.common.specs.Ascii.{IsPadded}
 use Rattle.common.proofs.Numbers.{Decodes}
 
--- The text is the text of no number of 64 bits.
+-- The text isn't that of a number of 64 bits.
 abbrev pub IsOther : List ℕ → Type 0
 IsOther text = (n : ℕ) → n < 2 ^ 64 → text ≢ decimal n
 
--- No number is printed with a plus sign, or with a zero before anything else.
+-- No number is printed with a plus sign, or with a zero before other digits.
 decimal_begins : (n : ℕ) → n < 2 ^ 64 → IsPadded (decimal n) → ⊥
 decimal_begins n fits padded =
     elim (cases_lt 0 n) [
@@ -33,7 +33,7 @@ decimal_begins n fits padded =
 pub padded_is_other : (text : List ℕ) → IsPadded text → IsOther text
 padded_is_other text padded n fits e = decimal_begins n fits (rw e at padded)
 
--- Nor is any printed in bytes that aren't UTF-8.
+-- Bytes that aren't UTF-8 aren't the text of a number.
 pub undecoded_is_other : (text : List ℕ) (r : Result (Bor (List ℕ)) Utf8Error) → Decodes text r
     → None ≡ result_ok r
     → IsOther text
@@ -44,7 +44,7 @@ undecoded_is_other text (Err e) decodes none = λ n fits same.
 own : IsNumeralModel (AllDigits 10) (digits_value 10)
 own = numerals_by_value (AllDigits 10) tells_digits
 
--- What was parsed is what is printed ..
+-- The decimal text of the parsed number is the text.
 pub parsed_is_printed : {E : Type 0} (text : List ℕ) (r : Result ℕ E) → (IsPadded text → ⊥)
     → ParsesUnsigned 64 10 text r
     → IfSome (result_ok r) (λ n. text ≡ decimal n)
@@ -59,7 +59,7 @@ parsed_is_printed {E} text (Ok n) plain parsed =
     sym printed ∙ ap decimal (sym p.1)
 parsed_is_printed {E} text (Err e) plain parsed = tt
 
--- .. and what wasn't parsed is never printed.
+-- A text that isn't parsed isn't that of a number.
 pub unparsed_is_other : {E : Type 0} (text : List ℕ) (r : Result ℕ E) → (IsPadded text → ⊥)
     → ParsesUnsigned 64 10 text r
     → IfNone (result_ok r) (IsOther text)

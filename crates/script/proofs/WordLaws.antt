@@ -1,4 +1,4 @@
--- Words and names are read exactly where a text is one.
+-- Words and names are read exactly if a text is one.
 use Rattle.std.proofs.Common.{◌≡◌, ℕ, List, [], ◌∷◌, length, cond, eqb, Some, None, Bor, Result, Ok, Err, refl, ap, ◌∙◌, subst, inl, inr, arith}
 use Rattle.std.specs.Option.{option_copied}
 use Rattle.std.specs.Result.{result_ok}
@@ -14,14 +14,14 @@ use Rattle.common.proofs.Options.{cases_option}
 use Rattle.script.specs.LineReading.{name_of, word_of}
 use Rattle.script.specs.LineText.{IsName, IsWord}
 
--- A word is read ..
+-- A text that is a word is read as that word.
 pub word_of-text : (word : List ℕ) → IsWord word → word_of word ≡ Some word
 unfolding word_of
 word_of-text [] is = absurd (is.0 refl)
 word_of-text (b ∷ bs) is =
     rw (cut-missing 32 (b ∷ bs) is.1, ne_eqb (length (b ∷ bs)) 0 (λ e. omega arith)) refl
 
--- .. and what is read is the text, a word.
+-- A word that is read is the text.
 pub word_of-spelled : (text word : List ℕ) → word_of text ≡ Some word → IsWord word × (text ≡ word)
 unfolding word_of
 word_of-spelled text word read =
@@ -40,7 +40,7 @@ word_of-spelled text word read =
       | inr more ↦ absurd (none-some word (rw more.1 at read))
     ]
 
--- The same of names.
+-- A text that is a name is read as that name.
 pub name_of-text : (name : List ℕ) → IsName name → name_of name ≡ Some name
 unfolding name_of
 name_of-text name is = rw (word_of-text name is.0, is_utf8-from_IsUtf8 name is.1) refl
@@ -54,7 +54,7 @@ name_of-spelled text name read =
     let named : IsName word = (spelled.0, IsUtf8-from_is_utf8 word found.0) in
     (subst IsName found.1 named, spelled.1 ∙ found.1))
 
--- A text is decoded exactly where it is UTF-8.
+-- A text is decoded exactly if it is UTF-8.
 pub decoded_text : (text : List ℕ) (r : Result (Bor (List ℕ)) Utf8Error) → Decodes text r
     → option_copied (result_ok r) ≡ cond (is_utf8 text) (Some text) None
 decoded_text text (Ok x) decodes = rw (decodes.0, is_utf8-from_IsUtf8 text decodes.1) refl

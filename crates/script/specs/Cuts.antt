@@ -1,11 +1,12 @@
--- What a cut leaves, as a script says it and as a flash in memory is armed with it.
+-- What an interrupted write leaves, as a script says it and as a flash in memory takes it.
 use Rattle.std.specs.Prelude.{◌≡◌, Ok}
 use Rattle.flash_model.specs.declared.torn.Torn.{Torn}
 use Rattle.flash_model.specs.declared.torn.Torn.TheVariants as torn
 use Rattle.hex.specs.Hex.{decode_of}
 use Rattle.script.specs.Said.{SaidTorn, Done, Hex, Keep}
 
--- A flash armed with this leaves what the script says: the bytes are what the digits decode to.
+-- A flash that is armed with this leaves what the script says: the bytes are those that the digits
+-- encode.
 abbrev pub Leaves : SaidTorn → Torn → Type 0
 Leaves Keep torn.Keep = Unit {0}
 Leaves Keep torn.Done = ⊥

@@ -1,6 +1,6 @@
--- Reading a line from left to right, step by step: words are cut at spaces (32), the first word
+-- Reading a line from left to right, step by step. Words are split at spaces (32), the first word
 -- names the kind of the line, and the last field is the rest of the line. The reader follows these
--- steps. What they mean is in `LineText`.
+-- steps. `LineText` defines what they mean.
 use Rattle.std.specs.Prelude.{ℕ, ◌%◌, ◌^◌, ◌==◌, ◌&&◌, ◌||◌, List, length, Option, Some, None, codes, is_some, option_and_then, option_map, if◌then◌else◌}
 use Rattle.std.specs.Char.{is_ascii_hexdigit}
 use Rattle.std.specs.List.{list_all}
@@ -14,13 +14,13 @@ infixl 10 ◌>>=◌
 abbrev pub ◌>>=◌ : {A B : Type 0} → Option A → (A → Option B) → Option B
 o >>= f = option_and_then f o
 
--- The word that a text is: at least one byte, and no space.
+-- A text as a word: at least one byte, and no space.
 unfoldable pub word_of : List ℕ → Option (List ℕ)
 word_of text =
     let words = cut 32 text in
     if is_some words.1 || length words.0 == 0 then None else Some words.0
 
--- The name of a file that a text is: a word in UTF-8.
+-- A text as the name of a file: a word in UTF-8.
 unfoldable pub name_of : List ℕ → Option (List ℕ)
 name_of text = do
   word ← word_of text
@@ -51,7 +51,7 @@ torn_of word =
       digits ← parts.1
       if bytes_eq parts.0 (codes "hex") then hex_of digits else None))
 
--- What follows `cut`: the number of a write, and what it leaves.
+-- The fields after `cut`: the number of a write, and what it leaves.
 unfoldable pub cut_line_of : List ℕ → Option Said
 cut_line_of fields = do
   let words = cut 32 fields
@@ -60,17 +60,18 @@ cut_line_of fields = do
   torn ← torn_of rest
   if write == 0 then None else Some (Cut write torn)
 
--- What follows `accept`: the name of a file, which comes complete.
+-- The field after `accept`: the name of a file, which is taken complete.
 unfoldable pub accept_of : List ℕ → Option SaidEvent
 accept_of fields = option_map (λ name. event.Accept (file_of name None)) (name_of fields)
 
--- A piece from the file of this name. The file comes complete if nothing follows the name.
+-- A piece from the file with this name. If nothing follows the name, the piece is the complete
+-- file.
 abbrev pub piece_with : ℕ → List ℕ → Option (List ℕ) → Option SaidEvent
 piece_with image name None = Some (event.Piece image (file_of name None))
 piece_with image name (Some rest) =
     option_and_then (λ part. Some (event.Piece image (file_of name (Some part)))) (part_of rest)
 
--- What follows `piece`: the number of an image, the name of a file, and which part of it.
+-- The fields after `piece`: the number of an image, the name of a file, and the part of it.
 unfoldable pub piece_of : List ℕ → Option SaidEvent
 piece_of fields = do
   let words = cut 32 fields
@@ -100,7 +101,7 @@ line_at word fields =
     if bytes_eq word (codes "cut") then cut_line_of fields
     else option_map (λ happened. Event happened) (event_at word fields)
 
--- The line that a text says.
+-- The line of a text.
 unfoldable pub said_of : List ℕ → Option Said
 said_of text =
     if bytes_eq text (codes "boot") then Some (Event event.Boot)

@@ -1,4 +1,4 @@
--- How a line of a script is spelled.
+-- The text of each line of a script.
 use Rattle.std.specs.Prelude.{◌≡◌, ◌≢◌, ℕ, ◌%◌, ◌^◌, ◌<◌, ◌≤◌, List, [], ◌++◌, length, Option, Some, None, IsUtf8, codes, decimal}
 use Rattle.std.specs.Char.{is_ascii_hexdigit}
 use Rattle.std.specs.List.{AllPass}
@@ -16,7 +16,7 @@ IsWord word = (word ≢ []) × LacksByte 32 word
 abbrev pub IsName : List ℕ → Type 0
 IsName name = IsWord name × IsUtf8 name
 
--- The digits of some bytes, two for each, of either case.
+-- The digits of at least one byte, two for each, in upper or lower case.
 abbrev pub AreDigits : List ℕ → Type 0
 AreDigits digits = (digits ≢ []) × (length digits % 2 ≡ 0) × AllPass is_ascii_hexdigit digits
 
@@ -45,8 +45,8 @@ abbrev pub line_text : Said → List ℕ
 line_text (Cut write torn) = codes "cut" ␣ decimal write ␣ torn_text torn
 line_text (Event happened) = event_text happened
 
--- What is said fits: the number of a write is at least 1 and has 32 bits, the number of an image has
--- 8, words are words, and the file of a manifest comes complete.
+-- The fields of a line fit. The number of a write is at least 1 and has 32 bits. The number of an
+-- image has 8 bits. Words are words, and a manifest is a complete file.
 abbrev pub FitsTorn : SaidTorn → Type 0
 FitsTorn Keep = Unit {0}
 FitsTorn Done = Unit {0}
@@ -69,6 +69,6 @@ abbrev pub FitsLine : Said → Type 0
 FitsLine (Cut write torn) = (1 ≤ write) × (write < 2 ^ 32) × FitsTorn torn
 FitsLine (Event happened) = FitsEvent happened
 
--- A text says a line.
+-- A text is that of a line.
 abbrev pub IsLineText : List ℕ → Said → Type 0
 IsLineText text said = FitsLine said × (text ≡ line_text said)

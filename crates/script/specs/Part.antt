@@ -3,8 +3,8 @@ use Rattle.std.specs.Prelude.{◌≡◌, ℕ, ◌+◌, ◌≤◌, List, length, 
 use Rattle.script.specs.Said.{PartWords}
 
 -- The words are decimal numbers without leading zeros, and this is the part that they name: COUNT
--- bytes from the byte of number FROM on, the first byte having number 0. The file has that part, so
--- both numbers are below 2 ^ 64.
+-- bytes from byte number FROM on. The first byte has number 0. The file has that part, so both
+-- numbers are below 2 ^ 64.
 abbrev pub IsPart : PartWords → List ℕ → List ℕ → Type 0
 IsPart words bytes part =
     (from : ℕ) × (count : ℕ) × (words.from ≡ decimal from) × (words.count ≡ decimal count)

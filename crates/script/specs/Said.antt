@@ -1,4 +1,4 @@
--- What a line of a script says, with the bytes of its words instead of references to them.
+-- A line of a script, with the bytes of its words instead of references to them.
 use Rattle.std.specs.Prelude.{ℕ, List, Option, option_map}
 use Rattle.common.specs.declared.event.Event as events
 use Rattle.common.specs.Event.{event_map}
@@ -9,7 +9,7 @@ use Rattle.script.specs.declared.line.TornText.{TornText}
 use Rattle.script.specs.declared.line.TornText.TheVariants as torn
 use Rattle.script.specs.declared.part.PartText.{PartText}
 
--- What a cut write leaves.
+-- What an interrupted write leaves.
 pub data SaidTorn : Type 0 where
   Keep : SaidTorn
   Done : SaidTorn
@@ -20,12 +20,12 @@ pub record PartWords : Type 0 where
   pub from : List ℕ
   pub count : List ℕ
 
--- What a line names of a file: its name, and the part of it, `None` for all.
+-- The file of a line: its name, and the part of it, or `None` for the complete file.
 pub record SaidFile : Type 0 where
   pub name : List ℕ
   pub part : Option PartWords
 
--- A file of this name, of which this part comes.
+-- The file with this name, and this part of it.
 abbrev pub file_of : List ℕ → Option PartWords → SaidFile
 file_of name part = record { name = name; part = part }
 
@@ -33,7 +33,7 @@ file_of name part = record { name = name; part = part }
 abbrev pub SaidEvent : Type 0
 SaidEvent = events.Event SaidFile
 
--- What a line says.
+-- A line.
 pub data Said : Type 0 where
   Cut : ℕ → SaidTorn → Said
   Event : SaidEvent → Said
@@ -49,7 +49,7 @@ part_words part = record { from = part.from.now; count = part.count.now }
 abbrev pub said_file : FileText → SaidFile
 said_file file = file_of file.name.now (option_map part_words file.part)
 
--- What a line that was read says.
+-- The line that was read.
 abbrev pub said : Line → Said
 said (line.Cut write torn) = Cut write (said_torn torn)
 said (line.Event event) = Event (event_map said_file event)

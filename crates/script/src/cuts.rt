@@ -1,4 +1,4 @@
-//! What a cut write leaves, as a flash in memory takes it.
+//! Converts what a script says of a power cut to what a flash in memory takes.
 
 ghost use Rattle.std.specs.Prelude.{IfOk};
 ghost use Rattle.script.specs.Cuts.{Leaves};
@@ -9,12 +9,12 @@ use flash_model::Torn;
 use std::alloc::{AllocError, Global};
 
 impl<'a> TornText<'a> {
-    /// What the write leaves, as [`flash_model::MemFlash::arm`] takes it. Digits are decoded to the
-    /// bytes that they spell.
+    /// What the interrupted write leaves, as [`flash_model::MemFlash::arm`] takes it. Digits are
+    /// decoded to bytes.
     ///
     /// # Errors
-    /// `AllocError` if memory for the bytes is refused, or if the digits of `Hex` spell no bytes,
-    /// which [`line_of`](crate::line_of) never returns.
+    /// `AllocError` if memory for the bytes is refused, or if the digits of `Hex` aren't those of
+    /// bytes, which [`line_of`](crate::line_of) never returns.
     pub fn torn(self, alloc: Global) -> Result<Torn, AllocError>
         ensures { IfOk result (λ torn. Leaves (said_torn self.entry) torn) }
     {

@@ -1,10 +1,10 @@
-//! A law of lines: what is true of each text.
+//! A law about lines that holds for each text.
 
 ghost use Rattle.std.specs.Prelude.{◌≡◌, ℕ, List};
 ghost use Rattle.script.specs.LineText.{IsLineText};
 ghost use Rattle.script.specs.Said.{Said};
 
-/// A text says one line at most.
+/// A text is that of at most one line.
 ///
 /// The function does nothing: its contract is the theorem.
 pub fn a_text_says_one_line()

@@ -1,15 +1,15 @@
-//! Scripts of a run: what each line says.
+//! Reads the lines of a script, which describes a run of a device.
 //!
-//! - Promises: Each line of a script is read exactly. Lines are accepted only in order: cuts whose
-//!   numbers rise, and then events. A part of a file is given exactly if the file has it, and a cut
-//!   leaves what its digits say.
+//! - Promises: Each line of a script is read exactly. Lines are accepted only in order: cuts with
+//!   ascending numbers, and then events. A part of a file is returned exactly if the file has it,
+//!   and a cut leaves what its digits say.
 //! - Main calls: `line_of`, `PartText::of`, `LineOrder`, `TornText::torn`
 //! - Allocates: only the bytes that a cut leaves.
 //! - Callers: any program that reads scripts.
 //!
-//! A script says which writes of the flash are cut, what those cuts leave, and then which events
-//! come to the device. It names files and doesn't hold them: a caller reads them too, and asks here
-//! for the part that a line names.
+//! A script lists which writes of the flash a power cut interrupts and what each leaves, and then
+//! the events of the device. It names files and doesn't contain them: a caller reads the files, and
+//! gets the part that a line names from this crate.
 #![tactic(auto)]
 
 mod cuts;

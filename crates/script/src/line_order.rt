@@ -6,7 +6,7 @@ ghost use Rattle.script.specs.Said.{Said, said};
 
 use crate::line::Line;
 
-/// Which lines can follow those that were read. Cuts come first, by rising numbers, and then events.
+/// The order of a script's lines so far. Cuts come first, with ascending numbers, and then events.
 #[derive(Drop)]
 pub struct LineOrder {
     // The number of the last cut, 0 before the first.
@@ -25,8 +25,8 @@ impl LineOrder {
         }
     }
 
-    /// Whether a line of [`line_of`](crate::line_of) can follow those that were read. If so, it counts
-    /// as read.
+    /// Whether a line of [`line_of`](crate::line_of) can follow the lines that were read. If so, it
+    /// counts as read.
     pub fn takes(&mut self, line: &Line<'_>) -> bool
         ensures { MatchBool result
             ((lines : List Said)

@@ -15,7 +15,7 @@ use crate::words::name;
 use common::ascii::{cut, number, number_u8};
 use common::event::Event;
 
-// The words that lines begin with, and the words for what a cut leaves.
+// The words at the beginning of lines, and the words for what a cut leaves.
 const CUT: &[u8] = b"cut";
 
 const KEEP: &[u8] = b"keep";
@@ -38,10 +38,10 @@ const BOOT: &[u8] = b"boot";
 
 const RESET: &[u8] = b"reset";
 
-/// What a line of a script says. The text has no line feed.
+/// Reads a line of a script. The text has no line feed.
 ///
-/// `None` for a bad line: a text that spells no valid line. [`LineOrder`](crate::LineOrder) checks
-/// whether the line can follow the lines before it.
+/// Returns `None` for a bad line: a text that isn't the text of a valid line.
+/// [`LineOrder`](crate::LineOrder) checks whether the line can follow the lines before it.
 pub fn line_of(line: &[u8]) -> Option<Line<'_>>
     ensures says { IfSome result (λ found. IsLineText line.now (said found)) }
     ensures other { IfNone result ((found : Said) → IsLineText line.now found → ⊥) }
@@ -49,7 +49,7 @@ pub fn line_of(line: &[u8]) -> Option<Line<'_>>
     read_line(line)
 }
 
-// The line that a text says.
+// Reads the line of a text.
 #[tactic(auto, unfolding(crate::specs::LineReading::said_of))]
 fn read_line(line: &[u8]) -> Option<Line<'_>>
     ensures { option_map said result ≡ said_of line.now }
@@ -69,7 +69,7 @@ fn read_line(line: &[u8]) -> Option<Line<'_>>
     }
 }
 
-// What follows `cut`.
+// Reads the fields after `cut`.
 #[tactic(auto, unfolding(crate::specs::LineReading::cut_line_of))]
 fn cut_line(fields: &[u8]) -> Option<Line<'_>>
     ensures { option_map said result ≡ cut_line_of fields.now }
@@ -83,7 +83,7 @@ fn cut_line(fields: &[u8]) -> Option<Line<'_>>
     Some(Line::Cut { write, torn })
 }
 
-// What a cut leaves.
+// Reads what a cut leaves.
 #[tactic(auto, unfolding(crate::specs::LineReading::torn_of))]
 fn torn(word: &[u8]) -> Option<TornText<'_>>
     ensures { option_map said_torn result ≡ torn_of word.now }
@@ -99,7 +99,7 @@ fn torn(word: &[u8]) -> Option<TornText<'_>>
     if kind == HEX { hex(digits) } else { None }
 }
 
-// The digits after `hex:`.
+// Reads the digits after `hex:`.
 #[tactic(auto, unfolding(crate::specs::LineReading::hex_of))]
 fn hex(digits: &[u8]) -> Option<TornText<'_>>
     ensures { option_map said_torn result ≡ hex_of digits.now }
@@ -117,7 +117,7 @@ fn are_digits(text: &[u8]) -> bool
     text.iter().all(|byte| byte.is_ascii_hexdigit())
 }
 
-// The event that begins with a word, with fields after it.
+// Reads the event that begins with a word, with the fields after it.
 #[tactic(auto, unfolding(crate::specs::LineReading::event_at))]
 fn event<'a>(word: &[u8], fields: &'a [u8]) -> Option<Event<FileText<'a>>>
     ensures { option_map (event_map said_file) result ≡ event_at word.now fields.now }
@@ -131,7 +131,7 @@ fn event<'a>(word: &[u8], fields: &'a [u8]) -> Option<Event<FileText<'a>>>
     }
 }
 
-// What follows `accept`.
+// Reads the field after `accept`.
 #[tactic(auto, unfolding(crate::specs::LineReading::accept_of))]
 fn accept(fields: &[u8]) -> Option<Event<FileText<'_>>>
     ensures { option_map (event_map said_file) result ≡ accept_of fields.now }
@@ -140,7 +140,7 @@ fn accept(fields: &[u8]) -> Option<Event<FileText<'_>>>
     Some(Event::Accept(FileText { name, part: None }))
 }
 
-// What follows `piece`.
+// Reads the fields after `piece`.
 #[tactic(auto, unfolding(crate::specs::LineReading::piece_of))]
 fn piece(fields: &[u8]) -> Option<Event<FileText<'_>>>
     ensures { option_map (event_map said_file) result ≡ piece_of fields.now }

@@ -9,9 +9,9 @@ ghost use Rattle.script.specs.Said.{part_words};
 use crate::words::{number_usize, word};
 use common::ascii::cut;
 
-/// The words FROM and COUNT of a line, which name a part of a file: COUNT bytes, from the byte of
-/// number FROM on. The first byte has number 0. They are checked when the file is read: whether they
-/// are numbers, and whether the file has the part.
+/// The words FROM and COUNT of a line, which name a part of a file: COUNT bytes, from byte number
+/// FROM on. The first byte has number 0. They are checked when the file is read: whether they are
+/// numbers, and whether the file has the part.
 #[derive(Clone, Copy)]
 pub struct PartText<'a> {
     /// The first word.
@@ -21,7 +21,7 @@ pub struct PartText<'a> {
 }
 
 impl<'a> PartText<'a> {
-    /// The part that two words name. `None` if the text isn't two words.
+    /// Reads the two words. Returns `None` if the text isn't two words.
     #[tactic(auto, unfolding(crate::specs::LineReading::part_of))]
     pub(crate) fn read(text: &'a [u8]) -> Option<PartText<'a>>
         ensures { option_map part_words result ≡ part_of text.now }
@@ -32,7 +32,7 @@ impl<'a> PartText<'a> {
         Some(PartText { from, count })
     }
 
-    /// The numbers that the words spell: the number of the first byte, from 0, and the count.
+    /// The numbers of the two words: the number of the first byte, from 0, and the count. Returns
     /// `None` if a word isn't a decimal number below 2^64 without leading zeros.
     pub fn numbers(self) -> Option<(usize, usize)>
         ensures { IfSome result (λ numbers. ((part_words self.entry).from ≡ decimal numbers.0)
@@ -43,8 +43,8 @@ impl<'a> PartText<'a> {
         Some((from, count))
     }
 
-    /// The part of these bytes, which may be empty. `None` if a word isn't a decimal number without
-    /// leading zeros, or if the bytes don't have the part.
+    /// Returns the part of these bytes, which may be empty. Returns `None` if a word isn't a
+    /// decimal number without leading zeros, or if the bytes don't have the part.
     pub fn of<'b>(self, bytes: &'b [u8]) -> Option<&'b [u8]>
         ensures part { IfSome result (λ part. IsPart (part_words self.entry) bytes.now part.now) }
         ensures other { IfNone result

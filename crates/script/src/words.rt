@@ -6,7 +6,7 @@ ghost use Rattle.script.specs.LineReading.{name_of, word_of};
 
 use common::ascii::{begins_padded, cut};
 
-/// The word that a text is: at least one byte, and no space.
+/// Reads a text as a word: at least one byte, and no space.
 #[tactic(auto, unfolding(crate::specs::LineReading::word_of))]
 pub(crate) fn word(text: &[u8]) -> Option<&[u8]>
     ensures { option_copied result ≡ word_of text.now }
@@ -18,7 +18,7 @@ pub(crate) fn word(text: &[u8]) -> Option<&[u8]>
     Some(word)
 }
 
-/// The name of a file that a text is: a word in UTF-8.
+/// Reads a text as the name of a file: a word in UTF-8.
 #[tactic(auto, unfolding(crate::specs::LineReading::name_of))]
 pub(crate) fn name(text: &[u8]) -> Option<&str>
     ensures { option_copied result ≡ name_of text.now }
@@ -26,8 +26,8 @@ pub(crate) fn name(text: &[u8]) -> Option<&str>
     str::from_utf8(word(text)?).ok()
 }
 
-/// The number that a text spells, decimal and without leading zeros, as `common::ascii::number`
-/// reads those of 32 bits.
+/// Reads a text as a decimal number without leading zeros, as `common::ascii::number` reads those
+/// of 32 bits.
 pub(crate) fn number_usize(text: &[u8]) -> Option<usize>
     ensures spelled { IfSome result (λ n. text.now ≡ decimal n) }
     ensures other { IfNone result ((n : ℕ) → n < 2 ^ 64 → text.now ≢ decimal n) }
