@@ -1,4 +1,4 @@
--- A JSON value means one manifest at most, or has one lowest refusal at most, and never both.
+-- A JSON value means at most one manifest, or has at most one lowest refusal, and never both.
 use Rattle.std.proofs.Common.{◌≡◌, ◌≢◌, ℕ, zero, suc, List, [], ◌∷◌, Bool, true, false, Option, None, Some, Result, Ok, Err, IfOk, IfErr, codes, refl, sym, ap, subst, ◌∙◌}
 use Rattle.std.specs.Prelude.{IsSomeAnd}
 use Rattle.std.specs.List.{AllZip}
@@ -19,33 +19,33 @@ use Rattle.manifest.specs.Manifest.{HasKeys, IsOfClass, IsOfVendor, Means, Names
 
 -- ---- one manifest at most
 
--- bytes are the text of one value at most
+-- Bytes are the text of at most one value.
 pub IsJson-unique : (bytes : List ℕ) (one other : Data) → IsJson bytes one → IsJson bytes other → one ≡ other
 IsJson-unique bytes one other a b = same_Some one other (sym a.1 ∙ b.1)
 
--- two options that are the same value
+-- Two values of the same option are the same.
 same_found : {X : Type 0} (o : Option X) (x y : X) → o ≡ Some x → o ≡ Some y → x ≡ y
 same_found o x y a b = same_Some x y (sym a ∙ b)
 
--- a word is that of one kind
+-- A word is that of one kind.
 kind_text-unique : (one other : Bool) → kind_text one ≡ kind_text other → one ≡ other
 kind_text-unique true true e = refl
 kind_text-unique true false e = absurd cc
 kind_text-unique false true e = absurd cc
 kind_text-unique false false e = refl
 
--- where there is no such key, there is no digest at it
+-- If an object lacks a key, it has no digest at the key.
 no_digest : (key : List ℕ) (value : Data) (digest : List ℕ) → get key value ≡ None → digest_at key value ≡ Some digest → ⊥
 no_digest key value digest none found = none-some digest (rw none at found)
 
--- a value names one precursor at most
+-- A value names at most one precursor.
 IsPrecursor-unique : (value : Data) (one other : Option (List ℕ)) → IsPrecursor value one → IsPrecursor value other → one ≡ other
 IsPrecursor-unique value None None a b = refl
 IsPrecursor-unique value None (Some y) a b = absurd (no_digest (codes "precursor-digest") value y a b)
 IsPrecursor-unique value (Some x) None a b = absurd (no_digest (codes "precursor-digest") value x b a)
 IsPrecursor-unique value (Some x) (Some y) a b = ap Some (same_found _ x y a b)
 
--- a value spells one component at most
+-- A value is that of at most one component.
 IsComponent-unique : (value : Data) (one other : Component) → IsComponent value one → IsComponent value other → one ≡ other
 IsComponent-unique value one other a b =
     let image = same_found _ _ _ a.image b.image in
@@ -55,7 +55,7 @@ IsComponent-unique value one other a b =
     let precursor = IsPrecursor-unique value _ _ a.precursor b.precursor in
     λ i. record { image = image i; permanent = permanent i; size = size i; digest = digest i; precursor = precursor i }
 
--- values spell one list of components at most
+-- Values are those of at most one list of components.
 components-unique : (values : List Data) (one other : List Component) → AllZip IsComponent values one → AllZip IsComponent values other → one ≡ other
 components-unique [] [] [] a b = refl
 components-unique [] [] (y ∷ ys) a b = absurd b
@@ -67,12 +67,12 @@ components-unique (v ∷ vs) (x ∷ xs) (y ∷ ys) a b =
     let rest = components-unique vs xs ys a.1 b.1 in
     λ i. first i ∷ rest i
 
--- the same of the array that is found
+-- An array that is found is that of at most one list of components.
 found_components-unique : (found : Option (List Data)) (one other : List Component) → IsSomeAnd found (λ values. AllZip IsComponent values one) → IsSomeAnd found (λ values. AllZip IsComponent values other) → one ≡ other
 found_components-unique None one other a b = absurd a
 found_components-unique (Some values) one other a b = components-unique values one other a b
 
--- a value spells one manifest at most
+-- A value is that of at most one manifest.
 pub Spells-unique : (value : Data) (one other : Manifest) → Spells value one → Spells value other → one ≡ other
 Spells-unique value one other a b =
     let sequence = same_found _ _ _ a.sequence b.sequence in
@@ -81,7 +81,7 @@ Spells-unique value one other a b =
 
 -- ---- one refusal at most
 
--- the checks of a value in their order
+-- The checks of a value, in their order.
 abbrev checked : Identity → Data → ℕ → Type 0
 checked identity value zero = HasKeys value
 checked identity value (suc zero) = (manifest : Manifest) × Spells value manifest
@@ -90,7 +90,7 @@ checked identity value (suc (suc (suc zero))) = IsOfClass identity value
 checked identity value (suc (suc (suc (suc zero)))) = (manifest : Manifest) × Spells value manifest × NamesImages identity manifest
 checked identity value (suc (suc (suc (suc (suc k))))) = (manifest : Manifest) × Spells value manifest × NamesEachOnce manifest
 
--- what is meant passes each
+-- A value that means a manifest passes each check.
 passes : (identity : Identity) (value : Data) (manifest : Manifest) → Means identity value manifest → (place : ℕ) → checked identity value place
 passes identity value manifest means zero = means.keys
 passes identity value manifest means (suc zero) = (manifest, means.spelled)
@@ -99,7 +99,7 @@ passes identity value manifest means (suc (suc (suc zero))) = means.class
 passes identity value manifest means (suc (suc (suc (suc zero)))) = (manifest, means.spelled, means.images)
 passes identity value manifest means (suc (suc (suc (suc (suc k))))) = (manifest, means.spelled, means.once)
 
--- the place of a refusal's check
+-- The place of a refusal's check.
 abbrev place_of : ManifestError → ℕ
 place_of NotJson = 6
 place_of BadKey = 0
@@ -110,7 +110,7 @@ place_of NoComponent = 4
 place_of RepeatedComponent = 5
 place_of NoMemory = 7
 
--- the refusal at a place
+-- The refusal at a place.
 abbrev fault_at : ℕ → ManifestError
 fault_at zero = BadKey
 fault_at (suc zero) = BadValue
@@ -121,7 +121,7 @@ fault_at (suc (suc (suc (suc (suc zero))))) = RepeatedComponent
 fault_at (suc (suc (suc (suc (suc (suc zero)))))) = NotJson
 fault_at (suc (suc (suc (suc (suc (suc (suc k))))))) = NoMemory
 
--- each refusal is that at its place
+-- Each refusal is the one at its place.
 fault_at-place_of : (fault : ManifestError) → fault_at (place_of fault) ≡ fault
 fault_at-place_of NotJson = refl
 fault_at-place_of BadKey = refl
@@ -132,11 +132,11 @@ fault_at-place_of NoComponent = refl
 fault_at-place_of RepeatedComponent = refl
 fault_at-place_of NoMemory = refl
 
--- what doesn't hold of the manifest that a value spells holds of none that it spells
+-- A property that the manifest of a value lacks holds for no manifest of the value.
 never : (value : Data) (manifest : Manifest) (P : Manifest → Type 0) → Spells value manifest → (P manifest → ⊥) → (other : Manifest) × Spells value other × P other → ⊥
 never value manifest P spelled fails (other, also, holds) = fails (subst P (Spells-unique value other manifest also spelled) holds)
 
--- the lowest refusal is at the first check that fails
+-- The lowest refusal is at the first check that fails.
 fails_first : (identity : Identity) (value : Data) (fault : ManifestError) → IsLowestFault identity value fault → FailsFirst (checked identity value) (place_of fault)
 fails_first identity value NotJson h = absurd h
 fails_first identity value BadKey h = (tt, h)
@@ -149,38 +149,38 @@ fails_first identity value RepeatedComponent h =
     ((((((tt, h.1.0.0.0.0), (h.0, h.1.0.0.0.1)), h.1.0.0.1), h.1.0.1), (h.0, h.1.0.0.0.1, h.1.1)), never value h.0 NamesEachOnce h.1.0.0.0.1 h.2)
 fails_first identity value NoMemory h = absurd h
 
--- a value has one lowest refusal at most
+-- A value has at most one lowest refusal.
 pub IsLowestFault-unique : (identity : Identity) (value : Data) (one other : ManifestError) → IsLowestFault identity value one → IsLowestFault identity value other → one ≡ other
 IsLowestFault-unique identity value one other a b =
     let place = FailsFirst-unique (checked identity value) (place_of one) (place_of other) (fails_first identity value one a) (fails_first identity value other b) in
     sym (fault_at-place_of one) ∙ ap fault_at place ∙ fault_at-place_of other
 
--- what is meant has no lowest refusal
+-- A value that means a manifest has no lowest refusal.
 pub means_or_fails : (identity : Identity) (value : Data) (manifest : Manifest) (fault : ManifestError) → Means identity value manifest → IsLowestFault identity value fault → ⊥
 means_or_fails identity value manifest fault means fails = (fails_first identity value fault fails).1 (passes identity value manifest means (place_of fault))
 
--- ---- what a judgement answers
+-- ---- what the reader returns
 
--- a manifest that is meant is the answer
+-- If a value means a manifest, the result is this manifest.
 answers_meant : (identity : Identity) (value : Data) (result : Result Manifest ManifestError) → IfOk result (Means identity value) → IfErr result (IsLowestFault identity value)
     → (manifest : Manifest) → Means identity value manifest → result ≡ Ok manifest
 answers_meant identity value (Ok found) ok err manifest means = ap Ok (Spells-unique value found manifest ok.spelled means.spelled)
 answers_meant identity value (Err fault) ok err manifest means = absurd (means_or_fails identity value manifest fault means err)
 
--- the same by the bytes
+-- The same holds for the bytes of the value.
 pub answers_manifest : (identity : Identity) (bytes : List ℕ) (value : Data) → IsJson bytes value → (result : Result Manifest ManifestError) → IfOk result (Means identity value)
     → IfErr result (IsLowestFault identity value) → (manifest : Manifest) → IsManifest identity bytes manifest → result ≡ Ok manifest
 answers_manifest identity bytes value json result ok err manifest is =
     let same = IsJson-unique bytes is.value value is.json json in
     answers_meant identity value result ok err manifest (subst (λ v. Means identity v manifest) same is.meaning)
 
--- a refusal that is the lowest is the answer
+-- If a refusal is the lowest one, it is the result.
 answers_lowest : (identity : Identity) (value : Data) (result : Result Manifest ManifestError) → IfOk result (Means identity value) → IfErr result (IsLowestFault identity value)
     → (fault : ManifestError) → IsLowestFault identity value fault → result ≡ Err fault
 answers_lowest identity value (Ok found) ok err fault fails = absurd (means_or_fails identity value found fault ok fails)
 answers_lowest identity value (Err other) ok err fault fails = ap Err (IsLowestFault-unique identity value other fault err fails)
 
--- the same by the bytes
+-- The same holds for the bytes of the value.
 pub answers_refusal : (identity : Identity) (bytes : List ℕ) (value : Data) → IsJson bytes value → (result : Result Manifest ManifestError) → IfOk result (Means identity value)
     → IfErr result (IsLowestFault identity value) → (fault : ManifestError) → IsRefusal identity bytes fault → result ≡ Err fault
 answers_refusal identity bytes value json result ok err fault refused =
@@ -191,7 +191,7 @@ answers_refusal identity bytes value json result ok err fault refused =
           answers_lowest identity value result ok err fault (subst (λ v. IsLowestFault identity v fault) same fails)
     ]
 
--- an answered refusal is that of the bytes
+-- A returned refusal is that of the bytes.
 pub gives_refusal : (identity : Identity) (bytes : List ℕ) (value : Data) → IsJson bytes value → (result : Result Manifest ManifestError) → IfErr result (IsLowestFault identity value)
     → IfErr result (λ error. error ≢ NoMemory → IsRefusal identity bytes error)
 gives_refusal identity bytes value json (Ok manifest) err = tt

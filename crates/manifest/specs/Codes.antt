@@ -1,9 +1,9 @@
--- The numbers and names of refusals.
+-- The number and the name of each refusal.
 use Rattle.std.specs.Prelude.{ℕ, List, codes}
 use Rattle.manifest.specs.declared.error.ManifestError.{ManifestError}
 use Rattle.manifest.specs.declared.error.ManifestError.TheVariants.{NotJson, BadKey, BadValue, WrongVendor, WrongClass, NoComponent, RepeatedComponent, NoMemory}
 
--- The numbers, in the order in which the lowest is told.
+-- The number of a kind. The lowest refusal that applies is the error.
 abbrev pub code_of : ManifestError → ℕ
 code_of NotJson = 1
 code_of BadKey = 2
@@ -14,7 +14,7 @@ code_of NoComponent = 6
 code_of RepeatedComponent = 7
 code_of NoMemory = 8
 
--- The names, as a program prints them.
+-- The name of a kind, as programs print it.
 abbrev pub name_of : ManifestError → List ℕ
 name_of NotJson = codes "NotJson"
 name_of BadKey = codes "BadKey"

@@ -1,4 +1,4 @@
--- UUIDs that stand for names (RFC 9562, section 5.5), as RFC 9124 asks of vendors and classes.
+-- UUIDs of names (RFC 9562, section 5.5), as RFC 9124 requires for vendors and classes.
 use Rattle.std.specs.Prelude.{ℕ, List, ◌++◌, take}
 use Rattle.sha1.specs.Sha1.{sha1}
 use Rattle.uuid.specs.Parts.{with_variant, with_version}

@@ -1,4 +1,4 @@
-//! The components of a manifest.
+//! Reads the components of a manifest.
 
 ghost use Rattle.std.specs.Prelude.{◌≡◌, ◌≢◌, ◌↔◌, ℕ, ◌^◌, ◌<◌, ◌≤◌, All, AllPairs, Any, Bool, IfNone, IfSome, IsTrue, List, Option, Some, codes, length, map};
 ghost use Rattle.std.specs.List.{AllByRecursion, AllZip};
@@ -12,10 +12,10 @@ use crate::manifest::{Component, MOST_COMPONENTS};
 use arrayvec::ArrayVec;
 use serde_json::Value;
 
-/// The keys that a component needs, in the order of their bytes.
+/// The required keys of a component, in the order of their bytes.
 const KEYS: [&str; 4] = ["component-id", "kind", "payload-digest", "size"];
 
-/// The same with the key that may be missing.
+/// The keys of a component with the optional key.
 const KEYS_WITH_PRECURSOR: [&str; 5] = [
     "component-id",
     "kind",
@@ -24,7 +24,7 @@ const KEYS_WITH_PRECURSOR: [&str; 5] = [
     "size",
 ];
 
-/// Whether a value that is an object has the keys of a component.
+/// Whether a value has exactly the keys of a component. A value that isn't an object passes.
 fn has_component_keys(value: &Value) -> bool
     ensures { IsTrue result ↔ HasComponentKeys (view value.now) }
 {
@@ -33,14 +33,14 @@ fn has_component_keys(value: &Value) -> bool
         || has_names(value, KEYS_WITH_PRECURSOR.as_slice())
 }
 
-/// Whether each object among these values has the keys of a component.
+/// Whether each object among these values has exactly the keys of a component.
 pub(crate) fn have_component_keys(values: &[Value]) -> bool
     ensures { IsTrue result ↔ AllByRecursion HasComponentKeys (map view values.now) }
 {
     values.iter().all(has_component_keys)
 }
 
-/// The number of the image, 0 to 255.
+/// Reads the number of the image, 0 to 255.
 fn image(value: &Value) -> Option<u8>
     ensures found { IfSome result
         (λ image. number_at (codes "component-id") (view value.now) ≡ Some image) }
@@ -50,7 +50,7 @@ fn image(value: &Value) -> Option<u8>
     u8::try_from(number(value, "component-id")?).ok()
 }
 
-/// Whether the request is to be permanent.
+/// Reads whether the request is permanent.
 fn permanent(value: &Value) -> Option<bool>
     ensures found { IfSome result
         (λ permanent. text_at (codes "kind") (view value.now) ≡ Some (kind_text permanent)) }
@@ -64,7 +64,8 @@ fn permanent(value: &Value) -> Option<bool>
     }
 }
 
-/// The digest of the image that has to run; nothing inside where none is named.
+/// Reads the digest of the required running image. The inner option is `None` if the value names no
+/// such image.
 fn precursor(value: &Value) -> Option<Option<[u8; 32]>>
     ensures found { IfSome result (IsPrecursor (view value.now)) }
     ensures other { IfNone result ((named : Option (List ℕ)) → IsPrecursor (view value.now) named
@@ -76,7 +77,7 @@ fn precursor(value: &Value) -> Option<Option<[u8; 32]>>
     }
 }
 
-/// The component that a value spells.
+/// Reads the component of a value.
 fn component(value: &Value) -> Option<Component>
     ensures found { IfSome result (IsComponent (view value.now)) }
     ensures other { IfNone result ((component : Component) → IsComponent (view value.now) component
@@ -91,14 +92,14 @@ fn component(value: &Value) -> Option<Component>
     })
 }
 
-/// Whether there are no more values than a manifest has components.
+/// Whether a manifest may have this many components.
 fn are_few(values: &[Value]) -> bool
     ensures { IsTrue result ↔ (length values.now ≤ MOST_COMPONENTS) }
 {
     values.len() <= MOST_COMPONENTS
 }
 
-/// The components that values spell, at most [`MOST_COMPONENTS`].
+/// Reads the components of values, at most [`MOST_COMPONENTS`].
 pub(crate) fn components(values: &[Value]) -> Option<ArrayVec<Component, MOST_COMPONENTS>>
     ensures found { IfSome result
         (λ components. AllZip IsComponent (map view values.now) components.items) }

@@ -1,22 +1,22 @@
-//! Why bytes are no manifest for a device.
+//! The error of reading a manifest.
 
 ghost use Rattle.std.specs.Prelude.{◌≡◌};
 ghost use Rattle.manifest.specs.Codes.{code_of, name_of};
 
 use thiserror::Error;
 
-/// Why bytes are no manifest for a device: the lowest refusal that applies to their JSON value, or
-/// memory runs out. The numbers are 1 to 8, in this order.
+/// Why bytes aren't a manifest for a device: the lowest refusal that applies to their JSON value,
+/// or a failed allocation. The numbers are 1 to 8, in this order.
 #[derive(Clone, Copy, Debug, PartialEq, Eq, Error)]
 pub enum ManifestError {
     /// The bytes aren't the JSON text of a value.
     #[error("no JSON text")]
     NotJson,
     /// The value isn't an object with exactly the keys of a manifest, or an object among its
-    /// components hasn't exactly those of a component.
+    /// components doesn't have exactly the keys of a component.
     #[error("a key that is missing, or one that isn't known")]
     BadKey,
-    /// What stands at a key isn't what has to stand there.
+    /// The value at a key isn't allowed there.
     #[error("a value that may not stand at its key")]
     BadValue,
     /// The manifest is for devices of another vendor.
@@ -31,13 +31,13 @@ pub enum ManifestError {
     /// Two components are for the same image.
     #[error("two components for the same image")]
     RepeatedComponent,
-    /// Memory ran out.
+    /// An allocation failed.
     #[error("no memory for the manifest")]
     NoMemory,
 }
 
 impl ManifestError {
-    /// The number of the kind, 1 to 8.
+    /// The number of this kind: 1 to 8.
     pub fn code(self) -> u8
         ensures { result ≡ code_of self }
     {
@@ -53,7 +53,7 @@ impl ManifestError {
         }
     }
 
-    /// The name of the kind, as a program prints it.
+    /// The name of this kind, as programs print it.
     pub fn name(self) -> &'static str
         ensures { result.now ≡ name_of self }
     {

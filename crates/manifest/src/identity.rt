@@ -1,15 +1,15 @@
-//! What a device is, for those who send it updates.
+//! The identity of a device: its vendor, its class and its images.
 
 use uuid::Uuid;
 
-/// What a device is, for those who send it updates: a manifest has to name its vendor, its class,
-/// and images that it has (RFC 9124, "Vendor ID Condition" and "Class ID Condition").
+/// The identity of a device. A manifest must name its vendor, its class, and only images that the
+/// device has (RFC 9124, "Vendor ID Condition" and "Class ID Condition").
 #[derive(Clone, Copy, Debug, PartialEq, Eq)]
 pub struct Identity {
-    /// Who makes the device.
+    /// The identifier of the device's vendor.
     pub vendor: Uuid,
-    /// Which class of devices of that vendor it is of.
+    /// The identifier of the device's class, among the classes of the vendor.
     pub class: Uuid,
-    /// How many images it has. Their numbers are those below this one.
+    /// The number of images of the device. The images have the numbers 0 to `images` - 1.
     pub images: u8,
 }

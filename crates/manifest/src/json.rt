@@ -1,5 +1,5 @@
-//! Which JSON value bytes are, and what stands at the keys of an object. For files of one JSON
-//! object whose keys are known beforehand: manifests, and other crates' files of the same kind.
+//! Reads JSON values, and the values at the keys of an object. It is for files with one JSON object
+//! whose keys are known in advance: manifests, and files of other crates.
 
 ghost use Rattle.std.specs.Prelude.{◌≡◌, ◌≢◌, ◌⊎◌, ◌↔◌, ℕ, ◌^◌, ◌<◌, Some, IfErr, IfNone, IfOk, IfSome, IsErrOf, IsTrue, length, map, option_map};
 ghost use Rattle.serde_json.specs.Data.{Data};
@@ -12,13 +12,13 @@ use serde_json::{Map, Value};
 use std::alloc::Global;
 use uuid::Uuid;
 
-/// The value of a JSON text (RFC 8259) in UTF-8, of any length, in memory of `alloc`. Lists and
-/// objects nest 127 levels deep at most, and of a key that stands twice in an object the last value
-/// stands.
+/// Reads the value of a JSON text (RFC 8259) in UTF-8, of any length. The value is in memory of
+/// `alloc`. Lists and objects may nest up to 127 levels. If an object has a key twice, the last
+/// value counts.
 ///
 /// # Errors
-/// `NotJson` where the bytes are the JSON text of no value, and `NoMemory` where memory is refused,
-/// which it never is over no bytes.
+/// `NotJson` if the bytes are not the JSON text of a value. `NoMemory` if an allocation fails,
+/// which never happens for empty input.
 pub fn json_of(alloc: Global, bytes: &[u8]) -> Result<Value, ManifestError>
     ensures read { IfOk result (λ value. IsJson bytes.now (view value)) }
     ensures refused { (result ≡ Err ManifestError.NotJson) → (value : Data)
@@ -34,7 +34,7 @@ pub fn json_of(alloc: Global, bytes: &[u8]) -> Result<Value, ManifestError>
     }
 }
 
-/// Whether the names in an object are these. They are given in the order of their bytes.
+/// Whether an object has exactly these names, which must be in the order of their bytes.
 fn are_names(members: &Map<String, Value>, names: &[&str]) -> bool
     ensures { IsTrue result ↔ (names_of (members_view members.now.entries)
         ≡ map (λ name. name.now) names.now) }
@@ -49,8 +49,8 @@ fn are_names(members: &Map<String, Value>, names: &[&str]) -> bool
     own.next().is_none()
 }
 
-/// Whether a value is an object with these names and no other. They are given in the order of their
-/// bytes, each once: else no value has them. Does not allocate.
+/// Whether a value is an object with exactly these names. The names must be in the order of their
+/// bytes, each once: otherwise no value has them. Does not allocate.
 pub fn has_names(value: &Value, names: &[&str]) -> bool
     ensures { IsTrue result ↔ HasNames (map (λ name. name.now) names.now) (view value.now) }
 {
@@ -60,8 +60,8 @@ pub fn has_names(value: &Value, names: &[&str]) -> bool
     }
 }
 
-/// The number below 2^32 that a value is: one that is written in digits alone. None where it is
-/// another one or none. Does not allocate.
+/// Returns the number of a value. It must be below 2^32 and written with digits only. Returns
+/// `None` for any other value. Does not allocate.
 pub fn number_of(value: &Value) -> Option<u32>
     ensures found { IfSome result (λ number. whole_number (view value.now) ≡ Some number) }
     ensures other { IfNone result ((number : ℕ) → number < 2 ^ 32
@@ -70,8 +70,9 @@ pub fn number_of(value: &Value) -> Option<u32>
     u32::try_from(value.as_u64()?).ok()
 }
 
-/// The number below 2^32 at a key, written in digits alone. None where another one stands there or
-/// none, or where the value is no object with this key. Does not allocate.
+/// Returns the number at a key. It must be below 2^32 and written with digits only. Returns `None`
+/// for any other value at the key, or if the value isn't an object with this key. Does not
+/// allocate.
 pub fn number(value: &Value, key: &str) -> Option<u32>
     ensures found { IfSome result (λ number. number_at key.now (view value.now) ≡ Some number) }
     ensures other { IfNone result ((number : ℕ) → number < 2 ^ 32
@@ -80,16 +81,16 @@ pub fn number(value: &Value, key: &str) -> Option<u32>
     number_of(value.get(key)?)
 }
 
-/// The text at a key. None where no text stands there, or where the value is no object with this
-/// key. Does not allocate.
+/// Returns the text at a key. Returns `None` for any other value at the key, or if the value isn't
+/// an object with this key. Does not allocate.
 pub fn text<'v>(value: &'v Value, key: &str) -> Option<&'v str>
     ensures { option_map (λ text. text.now) result ≡ text_at key.now (view value.now) }
 {
     value.get(key)?.as_str()
 }
 
-/// The array at a key. None where no array stands there, or where the value is no object with this
-/// key. Does not allocate.
+/// Returns the array at a key. Returns `None` for any other value at the key, or if the value isn't
+/// an object with this key. Does not allocate.
 pub fn array<'v>(value: &'v Value, key: &str) -> Option<&'v Vec<Value>>
     ensures { option_map (λ values. map view values.now.items) result
         ≡ array_at key.now (view value.now) }
@@ -97,8 +98,8 @@ pub fn array<'v>(value: &'v Value, key: &str) -> Option<&'v Vec<Value>>
     value.get(key)?.as_array()
 }
 
-/// The UUID that the text at a key spells, in any of its forms and in either case
-/// (RFC 9562, section 4). None where no such text stands there, or where the value is no object
+/// Returns the UUID whose text is at a key, in any of its forms and in upper or lower case (RFC
+/// 9562, section 4). Returns `None` for any other value at the key, or if the value isn't an object
 /// with this key. Does not allocate.
 pub fn uuid(value: &Value, key: &str) -> Option<Uuid>
     ensures { result ≡ uuid_at key.now (view value.now) }
@@ -106,8 +107,9 @@ pub fn uuid(value: &Value, key: &str) -> Option<Uuid>
     Uuid::parse_str(text(value, key)?).ok()
 }
 
-/// The 32 bytes that the text at a key spells, in 64 hexadecimal digits of either case. None where
-/// no such text stands there, or where the value is no object with this key. Does not allocate.
+/// Returns the 32 bytes whose 64 hexadecimal digits, in upper or lower case, are the text at a key.
+/// Returns `None` for any other value at the key, or if the value isn't an object with this key.
+/// Does not allocate.
 pub fn digest(value: &Value, key: &str) -> Option<[u8; 32]>
     ensures { result ≡ digest_at key.now (view value.now) }
 {

@@ -1,11 +1,11 @@
-//! Reads manifests, which list the files that a device may take (RFC 9019 and RFC 9124, in
+//! Reads manifests, which list the files that a device may accept (RFC 9019 and RFC 9124, in
 //! bootswap's own JSON).
 //!
 //! - Promises: A manifest for this device is read exactly. Any other text gets the lowest refusal
 //!   that applies. Identifiers of vendors and classes are UUIDs of version 5.
 //! - Main calls: `Manifest::read`, `vendor_id`, `class_id`
 //! - Allocates: to read a JSON text; not for identifiers.
-//! - Callers: whatever takes updates; `json` is there for other files of the same kind.
+//! - Callers: any crate that accepts updates; `json` is for other files with one JSON object.
 #![tactic(auto)]
 
 mod components;

@@ -1,4 +1,4 @@
-//! Reading a manifest.
+//! Reads a manifest.
 
 ghost use Rattle.std.specs.Prelude.{◌≡◌, ◌≢◌, ◌⊎◌, ◌↔◌, ◌<◌, IfErr, IfNone, IfOk, IfSome, IsErrOf, IsTrue, length};
 ghost use Rattle.serde_json.specs.View.{view};
@@ -24,10 +24,10 @@ const KEYS: [&str; 5] = [
     "vendor-id",
 ];
 
-/// The version of the spelling.
+/// The version of the manifest's format.
 const VERSION: u32 = 1;
 
-/// Whether the objects of a manifest have the keys that they have to have.
+/// Whether the objects of a manifest have exactly their keys.
 fn has_keys(value: &Value) -> bool
     ensures { IsTrue result ↔ HasKeys (view value.now) }
 {
@@ -38,7 +38,7 @@ fn has_keys(value: &Value) -> bool
         }
 }
 
-/// The manifest that a value spells.
+/// Reads the manifest of a value, for any device.
 fn spelled(value: &Value) -> Option<Manifest>
     ensures found { IfSome result (Spells (view value.now)) }
     ensures other { IfNone result ((manifest : Manifest) → Spells (view value.now) manifest → ⊥) }
@@ -60,7 +60,7 @@ fn spelled(value: &Value) -> Option<Manifest>
     })
 }
 
-/// The manifest that a value means.
+/// Reads the manifest of a value, for a device of this identity.
 fn meant(value: &Value, identity: &Identity) -> Result<Manifest, ManifestError>
     ensures means { IfOk result (Means identity.now (view value.now)) }
     ensures fault { IfErr result (IsLowestFault identity.now (view value.now)) }
@@ -85,24 +85,27 @@ fn meant(value: &Value, identity: &Identity) -> Result<Manifest, ManifestError>
 }
 
 impl Manifest {
-    /// The manifest that a file is to a device.
+    /// Reads the manifest of a file, for a device of this identity.
     ///
-    /// `bytes` are the whole file, of any length: a JSON text (RFC 8259) of one object with exactly
-    /// the keys of a manifest, which docs/FORMATS.md lists. `identity` is what the device is.
-    /// `alloc` is where the JSON value is held while it is read; what is answered doesn't allocate.
+    /// `bytes` are the complete file, of any length: a JSON text (RFC 8259) of one object with
+    /// exactly the keys of a manifest, which docs/FORMATS.md lists. `identity` is the identity of
+    /// the device. `alloc` holds the JSON value during the read. The result doesn't allocate.
     ///
     /// # Errors
-    /// The lowest refusal that applies to the value of the text, whatever is met first: 1 where the
-    /// bytes are no JSON text, 2 and 3 where the value isn't a manifest's, 4 to 7 where it is one
-    /// for another device. `NoMemory` comes where memory is refused while the text is read, and
-    /// only there.
+    /// The lowest refusal that applies to the value of the text, in whatever order the checks are
+    /// made:
+    ///
+    /// - 1 if the bytes aren't a JSON text.
+    /// - 2 or 3 if the value isn't that of a manifest.
+    /// - 4 to 7 if the value is a manifest that isn't for this device.
+    ///
+    /// `NoMemory` if an allocation fails during the read of the text, and only then.
     pub fn read(alloc: Global, bytes: &[u8], identity: &Identity) -> Result<Manifest, ManifestError>
         ensures means { IfOk result (IsManifest identity.now bytes.now) }
         ensures read { (manifest : Manifest) → IsManifest identity.now bytes.now manifest
             → (result ≡ Ok manifest) ⊎ (result ≡ Err ManifestError.NoMemory) }
 
-        // The lowest refusal that applies is the error, and there is no other but that memory runs
-        // out.
+        // The lowest refusal that applies is the error. The only other error is `NoMemory`.
         ensures refused { (fault : ManifestError) → IsRefusal identity.now bytes.now fault
             → (result ≡ Err fault) ⊎ (result ≡ Err ManifestError.NoMemory) }
         ensures only { IfErr result (λ error. (error ≢ ManifestError.NoMemory)

@@ -4,7 +4,7 @@ use Rattle.manifest.specs.Json.{names_of}
 use Rattle.manifest.proofs.Names.{IsLeft}
 use Rattle.manifest.proofs.json.are_names.Given as goal
 
--- the names left are those left to compare with exactly where all are
+-- The remaining names are equal to those that are still to compare exactly if all names are equal.
 abbrev pub invariant-loop-name : goal.invariant-loop-name
 invariant-loop-name l =
     (goal.iterator-loop-name).can_next l.own × (goal.iterator-loop-name).is_finite l.own
