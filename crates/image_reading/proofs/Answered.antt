@@ -1,4 +1,4 @@
--- Bytes have one answer: a description, or the first check that fails.
+-- Bytes have one result: a description, or the first check that fails.
 use Rattle.std.proofs.Common.{◌≡◌, Bool, true, false, List, ℕ, Result, Ok, Err, ap}
 use Rattle.std.specs.Prelude.{IfErr, IfOk}
 use Rattle.image_reading.specs.declared.desc.Desc.{Desc}
@@ -11,13 +11,13 @@ use Rattle.image_reading.specs.Slot.{IsSlotFault}
 use Rattle.image_reading.proofs.Descriptions.{front-unique, front_has_no_fault, intact-unique, intact_has_no_fault}
 use Rattle.image_reading.proofs.FirstFaults.{first_fault-unique}
 
--- There is one description at most, one fault at most, and not both.
+-- There is at most one description, at most one fault, and not both.
 pub record IsAnswered (Intact : Desc → Type 0) (Fails : ImageError → Type 0) : Type 0 where
   pub description : (first second : Desc) → Intact first → Intact second → first ≡ second
   pub fault : (first second : ImageError) → Fails first → Fails second → first ≡ second
   pub apart : (description : Desc) (fault : ImageError) → Intact description → Fails fault → ⊥
 
--- So it is for whole bytes ..
+-- This holds for complete bytes.
 pub whole_answered : (bytes : List ℕ) → IsAnswered (IsIntact bytes) (IsFirstFault bytes)
 whole_answered bytes = record {
   description = intact-unique bytes;
@@ -25,7 +25,7 @@ whole_answered bytes = record {
   apart = intact_has_no_fault bytes;
 }
 
--- .. and for what bytes begin with.
+-- This holds for the image at the beginning of bytes.
 pub front_answered : (bytes : List ℕ) → IsAnswered (BeginsIntact bytes) (IsFrontFault bytes)
 front_answered bytes = record {
   description = front-unique bytes;
@@ -33,7 +33,7 @@ front_answered bytes = record {
   apart = front_has_no_fault bytes;
 }
 
--- A description is the only answer, and so is a fault: in memory ..
+-- If bytes in memory have a description or a fault, it is the result.
 pub only_description : (Intact : Desc → Type 0) (Fails : ImageError → Type 0) (result : Result Desc ImageError)
     → IsAnswered Intact Fails → IfOk result Intact → IfErr result Fails
     → (description : Desc) → Intact description → result ≡ Ok description
@@ -52,7 +52,7 @@ only_fault Intact Fails (Err first) one described failed fault fails = ap Err (o
 not_off : (was_on : Bool) → was_on ≡ true → was_on ≡ false → ⊥
 not_off was_on on off = cc
 
--- .. and in a flash that is on.
+-- If bytes in a flash that is on have a description or a fault, it is the result.
 pub record IsOnlyInSlot (Intact : Desc → Type 0) (Fails : ImageError → Type 0) (was_on : Bool)
     (result : Result Desc SlotError) : Type 0 where
   pub only : was_on ≡ true → (description : Desc) → Intact description → result ≡ Ok description
@@ -75,14 +75,14 @@ only_in_slot Intact Fails was_on (Err (Flash error)) one described failed = reco
 }
 only_in_slot Intact Fails was_on (Err NoMemory) one described failed = absurd failed
 
--- So it is for the image that a slot begins with ..
+-- This holds for the image at the beginning of a slot.
 pub only_front_in_slot : (bytes : List ℕ) (was_on : Bool) (result : Result Desc SlotError)
     → IfOk result (BeginsIntact bytes) → IfErr result (IsSlotFault was_on (IsFrontFault bytes))
     → IsOnlyInSlot (BeginsIntact bytes) (IsFrontFault bytes) was_on result
 only_front_in_slot bytes was_on result described failed =
     only_in_slot (BeginsIntact bytes) (IsFrontFault bytes) was_on result (front_answered bytes) described failed
 
--- .. and for the whole bytes of a file there.
+-- This holds for a file in a slot.
 pub only_file_in_slot : (bytes : List ℕ) (was_on : Bool) (result : Result Desc SlotError)
     → IfOk result (IsIntact bytes) → IfErr result (IsSlotFault was_on (IsFirstFault bytes))
     → IsOnlyInSlot (IsIntact bytes) (IsFirstFault bytes) was_on result

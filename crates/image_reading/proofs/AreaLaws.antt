@@ -1,4 +1,5 @@
--- Laws of areas: entries are read as they are spelled, and what is read is all that fits.
+-- Laws about areas: the bytes of entries are read as these entries, and all entries that fit are
+-- read.
 use Rattle.std.proofs.Common.{◌≡◌, ℕ, zero, suc, ◌+◌, ◌-◌, ◌^◌, ◌<◌, ◌≤◌, ◌↔◌, Bool, true, false, cond, ltb, List, [], ◌∷◌, ◌++◌, length, take, drop, Option, Some, None, refl, sym, ap, subst, ◌∙◌, inl, inr, arith}
 use Rattle.std.specs.List.{AllByRecursion}
 use Rattle.std.specs.Option.{option_map_or}
@@ -15,7 +16,7 @@ use Rattle.image_reading.specs.Reading.{value_size, entry_at, after_entry, first
 
 -- ---- bytes
 
--- The bytes of the number in the first two bytes are these two.
+-- The bytes of the number in two bytes are these two.
 pub little_bytes-little_number_2 : (bytes : List ℕ) → 2 ≤ length bytes → IsBytes bytes
     → little_bytes 2 (little_number 2 bytes) ≡ take 2 bytes
 little_bytes-little_number_2 [] long fits = absurd (omega arith)
@@ -25,7 +26,7 @@ little_bytes-little_number_2 (a ∷ b ∷ bytes) long fits = le_bytes_2 (a ∷ b
 
 -- ---- the first entry
 
--- a test that answered with a value
+-- A test passed, and its result is a value.
 passed : {A : Type 0} (b : Bool) (o : Option A) (y : A) → cond b None o ≡ Some y → (b ≡ false) × (o ≡ Some y)
 passed true o y e = absurd cc
 passed false o y e = (refl, e)
@@ -39,7 +40,7 @@ first_entry-fitting bytes long =
     let whole : ltb (length bytes - 4) (value_size bytes) ≡ false = le-ltb _ _ (omega arith) in
     rw (head, whole) refl
 
--- what is found fits
+-- An entry that is found fits.
 found_fits : (bytes : List ℕ) (found : Entry × List ℕ) → first_entry bytes ≡ Some found
     → (4 + value_size bytes ≤ length bytes) × ((entry_at bytes, after_entry bytes) ≡ found)
 unfolding first_entry
@@ -53,12 +54,12 @@ found_fits bytes found e =
     let longer : value_size bytes ≤ length bytes - 4 = ltb-false _ _ whole.0 in
     (omega arith, cc)
 
--- Fewer than four bytes have no entry ..
+-- Fewer than four bytes have no entry.
 pub first_entry-short : (bytes : List ℕ) → length bytes < 4 → first_entry bytes ≡ None
 unfolding first_entry
 first_entry-short bytes short = rw (lt-ltb (length bytes) 4 short) refl
 
--- .. nor have bytes that end before the value does.
+-- Bytes that end before the value does have no entry.
 pub first_entry-cut_off : (bytes : List ℕ) → length bytes < 4 + value_size bytes → first_entry bytes ≡ None
 unfolding first_entry
 first_entry-cut_off bytes short =
@@ -67,7 +68,7 @@ first_entry-cut_off bytes short =
       | inr head ↦ rw (le-ltb (length bytes) 4 head, lt-ltb (length bytes - 4) (value_size bytes) (omega arith)) refl
     ]
 
--- What follows an entry is shorter.
+-- The bytes after an entry are fewer.
 pub first_entry-shorter : (bytes : List ℕ) (found : Entry × List ℕ) → first_entry bytes ≡ Some found
     → length found.1 < length bytes
 first_entry-shorter bytes found e =
@@ -75,14 +76,14 @@ first_entry-shorter bytes found e =
     let rest : after_entry bytes ≡ found.1 = ap (λ (f : Entry × List ℕ). f.1) fits.1 in
     omega (arith, length-drop (4 + value_size bytes) bytes, ap length rest, fits.0)
 
--- An entry and what follows it, part by part.
+-- An entry and the bytes after it, part by part.
 pub same_found : (kind own_kind : ℕ) (value own_value more own_more : List ℕ) → kind ≡ own_kind → value ≡ own_value
     → more ≡ own_more
     → ◌≡◌ {A = Option (Entry × List ℕ)} (Some (record { kind = kind; value = value }, more))
     (Some (record { kind = own_kind; value = own_value }, own_more))
 same_found kind own_kind value own_value more own_more p q r = cc
 
--- An entry's bytes are read as this entry, whatever follows.
+-- The bytes of an entry are read as this entry, whatever follows.
 pub first_entry-entry : (entry : Entry) (more : List ℕ) → FitsEntry entry
     → first_entry (entry_bytes entry ++ more) ≡ Some (entry, more)
 first_entry-entry entry more fits =
@@ -101,7 +102,7 @@ first_entry-entry entry more fits =
     ∙ drop_at entry.value more _ (sym size) in
     first_entry-fitting (entry_bytes entry ++ more) long ∙ same_found _ _ _ _ _ _ kind value rest
 
--- two bytes, two bytes, a value and what follows it
+-- Bytes are two bytes, two bytes, a value, and the bytes after it.
 four_parts : (n : ℕ) (bytes : List ℕ)
     → (take 2 bytes ++ (take 2 (drop 2 bytes) ++ take n (drop 4 bytes))) ++ drop (4 + n) bytes ≡ bytes
 four_parts n bytes =
@@ -115,7 +116,7 @@ four_parts n bytes =
     ∙ ap (λ (t : List ℕ). take 2 (drop 2 bytes) ++ t) tail ∙ take-append-drop 2 (drop 2 bytes))
     ∙ take-append-drop 2 bytes
 
--- What is read as an entry is this entry's bytes, and what follows them.
+-- Bytes that are read as an entry are this entry's bytes, followed by the rest.
 pub first_entry-parts : (bytes : List ℕ) (entry : Entry) (rest : List ℕ) → IsBytes bytes
     → first_entry bytes ≡ Some (entry, rest)
     → FitsEntry entry × (bytes ≡ entry_bytes entry ++ rest) × IsBytes rest × (length rest < length bytes)
@@ -153,8 +154,8 @@ first_entry-parts bytes entry rest fits e =
 
 -- ---- all entries
 
--- A walk over entries, by a count of steps at most: what it gives where no entry begins, and what one
--- more entry adds.
+-- A walk over entries, with a limit on the number of steps: its value if no entry begins, and the
+-- value that one more entry adds.
 module _ {A : Type 0} (walk : ℕ → List ℕ → A) (none : List ℕ → A) (more : Entry → A → A)
     (at_zero : (bytes : List ℕ) → walk zero bytes ≡ none bytes)
     (at_suc : (n : ℕ) (bytes : List ℕ) → walk (suc n) bytes
@@ -164,7 +165,7 @@ module _ {A : Type 0} (walk : ℕ → List ℕ → A) (none : List ℕ → A) (m
   walk-none (suc n) bytes e =
       at_suc n bytes ∙ ap (λ o. option_map_or (λ found. more found.0 (walk n found.1)) o (none bytes)) e
 
-  -- Any count that is at least the length gives the same.
+  -- All limits that are at least the length give the same value.
   walk-same : (n m : ℕ) (bytes : List ℕ) → length bytes ≤ n → length bytes ≤ m → walk n bytes ≡ walk m bytes
   walk-same zero m bytes p q = at_zero bytes ∙ sym (walk-none m bytes (first_entry-short bytes (omega arith)))
   walk-same (suc n) zero bytes p q =
@@ -182,7 +183,7 @@ module _ {A : Type 0} (walk : ℕ → List ℕ → A) (none : List ℕ → A) (m
       ] refl)
       ∙ sym (at_suc m bytes)
 
-  -- The walk over all entries goes on behind the first.
+  -- The walk over all entries continues after the first one.
   walk-step : (bytes : List ℕ) → walk (length bytes) bytes
       ≡ option_map_or (λ found. more found.0 (walk (length found.1) found.1)) (first_entry bytes) (none bytes)
   walk-step bytes =
@@ -198,18 +199,18 @@ module _ {A : Type 0} (walk : ℕ → List ℕ → A) (none : List ℕ → A) (m
             ap (more found.0) (walk-same (length bytes) (length found.1) found.1 (omega arith) (omega arith))
       ] refl)
 
--- All entries are the first one and those after it.
+-- All entries are the first one followed by the entries after it.
 pub entries_of-step : (bytes : List ℕ)
     → entries_of bytes ≡ option_map_or (λ found. found.0 ∷ entries_of found.1) (first_entry bytes) []
 unfolding entries_within
 entries_of-step = walk-step entries_within (λ b. []) (λ entry entries. entry ∷ entries) (λ b. refl) (λ n b. refl)
 
--- What stands after all entries stands after those after the first one.
+-- The bytes after all entries are the bytes after all entries after the first one.
 pub rest_of-step : (bytes : List ℕ) → rest_of bytes ≡ option_map_or (λ found. rest_of found.1) (first_entry bytes) bytes
 unfolding rest_within
 rest_of-step = walk-step rest_within (λ b. b) (λ entry rest. rest) (λ b. refl) (λ n b. refl)
 
--- The same two where the first entry is known ..
+-- The same two if the first entry is known.
 pub entries_of-first : (bytes : List ℕ) (entry : Entry) (rest : List ℕ) → first_entry bytes ≡ Some (entry, rest)
     → entries_of bytes ≡ entry ∷ entries_of rest
 entries_of-first bytes entry rest e = entries_of-step bytes
@@ -226,14 +227,14 @@ read_first bytes entry rest e =
     let found : first_entry bytes ≡ Some (entry, rest) = sym {a = Some (entry, rest)} e in
     (entries_of-first bytes entry rest found, sym (rest_of-first bytes entry rest found))
 
--- .. and where there is none.
+-- The same two if there is no entry.
 pub entries_of-none : (bytes : List ℕ) → first_entry bytes ≡ None → entries_of bytes ≡ []
 entries_of-none bytes e = entries_of-step bytes ∙ ap (λ o. option_map_or (λ found. found.0 ∷ entries_of found.1) o []) e
 
 pub rest_of-none : (bytes : List ℕ) → first_entry bytes ≡ None → rest_of bytes ≡ bytes
 rest_of-none bytes e = rest_of-step bytes ∙ ap (λ o. option_map_or (λ found. rest_of found.1) o bytes) e
 
--- entries that were read are the bytes up to the rest, for each count
+-- Entries that were read, for each limit, are the bytes up to the rest.
 entries_within-parts : (count : ℕ) (bytes : List ℕ) → IsBytes bytes
     → (bytes ≡ entries_bytes (entries_within count bytes) ++ rest_within count bytes)
     × AllByRecursion FitsEntry (entries_within count bytes)
@@ -255,13 +256,12 @@ entries_within-parts (suc count) bytes fits =
           )
     ] refl
 
--- Bytes are those of the entries that they spell, and then the rest. Each of these entries fits its
--- fields.
+-- Bytes are those of their entries, followed by the rest. Each of these entries fits its fields.
 pub entries_of-parts : (bytes : List ℕ) → IsBytes bytes
     → (bytes ≡ entries_bytes (entries_of bytes) ++ rest_of bytes) × AllByRecursion FitsEntry (entries_of bytes)
 entries_of-parts bytes fits = entries_within-parts (length bytes) bytes fits
 
--- for each count that is at least the length
+-- The rest begins with no entry, for each limit that is at least the length.
 first_entry-rest_within : (count : ℕ) (bytes : List ℕ) → length bytes ≤ count
     → first_entry (rest_within count bytes) ≡ None
 unfolding rest_within
@@ -292,13 +292,13 @@ entries_of-entries_bytes (entry ∷ entries) fits =
       rest_of-first (entries_bytes (entry ∷ entries)) entry (entries_bytes entries) first ∙ others.1,
     )
 
--- Where no rest is left, bytes are those of the entries that they spell.
+-- If no rest is left, bytes are those of their entries.
 entries_bytes-entries_of : (bytes : List ℕ) → IsBytes bytes → rest_of bytes ≡ []
     → entries_bytes (entries_of bytes) ≡ bytes
 entries_bytes-entries_of bytes fits none = sym (append-nil (entries_bytes (entries_of bytes)))
     ∙ ap (λ (t : List ℕ). entries_bytes (entries_of bytes) ++ t) (sym none) ∙ sym (entries_of-parts bytes fits).0
 
--- Entries fill bytes exactly where no rest is left.
+-- Entries fill bytes exactly if no rest is left.
 pub IsFilled-rest_of : (bytes : List ℕ) → IsBytes bytes → 4 + length bytes < 2 ^ 16
     → IsFilled bytes ↔ (rest_of bytes ≡ [])
 IsFilled-rest_of bytes fits short = (

@@ -1,4 +1,4 @@
--- An area at a place: what its head and its bytes say, and the bytes that it is spelled by.
+-- An area at a place: the numbers in its head, its entries, and the bytes that encode it.
 use Rattle.std.proofs.Common.{◌≡◌, ℕ, ◌+◌, ◌-◌, ◌^◌, ◌<◌, ◌≤◌, List, ◌++◌, length, take, drop, Option, refl, sym, ap, subst, ◌∙◌, arith}
 use Rattle.std.proofs.lemmas.List.{take_at, take-append-drop, length-append, length-drop, length-take-le}
 use Rattle.byteorder.specs.Endian.{little_bytes, little_number}
@@ -11,7 +11,7 @@ use Rattle.common.proofs.Bytes.{IsBytes-drop}
 use Rattle.image_reading.proofs.AreaLaws.{little_bytes-little_number_2}
 use Rattle.image_reading.specs.Fault.{HasAreaHead, IsArea, IsAreaFault, IsTotal, magic_at, total_at, entries_at}
 
--- These entries' area lies at a place.
+-- The area of these entries is at a place.
 pub record IsAreaOf (bytes : List ℕ) (place magic : ℕ) (entries : List Entry) : Type 0 where
   pub head : HasAreaHead bytes place
   pub magic_is : magic_at bytes place ≡ magic
@@ -19,13 +19,13 @@ pub record IsAreaOf (bytes : List ℕ) (place magic : ℕ) (entries : List Entry
   pub within : place + total_at bytes place ≤ length bytes
   pub entries_are : entries_at bytes place ≡ entries_bytes entries
 
--- The first two bytes spell the number in them.
+-- The first two bytes are those of the number in them.
 first_number : (bytes : List ℕ) → IsBytes bytes → 2 ≤ length bytes
     → bytes ≡ little_bytes 2 (little_number 2 bytes) ++ drop 2 bytes
 first_number bytes fits long = sym
     (ap (λ (x : List ℕ). x ++ drop 2 bytes) (little_bytes-little_number_2 bytes long fits) ∙ take-append-drop 2 bytes)
 
--- An area's bytes and what follows them.
+-- The bytes of an area and the bytes after it.
 area_bytes-append : (magic total : ℕ) (entries : List Entry) (rest : List ℕ)
     → total ≡ 4 + length (entries_bytes entries)
     → little_bytes 2 magic ++ (little_bytes 2 total ++ (entries_bytes entries ++ rest)) ≡ area_bytes magic entries ++
@@ -33,7 +33,7 @@ area_bytes-append : (magic total : ℕ) (entries : List Entry) (rest : List ℕ)
 area_bytes-append magic total entries rest e = ap
     (λ (k : ℕ). little_bytes 2 magic ++ (little_bytes 2 k ++ (entries_bytes entries ++ rest))) e
 
--- Bytes at the place of an area are the area's bytes and what follows them.
+-- The bytes at the place of an area are the area's bytes and the bytes after it.
 pub drop-area : (bytes : List ℕ) (place magic : ℕ) (entries : List Entry) → IsBytes bytes
     → IsAreaOf bytes place magic entries
     → drop place bytes ≡ area_bytes magic entries ++ drop (place + total_at bytes place) bytes
@@ -59,7 +59,7 @@ drop-area bytes place magic entries fits area =
     (drop (place + total_at bytes place) bytes) area.total
     ∙ ap (λ (k : ℕ). area_bytes k entries ++ drop (place + total_at bytes place) bytes) area.magic_is
 
--- An area lies where its bytes do.
+-- An area is at the place of its bytes.
 pub area_from_bytes : (bytes rest : List ℕ) (place magic : ℕ) (entries : List Entry) → magic < 2 ^ 16
     → FitsArea entries → place ≤ length bytes
     → drop place bytes ≡ area_bytes magic entries ++ rest → IsAreaOf bytes place magic entries
@@ -115,7 +115,7 @@ area_passes bytes place magic expected entries area fits allowed =
     let total = subst (IsTotal expected) (sym area.total) allowed in
     ((((area.head, area.magic_is), total), area.within), (entries, fits, area.entries_are))
 
--- No check fails of an area that passes them.
+-- No check of an area fails if the area passes them.
 pub area_has_no_fault : (bytes : List ℕ) (place magic : ℕ) (expected : Option ℕ) (fault : ImageError)
     → IsArea bytes place magic expected → IsAreaFault bytes place magic expected fault → ⊥
 area_has_no_fault bytes place magic expected fault area failed =
@@ -127,25 +127,25 @@ area_has_no_fault bytes place magic expected fault area failed =
       | IsAreaFault.not_filled before not_filled is ↦ not_filled area.1
     ]
 
--- What the head of an area says is read of its bytes: its magic number ..
+-- The magic number of an area is read from its bytes.
 pub magic_read : (bytes area : List ℕ) (place magic : ℕ) → area ≡ drop place bytes → magic ≡ little_number 2 area
     → magic_at bytes place ≡ magic
 magic_read bytes area place magic at is = ap (little_number 2) (sym at) ∙ sym is
 
--- .. and its length.
+-- The length of an area is read from its bytes.
 total_read : (bytes area : List ℕ) (place total : ℕ) → area ≡ drop place bytes
     → total ≡ little_number 2 (drop 2 area) → total_at bytes place ≡ total
 total_read bytes area place total at is =
     ap (little_number 2) (sym (drop-from 2 place (place + 2) bytes refl))
     ∙ ap (λ (x : List ℕ). little_number 2 (drop 2 x)) (sym at) ∙ sym is
 
--- What was read of the first four bytes: both.
+-- Both numbers are read from the first four bytes.
 pub head_read : (bytes area : List ℕ) (place magic total : ℕ) → area ≡ drop place bytes → magic ≡ little_number 2 area
     → total ≡ little_number 2 (drop 2 area) → (magic_at bytes place ≡ magic) × (total_at bytes place ≡ total)
 head_read bytes area place magic total at magic_is total_is =
     (magic_read bytes area place magic at magic_is, total_read bytes area place total at total_is)
 
--- What was read of an area: its magic number, its length and the bytes of its entries.
+-- What was read of an area: its magic number, its length, and the bytes of its entries.
 pub record AreaRead (bytes : List ℕ) (place magic total : ℕ) (entries : List ℕ) : Type 0 where
   pub magic_is : magic_at bytes place ≡ magic
   pub total_is : total_at bytes place ≡ total

@@ -1,4 +1,4 @@
--- Bytes are an intact image by one description, and no check fails of them.
+-- An intact image has one description, and no check of it fails.
 use Rattle.std.proofs.Common.{◌≡◌, ℕ, ◌+◌, ◌^◌, ◌<◌, ◌≤◌, inl, inr, List, [], ◌∷◌, ◌++◌, length, refl, sym, ap, subst, ◌∙◌, arith}
 use Rattle.std.proofs.lemmas.List.{append-nil, length-append, nil_from_length}
 use Rattle.byteorder.specs.Endian.{little_number}
@@ -30,7 +30,7 @@ same_counter first second a b e =
     sym (little_number-reads_back 4 first [] (omega (arith, a)))
     ∙ ap (λ (x : List ℕ). little_number 4 (x ++ [])) same ∙ little_number-reads_back 4 second [] (omega (arith, b))
 
--- Values spell one counter.
+-- Values encode one counter.
 counter-unique : (values : List (List ℕ)) (first second : ℕ) → SpellCounter values first → SpellCounter values second
     → first ≡ second
 counter-unique values first second a b =
@@ -78,7 +78,7 @@ description-unique image first second a b =
     (a.digest ∙ sym b.digest)
     (a.length_of ∙ sym b.length_of)
 
--- Bytes are an intact image by one description.
+-- Bytes are an intact image with one description.
 pub intact-unique : (bytes : List ℕ) (first second : Desc) → IsIntact bytes first → IsIntact bytes second
     → first ≡ second
 intact-unique bytes first second a b =
@@ -88,14 +88,14 @@ intact-unique bytes first second a b =
 
 -- ---- no fault
 
--- No check of the header fails of an image ..
+-- No check of the header fails for an image.
 no_header_fault : (bytes : List ℕ) (image : Image) (trailing : List ℕ) (fault : HeaderError)
     → BeginsWithImage bytes image trailing → IsHeaderFault bytes fault → ⊥
 no_header_fault bytes image trailing fault begins failed =
     let header = (parts_of_image bytes image trailing begins).header in
     accepted_has_no_fault bytes image.header fault header begins.formed.accepted failed
 
--- .. nor any check that passes.
+-- No check of the digest fails if the digest passes.
 no_digest_fault : (values : List (List ℕ)) (hashed : List ℕ) (fault : ImageError) → SpellDigest values hashed
     → IsDigestFault values hashed fault → ⊥
 no_digest_fault values hashed NoDigest spelled failed = omega (arith, ap length (sym failed ∙ spelled))
@@ -116,7 +116,7 @@ no_counter_fault : (image : Image) (fault : ImageError) → PassesCounter image
 no_counter_fault image BadCounter passes failed = passes.1 failed
 no_counter_fault image other passes failed = failed
 
--- Where the entries pass their checks, nothing but the last check can fail.
+-- If the entries pass their checks, only the last check can fail.
 no_entry_fault : (image : Image) (trailing : List ℕ) (fault : ImageError) → PassesEntries image
     → IsEntryFault image trailing fault → (fault ≡ TrailingBytes) × (0 < length trailing)
 no_entry_fault image trailing fault passes failed =
@@ -146,15 +146,15 @@ no_fault_but_last bytes image trailing fault begins passes failed =
           no_entry_fault image trailing fault passes here
     ]
 
--- No check fails of an intact image.
+-- No check fails for an intact image.
 pub intact_has_no_fault : (bytes : List ℕ) (description : Desc) (fault : ImageError) → IsIntact bytes description
     → IsFirstFault bytes fault → ⊥
 intact_has_no_fault bytes description fault intact failed =
     omega (arith, (no_fault_but_last bytes intact.0 [] fault intact.1 intact.3 failed).1)
 
--- ---- the image that bytes begin with
+-- ---- the image at the beginning of bytes
 
--- Bytes begin with the image that a front of them is.
+-- Bytes begin with the image that their front is.
 begins_with : (bytes : List ℕ) (description : Desc) (intact : BeginsIntact bytes description)
     → BeginsWithImage bytes intact.3.0 intact.1
 begins_with bytes description intact = record {
@@ -163,14 +163,14 @@ begins_with bytes description intact = record {
       ∙ ap (λ (front : List ℕ). front ++ intact.1) (intact.3.1.parts ∙ append-nil (image_bytes intact.3.0));
 }
 
--- No check fails of it.
+-- No check fails for the image at the beginning of bytes.
 pub front_has_no_fault : (bytes : List ℕ) (description : Desc) (fault : ImageError) → BeginsIntact bytes description
     → IsFrontFault bytes fault → ⊥
 front_has_no_fault bytes description fault intact failed =
     let begins = begins_with bytes description intact in
     failed.1 (no_fault_but_last bytes intact.3.0 intact.1 fault begins intact.3.3 failed.0).0
 
--- Bytes begin with an intact image by one description.
+-- The intact image at the beginning of bytes has one description.
 pub front-unique : (bytes : List ℕ) (first second : Desc) → BeginsIntact bytes first → BeginsIntact bytes second
     → first ≡ second
 front-unique bytes first second a b =
@@ -179,7 +179,7 @@ front-unique bytes first second a b =
     let described : Describes a.3.0 second = subst (λ (image : Image). Describes image second) same b.3.2 in
     description-unique a.3.0 first second a.3.2 described
 
--- Its length is what its description says, and the rest follows it.
+-- The length in the description is that of the image, and the rest follows it.
 length_behind : (bytes : List ℕ) (description : Desc) (intact : BeginsIntact bytes description)
     → length bytes ≡ description.length + length intact.1
 length_behind bytes description intact =
@@ -187,7 +187,7 @@ length_behind bytes description intact =
     ap length begins.parts ∙ length-append (image_bytes intact.3.0) intact.1
     ∙ ap (λ (n : ℕ). n + length intact.1) (sym intact.3.2.length_of)
 
--- Where bytes follow it, that is the first fault ..
+-- If bytes follow the image, that is the first fault.
 pub first_behind : (bytes : List ℕ) (description : Desc) → BeginsIntact bytes description
     → description.length < length bytes → IsFirstFault bytes TrailingBytes
 first_behind bytes description intact longer =
@@ -195,7 +195,7 @@ first_behind bytes description intact longer =
     IsFirstFault.in_entries intact.3.0 intact.1 (begins_with bytes description intact)
     (IsEntryFault.behind intact.3.3 some refl)
 
--- .. and where none do, the bytes are that image.
+-- If no bytes follow the image, the bytes are that image.
 pub intact_whole : (bytes : List ℕ) (description : Desc) → BeginsIntact bytes description
     → length bytes ≤ description.length → IsIntact bytes description
 intact_whole bytes description intact whole =

@@ -1,4 +1,4 @@
--- Laws of fields: which values spell dependencies, and which a counter.
+-- Laws about fields: which values encode dependencies, and which a counter.
 use Rattle.std.proofs.Common.{◌≡◌, ◌≢◌, ℕ, ◌%◌, inl, inr, List, [], ◌∷◌, length, drop, slice_index, refl, sym, ap, subst, ◌∙◌, arith}
 use Rattle.std.specs.List.{AllByRecursion}
 use Rattle.std.proofs.lemmas.Bool.{eq-eqb, ne_eqb}
@@ -22,24 +22,24 @@ little_bytes-little_number_4 value fits size = le_bytes_4 value (little_number 4
 
 -- ---- values of a type
 
--- An entry of the type gives its value ..
+-- An entry of the type gives its value.
 pub values_of-same : (kind : ℕ) (entry : Entry) (entries : List Entry) → entry.kind ≡ kind
     → values_of kind (entry ∷ entries) ≡ entry.value ∷ values_of kind entries
 values_of-same kind entry entries same = rw (eq-eqb entry.kind kind same) refl
 
--- .. and another doesn't.
+-- An entry of another type gives no value.
 pub values_of-other : (kind : ℕ) (entry : Entry) (entries : List Entry) → (entry.kind ≡ kind → ⊥)
     → values_of kind (entry ∷ entries) ≡ values_of kind entries
 values_of-other kind entry entries other = rw (ne_eqb entry.kind kind other) refl
 
 -- ---- the digest
 
--- One value that is the digest is all that there is to be ..
+-- If the only value is the digest, the digest passes.
 pub SpellDigest-one : (values : List (List ℕ)) (value digest hashed : List ℕ) → values ≡ value ∷ []
     → digest ≡ sha256 hashed → value ≡ digest → SpellDigest values hashed
 SpellDigest-one values value digest hashed one own same = one ∙ ap (λ (v : List ℕ). v ∷ []) (same ∙ own)
 
--- .. and one that isn't is a fault.
+-- If the only value isn't the digest, that is a fault.
 pub IsDigestFault-other : (values : List (List ℕ)) (value digest hashed : List ℕ) → values ≡ value ∷ []
     → digest ≡ sha256 hashed → value ≢ digest → IsDigestFault values hashed BadDigest
 IsDigestFault-other values value digest hashed one own other =
@@ -47,7 +47,7 @@ IsDigestFault-other values value digest hashed one own other =
 
 -- ---- dependencies
 
--- The dependency whose numbers stand in a value.
+-- The dependency whose numbers are in a value.
 abbrev pub dependency_at : List ℕ → Dependency
 dependency_at value = record {
   image = slice_index value 0;
@@ -60,7 +60,7 @@ dependency_at value = record {
   };
 }
 
--- a dependency, number by number
+-- Dependencies with the same numbers are the same.
 same_minimum : (image major own_major minor own_minor revision own_revision build own_build : ℕ) → major ≡ own_major
     → minor ≡ own_minor → revision ≡ own_revision → build ≡ own_build
     → ◌≡◌ {A = Dependency}
@@ -74,7 +74,7 @@ same_minimum : (image major own_major minor own_minor revision own_revision buil
     })
 same_minimum image major own_major minor own_minor revision own_revision build own_build p q r s = cc
 
--- A dependency's bytes are read as this dependency.
+-- The bytes of a dependency are read as this dependency.
 pub dependency_at-dependency_bytes : (dependency : Dependency) → FitsDependency dependency
     → dependency_at (dependency_bytes dependency) ≡ dependency
 dependency_at-dependency_bytes dependency fits =
@@ -86,14 +86,14 @@ dependency_at-dependency_bytes dependency fits =
     let build = little_number-reads_back 4 dependency.minimum.build [] (omega (arith, fits.minimum.build)) in
     same_minimum dependency.image _ _ _ _ _ _ _ _ major minor revision build
 
--- Two dependencies of the same bytes are the same.
+-- Two dependencies with the same bytes are the same.
 pub dependency_bytes-same : (left right : Dependency) → FitsDependency left → FitsDependency right
     → dependency_bytes left ≡ dependency_bytes right → left ≡ right
 dependency_bytes-same left right left_fits right_fits same =
     sym (dependency_at-dependency_bytes left left_fits) ∙ ap dependency_at same
     ∙ dependency_at-dependency_bytes right right_fits
 
--- The dependency read of bytes fits its fields ..
+-- The dependency that is read from bytes fits its fields.
 pub FitsDependency-dependency_at : (value : List ℕ) → IsBytes value → FitsDependency (dependency_at value)
 FitsDependency-dependency_at value fits = record {
   image = fits 0;
@@ -105,7 +105,7 @@ FitsDependency-dependency_at value fits = record {
   };
 }
 
--- .. and its bytes are these, where they have the form of one.
+-- If bytes have the form of a dependency, they are those of the dependency that is read from them.
 pub dependency_bytes-dependency_at : (value : List ℕ) → IsBytes value → IsDependencyForm value
     → dependency_bytes (dependency_at value) ≡ value
 dependency_bytes-dependency_at (a ∷ b ∷ c ∷ d ∷ e ∷ f ∷ g ∷ h ∷ i ∷ j ∷ k ∷ l ∷ []) fits form =
@@ -121,7 +121,7 @@ dependency_bytes-dependency_at (a ∷ b ∷ c ∷ d ∷ e ∷ f ∷ g ∷ h ∷ 
     cc
 dependency_bytes-dependency_at value fits form = absurd (omega (arith, form.size))
 
--- A dependency's bytes have that form.
+-- The bytes of a dependency have that form.
 pub IsDependencyForm-dependency_bytes : (value : List ℕ) (dependency : Dependency) → value ≡ dependency_bytes dependency
     → IsDependencyForm value
 IsDependencyForm-dependency_bytes value dependency same = record {
@@ -133,7 +133,7 @@ IsDependencyForm-dependency_bytes value dependency same = record {
 
 -- ---- the security counter
 
--- Values that spell a counter are not bad.
+-- Values that encode a counter aren't bad.
 pub SpellCounter-good : (values : List (List ℕ)) (counter : ℕ) → SpellCounter values counter → HasBadCounter values → ⊥
 SpellCounter-good values counter spelled bad =
     elim spelled.1 [

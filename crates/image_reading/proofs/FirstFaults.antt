@@ -1,5 +1,4 @@
--- Bytes have one first fault at most: the checks stand in a row, and the first that fails has its
--- name.
+-- Bytes have at most one first fault: the checks are in a row, and each has its own fault.
 use Rattle.std.proofs.Common.{◌≡◌, ℕ, zero, suc, ◌+◌, ◌<◌, ◌≤◌, inl, inr, List, length, Option, None, Some, refl, sym, ap, subst, ◌∙◌, arith}
 use Rattle.common.specs.Checks.{FailsFirst, PassBefore}
 use Rattle.common.proofs.ChecksLaws.{FailsFirst-unique}
@@ -21,7 +20,7 @@ use Rattle.image_reading.proofs.ImageLaws.{image-unique, parts_of_image}
 
 -- ---- an area
 
--- The checks of an area in their order ..
+-- The checks of an area, in their order.
 abbrev area_check : List ℕ → ℕ → ℕ → Option ℕ → ℕ → Type 0
 area_check bytes place magic expected zero = HasAreaHead bytes place
 area_check bytes place magic expected (suc zero) = magic_at bytes place ≡ magic
@@ -29,7 +28,7 @@ area_check bytes place magic expected (suc (suc zero)) = IsTotal expected (total
 area_check bytes place magic expected (suc (suc (suc zero))) = place + total_at bytes place ≤ length bytes
 area_check bytes place magic expected other = IsFilled (entries_at bytes place)
 
--- .. and what it is called that one fails.
+-- The fault of each check of an area.
 abbrev area_fault_at : ℕ → ImageError
 area_fault_at zero = Truncated
 area_fault_at (suc zero) = BadTlvMagic
@@ -52,7 +51,7 @@ area_fails_at bytes place magic expected fault failed =
           (4, (((((tt, before.0.0.0), before.0.0.1), before.0.1), before.1), not_filled), is)
     ]
 
--- An area has one fault at most.
+-- An area has at most one fault.
 area_fault-unique : (bytes : List ℕ) (place magic : ℕ) (expected : Option ℕ) (first second : ImageError)
     → IsAreaFault bytes place magic expected first → IsAreaFault bytes place magic expected second → first ≡ second
 area_fault-unique bytes place magic expected first second a b =
@@ -61,7 +60,7 @@ area_fault-unique bytes place magic expected first second a b =
     at.2 ∙ ap area_fault_at (FailsFirst-unique (area_check bytes place magic expected) at.0 too.0 at.1 too.1)
     ∙ sym too.2
 
--- An area whose place and length one header says has one fault.
+-- An area whose place and length depend on a header has one fault.
 header_area_fault-unique : (place : Header → ℕ) (magic : ℕ) (expected : Header → Option ℕ) (bytes : List ℕ)
     (header own : Header) (first second : ImageError) → BeginsWith bytes header → BeginsWith bytes own
     → IsAreaFault bytes (place header) magic (expected header) first
@@ -71,7 +70,7 @@ header_area_fault-unique place magic expected bytes header own first second begi
     let too = subst (λ (h : Header). IsAreaFault bytes (place h) magic (expected h) second) same b in
     area_fault-unique bytes (place header) magic (expected header) first second a too
 
--- A protected area that is there or absent has no fault.
+-- A protected area that passes its checks or is absent has no fault.
 no_protected_fault : (bytes : List ℕ) (header own : Header) (fault : ImageError)
     → BeginsWith bytes header → BeginsWith bytes own → HasProtectedArea bytes own
     → IsProtectedFault bytes header fault → 0 < header.protected_size → ⊥
@@ -85,7 +84,7 @@ no_protected_fault bytes header own fault begins own_begins passes failed some =
 
 -- ---- the entries, and what follows the image
 
--- The checks behind those of the areas in their order ..
+-- The checks after those of the areas, in their order.
 abbrev entry_check : Image → List ℕ → ℕ → Type 0
 entry_check image trailing zero = 1 ≤ length (digest_values image)
 entry_check image trailing (suc zero) = length (digest_values image) ≤ 1
@@ -96,7 +95,7 @@ entry_check image trailing (suc (suc (suc (suc (suc zero))))) = length (group_va
 entry_check image trailing (suc (suc (suc (suc (suc (suc zero)))))) = HasBadCounter (counter_values image) → ⊥
 entry_check image trailing other = length trailing ≤ 0
 
--- .. and what it is called that one fails.
+-- The fault of each of these checks.
 abbrev entry_fault_at : ℕ → ImageError
 entry_fault_at zero = NoDigest
 entry_fault_at (suc zero) = TwoDigests
@@ -111,13 +110,13 @@ entry_fault_at other = TrailingBytes
 abbrev FailsAt : Image → List ℕ → ImageError → Type 0
 FailsAt image trailing fault = (k : ℕ) × FailsFirst (entry_check image trailing) k × (fault ≡ entry_fault_at k)
 
--- An image that passes the check of its digest passes those before it ..
+-- An image that passes the check of its digest passes those before it.
 digest_passes : (image : Image) (trailing : List ℕ) → PassesDigest image → PassBefore (entry_check image trailing) 3
 digest_passes image trailing digest =
     let one : length (digest_values image) ≡ 1 = ap length digest in
     (((tt, omega (arith, one)), omega (arith, one)), digest)
 
--- .. and likewise those of its dependencies and groups ..
+-- An image that passes the check of its dependencies and groups passes those before it.
 dependencies_pass : (image : Image) (trailing : List ℕ) → PassesDependencies image
     → PassBefore (entry_check image trailing) 4
 dependencies_pass image trailing passes = (digest_passes image trailing passes.0, passes.1)
@@ -178,7 +177,7 @@ entry_fails_at image trailing fault failed =
           (7, (passed, λ none. omega (arith, none, some)), is)
     ]
 
--- The image that bytes begin with has one such fault at most.
+-- The image at the beginning of bytes has at most one such fault.
 entry_fault-unique : (bytes : List ℕ) (image own : Image) (trailing own_trailing : List ℕ) (first second : ImageError)
     → BeginsWithImage bytes image trailing → BeginsWithImage bytes own own_trailing
     → IsEntryFault image trailing first → IsEntryFault own own_trailing second → first ≡ second
@@ -197,12 +196,12 @@ begins_accepted : (bytes : List ℕ) (image : Image) (trailing : List ℕ) → B
 begins_accepted bytes image trailing begins =
     ((parts_of_image bytes image trailing begins).header, begins.formed.accepted)
 
--- No check of a header fails of bytes that begin with one that is accepted.
+-- No check of a header fails if the bytes begin with an accepted header.
 no_header_fault : (bytes : List ℕ) (header : Header) (fault : HeaderError) → BeginsAccepted bytes header
     → IsHeaderFault bytes fault → ⊥
 no_header_fault bytes header fault begins failed = accepted_has_no_fault bytes header fault begins.0 begins.1 failed
 
--- Bytes have one first fault at most.
+-- Bytes have at most one first fault.
 pub first_fault-unique : (bytes : List ℕ) (first second : ImageError) → IsFirstFault bytes first
     → IsFirstFault bytes second → first ≡ second
 first_fault-unique bytes first second a b =

@@ -1,5 +1,5 @@
--- What the entries that were gathered of a front say of the image that bytes begin with: which check
--- fails first, or how the image is described.
+-- What the gathered fields of a front imply for the image at the beginning of bytes: the first
+-- check that fails, or the description.
 use Rattle.std.proofs.Common.{◌≡◌, ◌≢◌, ℕ, List, [], ◌∷◌, drop, sym, ap, subst, ◌∙◌}
 use Rattle.std.proofs.lemmas.List.{append-nil}
 use Rattle.sha2.specs.Sha256.{sha256}
@@ -22,40 +22,40 @@ use Rattle.image_reading.proofs.AreaLaws.{entries_of-entries_bytes}
 use Rattle.image_reading.proofs.Descriptions.{desc}
 use Rattle.image_reading.proofs.Needs.{passes_counter, passes_needs}
 
--- ---- what was read of the entries
+-- ---- the fields that were read
 
--- The values of one digest entry, which were gathered of a front, spell its digest ..
+-- The value of the only digest entry of a front is its digest.
 abbrev pub ReadsDigest : Chip → Front → Type 0
 ReadsDigest chip front = (values : List (List ℕ)) → IsOccurrence chip values [] front.unprotected.digest
     → SpellDigest values (bytes_of chip front.hashed)
 
--- .. or this is the fault of them.
+-- This is the fault of the digest entries of a front.
 abbrev pub ReadsDigestFault : Chip → Front → ImageError → Type 0
 ReadsDigestFault chip front fault = (values : List (List ℕ)) → IsOccurrence chip values [] front.unprotected.digest
     → IsDigestFault values (bytes_of chip front.hashed) fault
 
--- The dependencies and groups that were gathered of a front are these needs ..
+-- The gathered dependencies and groups of a front are these needs.
 abbrev pub ReadsNeeds : Front → Needs → Type 0
 ReadsNeeds front needs = (values others : List (List ℕ)) → HaveMetDependencies values [] front.protected.dependencies
     → HaveMetGroups others [] front.protected.groups → AreNeeds values others needs
 
--- .. or this is the fault of them.
+-- This is the fault of the gathered dependencies and groups.
 abbrev pub ReadsNeedsFault : Front → ImageError → Type 0
 ReadsNeedsFault front fault = (values others : List (List ℕ))
     → HaveMetDependencies values [] front.protected.dependencies
     → HaveMetGroups others [] front.protected.groups → IsDependencyFault values others fault
 
--- The security counter that was gathered of a front is this one ..
+-- The gathered security counter of a front is this one.
 abbrev pub ReadsCounter : Chip → Front → ℕ → Type 0
 ReadsCounter chip front counter = (values : List (List ℕ)) → IsOccurrence chip values [] front.protected.counter
     → SpellCounter values counter
 
--- .. or this is the fault of it.
+-- This is the fault of the gathered security counter.
 abbrev pub ReadsCounterFault : Chip → Front → ImageError → Type 0
 ReadsCounterFault chip front fault = (values : List (List ℕ)) → IsOccurrence chip values [] front.protected.counter
     → IsCounterFault values fault
 
--- ---- it is so of the image
+-- ---- the same for the image
 
 -- The values of a front's entries are the image's.
 unprotected_values : (chip : Chip) (bytes : List ℕ) (front : Front) (image : Image) (kind : ℕ)
@@ -71,7 +71,7 @@ protected_values chip bytes front image kind is =
     let read = (entries_of-entries_bytes image.protected is.begins.formed.protected.each).0 in
     ap (values_of kind) (ap entries_of is.protected ∙ read)
 
--- The digest entry of a front that holds its digest is the image's digest.
+-- If the digest entry of a front holds its digest, the image's digest passes.
 passes_digest : (chip : Chip) (bytes : List ℕ) (front : Front) (image : Image) → IsFrontOf chip bytes front image
     → SpellDigest (values_at digest_kind chip front.unprotected.entries) (bytes_of chip front.hashed)
     → PassesDigest image
@@ -85,7 +85,7 @@ digest_passed chip bytes front image is gathered read =
     passes_digest chip bytes front image is
     (read (values_at digest_kind chip front.unprotected.entries) gathered.unprotected)
 
--- What is needed by the values of a front's entries is needed by the image's.
+-- The needs of a front's entries are the image's.
 has_needs : (chip : Chip) (bytes : List ℕ) (front : Front) (image : Image) (needs : Needs)
     → IsFrontOf chip bytes front image
     → AreNeeds (values_at dependency_kind chip front.protected.entries)
@@ -135,7 +135,7 @@ counter_not_behind values other failed = absurd failed
 
 -- ---- the first check that fails
 
--- What fails of the digest entry is the first fault ..
+-- The fault of the digest entries is the first fault.
 pub first_in_digest : (chip : Chip) (bytes : List ℕ) (front : Front) (image : Image) (fault : ImageError)
     → IsFrontOf chip bytes front image → HasGathered chip front → ReadsDigestFault chip front fault
     → IsFrontFault bytes fault
@@ -149,7 +149,7 @@ first_in_digest chip bytes front image fault is gathered failed =
       digest_not_behind read (bytes_of chip front.hashed) fault found,
     )
 
--- .. and then that of the dependencies and groups ..
+-- If the digest passes, the fault of the dependencies and groups is the first fault.
 pub first_in_needs : (chip : Chip) (bytes : List ℕ) (front : Front) (image : Image) (fault : ImageError)
     → IsFrontOf chip bytes front image → HasGathered chip front → ReadsDigest chip front
     → ReadsNeedsFault front fault → IsFrontFault bytes fault
@@ -167,7 +167,7 @@ first_in_needs chip bytes front image fault is gathered read failed =
       dependencies_not_behind (dependency_values image) (group_values image) fault own,
     )
 
--- .. and that of the security counter.
+-- If these pass too, the fault of the security counter is the first fault.
 pub first_in_counter : (chip : Chip) (bytes : List ℕ) (front : Front) (image : Image) (needs : Needs)
     (fault : ImageError) → IsFrontOf chip bytes front image → HasGathered chip front → ReadsDigest chip front
     → ReadsNeeds front needs → ReadsCounterFault chip front fault → IsFrontFault bytes fault
@@ -183,7 +183,7 @@ first_in_counter chip bytes front image needs fault is gathered read checked fai
 
 -- ---- the description
 
--- A front that passes all checks is an intact image, which the bytes begin with.
+-- If a front passes all checks, the bytes begin with an intact image.
 pub intact_front : (chip : Chip) (bytes : List ℕ) (front : Front) (image : Image) (digest : List ℕ) (needs : Needs)
     (counter : ℕ) → IsFrontOf chip bytes front image → HasGathered chip front → ReadsDigest chip front
     → ReadsNeeds front needs → digest ≡ sha256 (bytes_of chip front.hashed) → ReadsCounter chip front counter

@@ -1,5 +1,4 @@
--- The image that lies where a header and areas pass their checks, and that no image lies where a
--- check fails.
+-- If a header and its areas pass their checks, there is an image. If a check fails, there is none.
 use Rattle.std.proofs.Common.{◌≡◌, ◌≢◌, ℕ, ◌+◌, ◌-◌, ◌<◌, ◌≤◌, ◌⊎◌, inl, inr, List, [], ◌++◌, length, take, drop, Option, None, Some, refl, sym, ap, subst, ◌∙◌, append_assoc, arith}
 use Rattle.std.proofs.lemmas.List.{length-append, length-drop, length-take-le, take-append-drop}
 use Rattle.image_header.specs.declared.header.Header.{Header}
@@ -24,7 +23,7 @@ use Rattle.image_reading.proofs.Parts.{whole_of}
 
 -- ---- an image from its parts
 
--- The image with this header and these entries, whose other parts lie in bytes.
+-- The image with this header and these entries, and with its other parts from the bytes.
 abbrev pub front_image : Header → List ℕ → List Entry → List Entry → Image
 front_image header bytes protected unprotected = record {
   header = header;
@@ -34,13 +33,13 @@ front_image header bytes protected unprotected = record {
   unprotected = unprotected;
 }
 
--- The entries of the protected area, which is absent or lies at its place.
+-- The entries of the protected area, which is absent or at its place.
 abbrev pub IsProtectedOf : List ℕ → Header → List Entry → Type 0
 IsProtectedOf bytes header protected = ((header.protected_size ≡ 0) × (protected ≡ []))
     ⊎ ((0 < header.protected_size) × IsAreaOf bytes (protected_place header) protected_magic protected
     × (total_at bytes (protected_place header) ≡ header.protected_size))
 
--- The bytes of the protected area lie before the unprotected one.
+-- The bytes of the protected area are before the unprotected area.
 drop-protected : (bytes : List ℕ) (header : Header) (protected unprotected : List Entry) → IsBytes bytes
     → IsProtectedOf bytes header protected
     → drop (protected_place header) bytes ≡ protected_bytes (front_image header bytes protected unprotected) ++ drop
@@ -71,7 +70,7 @@ absent_entries : (bytes : List ℕ) (header : Header) (protected : List Entry) �
 absent_entries bytes header protected (inl absent) none = absent.1
 absent_entries bytes header protected (inr there) none = absurd (omega (arith, there.0))
 
--- An image lies where its header and its areas do.
+-- Bytes begin with an image if its header and its areas are at their places.
 pub image_from_areas : (bytes : List ℕ) (header : Header) (protected unprotected : List Entry) → IsBytes bytes
     → BeginsWith bytes header → IsAccepted header
     → IsProtectedOf bytes header protected → FitsArea protected
@@ -123,7 +122,7 @@ image_from_areas bytes header protected unprotected fits begins accepted protect
           ∙ sym (append_assoc (hashed_bytes image) (area_bytes unprotected_magic unprotected) trailing);
     }
 
--- ---- what a front is
+-- ---- the image of a front
 
 -- The entries of a protected area that was found.
 abbrev FoundProtected : List ℕ → Header → List ℕ → Type 0
@@ -142,7 +141,7 @@ found_protected bytes found header (inr there) =
     let area = area_of_entries bytes (protected_place header) protected_magic size filled.0 there.1 total.1 filled.2 in
     (filled.0, inr (there.0, area, total.0), filled.1, there.2 ∙ filled.2)
 
--- The length of an image is the place of what follows it.
+-- The length of an image is the place of the bytes after it.
 length-image : (bytes : List ℕ) (image : Image) (place : ℕ) → place ≤ length bytes
     → BeginsWithImage bytes image (drop place bytes) → place ≡ length (image_bytes image)
 length-image bytes image place near begins =
@@ -151,7 +150,7 @@ length-image bytes image place near begins =
     ∙ ap (λ (k : ℕ). length (image_bytes image) + k) (length-drop place bytes) in
     omega (arith, len, near)
 
--- What was found is an image, by its parts.
+-- A front that was found is an image, by its parts.
 pub is_front : (chip : Chip) (bytes : List ℕ) (front : Front) → IsBytes bytes → BeginsWith bytes front.header
     → IsAccepted front.header
     → IsProtected bytes (protected_place front.header) front.header.protected_size
@@ -189,7 +188,7 @@ is_front chip bytes front fits begins accepted protected_is area unprotected_is 
       },
     )
 
--- ---- where a check fails
+-- ---- if a check fails
 
 -- No fault of a header or of an area is that bytes follow.
 header_not_behind : (own : HeaderError) → image_fault own ≢ TrailingBytes
@@ -209,7 +208,7 @@ area_not_behind bytes place magic expected fault failed =
       | IsAreaFault.not_filled before not_filled is ↦ λ behind. cc
     ]
 
--- What fails of the header, of the protected area ..
+-- The fault of the header, or of the protected area, is the first fault, whatever follows.
 pub front_in_header : (bytes : List ℕ) (own : HeaderError) → IsHeaderFault bytes own
     → IsFrontFault bytes (image_fault own)
 front_in_header bytes own failed = (IsFirstFault.in_header own failed refl, header_not_behind own)
@@ -221,7 +220,7 @@ front_in_protected bytes header fault begins some failed = (
   area_not_behind bytes (protected_place header) protected_magic (Some header.protected_size) fault failed,
 )
 
--- .. or of the unprotected one is the first fault, whatever may follow.
+-- The fault of the unprotected area is the first fault, whatever follows.
 pub front_in_unprotected : (bytes : List ℕ) (header : Header) (fault : ImageError) → BeginsAccepted bytes header
     → HasProtectedArea bytes header → IsUnprotectedFault bytes header fault → IsFrontFault bytes fault
 front_in_unprotected bytes header fault begins before failed = (
@@ -235,7 +234,7 @@ pub found_passes : (bytes found : List ℕ) (header : Header)
 found_passes bytes found header (inl absent) = inl absent.0
 found_passes bytes found header (inr there) = inr (there.0, there.1)
 
--- Bytes whose protected area fails begin with no image ..
+-- If the protected area fails its checks, the bytes don't begin with an image.
 pub no_image_in_protected : (bytes : List ℕ) (header : Header) (fault : ImageError) → BeginsWith bytes header
     → 0 < header.protected_size → IsProtectedFault bytes header fault
     → (image : Image) (trailing : List ℕ) → BeginsWithImage bytes image trailing → ⊥
@@ -250,7 +249,7 @@ no_image_in_protected bytes header fault begins some failed image trailing is =
       | inr there ↦ area_has_no_fault bytes (protected_place header) protected_magic size fault there.1 failed
     ]
 
--- .. and those whose unprotected area fails.
+-- If the unprotected area fails its checks, the bytes don't begin with an image.
 pub no_image_in_unprotected : (bytes : List ℕ) (header : Header) (fault : ImageError) → BeginsWith bytes header
     → IsUnprotectedFault bytes header fault
     → (image : Image) (trailing : List ℕ) → BeginsWithImage bytes image trailing → ⊥

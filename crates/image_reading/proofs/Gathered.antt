@@ -1,4 +1,4 @@
--- What a walk over the entries of one type keeps of what they spell.
+-- The items that a walk over the entries of one type keeps.
 use Rattle.std.proofs.Common.{◌≡◌, ℕ, ◌+◌, ◌<◌, ◌≤◌, Bool, true, false, List, [], ◌∷◌, ◌++◌, length, map, refl, sym, ap, subst, ◌∙◌, arith}
 use Rattle.std.specs.List.{AllByRecursion, Any}
 use Rattle.std.proofs.lemmas.Bool.{le-ltb, lt-ltb, ltb-true, ltb-false}
@@ -9,7 +9,7 @@ use Rattle.image_reading.specs.Area.{Entry, values_of}
 use Rattle.image_reading.specs.Gathered.{AreKept, HasMet, Spelling}
 use Rattle.image_reading.proofs.FieldLaws.{values_of-same}
 
--- the next entry has the type that is looked for, so its value is the next one
+-- If the next entry has the type, its value is the next one.
 pub HasMet-next : {X : Type 0} (spelling : Spelling X) (most : ℕ) (values : List (List ℕ)) (kind : ℕ) (entry : Entry)
     (left : List Entry) (met : Met X most) → entry.kind ≡ kind
     → HasMet spelling most values (values_of kind (entry ∷ left)) met
@@ -17,7 +17,7 @@ pub HasMet-next : {X : Type 0} (spelling : Spelling X) (most : ℕ) (values : Li
 HasMet-next spelling most values kind entry left met same before =
     subst (λ (rest : List (List ℕ)). HasMet spelling most values rest met) (values_of-same kind entry left same) before
 
--- one value more is spelled
+-- One more value encodes an item.
 spelled_more : {X : Type 0} (bytes : X → List ℕ) (values left : List (List ℕ)) (value : List ℕ) (found : List X)
     (item : X) → values ≡ map bytes found ++ value ∷ left → value ≡ bytes item
     → values ≡ map bytes (found ++ item ∷ []) ++ left
@@ -26,7 +26,7 @@ spelled_more bytes values left value found item so_far is =
     ∙ sym (append_assoc (map bytes found) (bytes item ∷ []) left)
     ∙ ap (λ (t : List (List ℕ)). t ++ left) (sym (map-append bytes found (item ∷ [])))
 
--- nothing is read yet
+-- No value was read yet.
 pub AreKept-none : {X : Type 0} (spelling : Spelling X) (most : ℕ) (values : List (List ℕ))
     → AreKept spelling most values values [] false
 AreKept-none {X = X} spelling most values = record {
@@ -37,7 +37,7 @@ AreKept-none {X = X} spelling most values = record {
   over = sym (le-ltb most 0 (omega arith));
 }
 
--- one thing for which there is room
+-- One more item is kept, if the limit isn't reached.
 pub AreKept-push : {X : Type 0} (spelling : Spelling X) (most : ℕ) (values left : List (List ℕ)) (value : List ℕ)
     (items : List X) (too_many : Bool) (item : X) → AreKept spelling most values (value ∷ left) items too_many
     → spelling.Fits item → value ≡ spelling.bytes item → length items < most
@@ -56,7 +56,7 @@ AreKept-push {X = X} spelling most values left value items too_many item kept fi
           ∙ sym (le-ltb most (length (kept.found ++ item ∷ [])) (omega (arith, few, one)));
     }
 
--- one for which there is none
+-- One more item isn't kept, if the limit is reached.
 pub AreKept-over : {X : Type 0} (spelling : Spelling X) (most : ℕ) (values left : List (List ℕ)) (value : List ℕ)
     (items : List X) (too_many : Bool) (item : X) → AreKept spelling most values (value ∷ left) items too_many
     → spelling.Fits item → value ≡ spelling.bytes item → most ≤ length items
@@ -72,7 +72,7 @@ AreKept-over spelling most values left value items too_many item kept fits is fu
       over = sym (lt-ltb most (length (kept.found ++ item ∷ [])) (omega (arith, many, one)));
     }
 
--- a value that hasn't the form
+-- A value doesn't have the form of an item.
 pub AreKept-bad : {X : Type 0} (spelling : Spelling X) (most : ℕ) (values left : List (List ℕ)) (value : List ℕ)
     (items : List X) (too_many : Bool) → AreKept spelling most values (value ∷ left) items too_many
     → (spelling.IsForm value → ⊥) → Any (λ v. spelling.IsForm v → ⊥) values
@@ -80,7 +80,7 @@ AreKept-bad spelling most values left value items too_many kept bad =
     let Bad = λ (v : List ℕ). spelling.IsForm v → ⊥ in
     subst (Any Bad) (sym kept.spelled) (Any-between Bad (map spelling.bytes kept.found) left value bad)
 
--- All values are spelled, by things that fit.
+-- All values encode items that fit.
 pub record AreSpelled {X : Type 0} (spelling : Spelling X) (values : List (List ℕ)) (items : List X) : Type 0 where
   pub fit : AllByRecursion spelling.Fits items
   pub spelled : values ≡ map spelling.bytes items
@@ -89,13 +89,13 @@ pub count_spelled : {X : Type 0} (spelling : Spelling X) (values : List (List �
     → AreSpelled spelling values items → length values ≡ length items
 count_spelled spelling values items all = ap length all.spelled ∙ length-map items spelling.bytes
 
--- At the end all values are spelled by what was found ..
+-- At the end all values encode the items that were found.
 pub found_at_end : {X : Type 0} (spelling : Spelling X) (most : ℕ) (values : List (List ℕ)) (items : List X)
     (too_many : Bool) (kept : AreKept spelling most values [] items too_many) → AreSpelled spelling values kept.found
 found_at_end spelling most values items too_many kept =
     record { fit = kept.fit; spelled = kept.spelled ∙ append-nil (map spelling.bytes kept.found) }
 
--- .. which is too many, where that was noted ..
+-- If it was recorded that there are too many, there are.
 pub many_at_end : {X : Type 0} (spelling : Spelling X) (most : ℕ) (values : List (List ℕ)) (items : List X)
     (too_many : Bool) → AreKept spelling most values [] items too_many → too_many ≡ true → most < length values
 many_at_end spelling most values items too_many kept over =
@@ -103,7 +103,7 @@ many_at_end spelling most values items too_many kept over =
     let count = count_spelled spelling values kept.found (found_at_end spelling most values items too_many kept) in
     omega (arith, many, count)
 
--- .. and not where it wasn't ..
+-- If it wasn't recorded that there are too many, there aren't.
 pub few_at_end : {X : Type 0} (spelling : Spelling X) (most : ℕ) (values : List (List ℕ)) (items : List X)
     (too_many : Bool) → AreKept spelling most values [] items too_many → too_many ≡ false → length values ≤ most
 few_at_end spelling most values items too_many kept within =
@@ -111,7 +111,7 @@ few_at_end spelling most values items too_many kept within =
     let count = count_spelled spelling values kept.found (found_at_end spelling most values items too_many kept) in
     omega (arith, few, count)
 
--- .. and then all of it was kept.
+-- If it wasn't recorded that there are too many, all items were kept.
 pub kept_at_end : {X : Type 0} (spelling : Spelling X) (most : ℕ) (values : List (List ℕ)) (items : List X)
     (too_many : Bool) → AreKept spelling most values [] items too_many → too_many ≡ false
     → AreSpelled spelling values items

@@ -1,4 +1,4 @@
--- Laws of groups: which values spell them, and that each spells one.
+-- Laws about groups: which values encode them, and that each value encodes one.
 use Rattle.std.proofs.Common.{◌≡◌, ℕ, zero, suc, ◌+◌, ◌*◌, ◌<◌, List, [], ◌∷◌, ◌++◌, length, take, drop, refl, sym, ap, subst, ◌∙◌, arith, length-append}
 use Rattle.std.specs.List.{AllByRecursion}
 use Rattle.std.proofs.Math.Seq.{drop-append-add, drop-append_seam}
@@ -9,13 +9,13 @@ use Rattle.version_order.specs.declared.group.Group.{Group}
 use Rattle.image_reading.specs.Fields.{FitsDependency, FitsGroup, IsDependencyForm, IsGroupForm, alternatives_bytes, dependency_bytes, group_bytes}
 use Rattle.image_reading.proofs.FieldLaws.{IsDependencyForm-dependency_bytes, dependency_bytes-same}
 
--- Alternatives take twelve bytes each.
+-- Each alternative has twelve bytes.
 pub length-alternatives_bytes : (alternatives : List Dependency)
     → length (alternatives_bytes alternatives) ≡ 12 * length alternatives
 length-alternatives_bytes [] = refl
 length-alternatives_bytes (alternative ∷ alternatives) = omega (arith, length-alternatives_bytes alternatives)
 
--- Each has the form of a dependency in its place.
+-- Each alternative has the form of a dependency at its place.
 alternative_form : (alternatives : List Dependency) (k : ℕ) → k < length alternatives
     → IsDependencyForm (take 12 (drop (12 * k) (alternatives_bytes alternatives)))
 alternative_form [] k within = absurd (omega arith)
@@ -30,7 +30,7 @@ alternative_form (alternative ∷ alternatives) (suc k) within =
     subst (λ (bytes : List ℕ). IsDependencyForm (take 12 bytes)) (sym there)
     (alternative_form alternatives k (omega (arith, within)))
 
--- A group's bytes have the form of one.
+-- The bytes of a group have the form of one.
 pub IsGroupForm-group_bytes : (group : Group) → FitsGroup group → IsGroupForm (group_bytes group)
 IsGroupForm-group_bytes group fits = record {
   count = length group.alternatives.items;
@@ -40,7 +40,7 @@ IsGroupForm-group_bytes group fits = record {
   each = alternative_form group.alternatives.items;
 }
 
--- Alternatives of the same bytes are the same ..
+-- Alternatives with the same bytes are the same.
 alternatives_bytes-same : (left right : List Dependency) → AllByRecursion FitsDependency left
     → AllByRecursion FitsDependency right → alternatives_bytes left ≡ alternatives_bytes right → left ≡ right
 alternatives_bytes-same [] [] a b e = refl
@@ -51,7 +51,7 @@ alternatives_bytes-same (x ∷ xs) (y ∷ ys) a b e =
     let tail = alternatives_bytes-same xs ys a.1 b.1 (ap (drop 12) e) in
     cc
 
--- .. and so are groups.
+-- Groups with the same bytes are the same.
 pub group_bytes-same : (left right : Group) → FitsGroup left → FitsGroup right → group_bytes left ≡ group_bytes right
     → left ≡ right
 group_bytes-same left right left_fits right_fits same =
@@ -61,7 +61,7 @@ group_bytes-same left right left_fits right_fits same =
 
 -- ---- reading alternative by alternative
 
--- One alternative more is read.
+-- One more alternative is read.
 pub alternative_more : (value rest piece behind : List ℕ) (alternatives : List Dependency) (alternative : Dependency)
     → value ≡ alternatives_bytes alternatives ++ rest → piece ≡ take 12 rest → behind ≡ drop 12 rest
     → piece ≡ dependency_bytes alternative
@@ -78,7 +78,7 @@ alternative_more value rest piece behind alternatives alternative so_far piece_i
     ∙ sym (append_assoc (alternatives_bytes alternatives) own behind)
     ∙ ap (λ (b : List ℕ). b ++ behind) (sym more)
 
--- One that isn't such: the value has not the form of a group.
+-- If an alternative doesn't have its form, the value doesn't have the form of a group.
 pub alternative_bad : (value rest piece : List ℕ) (alternatives : List Dependency)
     → value ≡ alternatives_bytes alternatives ++ rest → 0 < length rest → piece ≡ take 12 rest
     → (IsDependencyForm piece → ⊥) → IsGroupForm value → ⊥

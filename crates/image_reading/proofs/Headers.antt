@@ -1,4 +1,4 @@
--- A header in the first 32 bytes is the header of all.
+-- The header in the first 32 bytes is the header of all bytes.
 use Rattle.std.proofs.Common.{◌≡◌, ℕ, ◌≤◌, List, ◌++◌, length, take, drop, Result, Ok, Err, sym, subst, ap, ◌∙◌, append_assoc, arith}
 use Rattle.std.specs.Prelude.{IfErr, IfOk}
 use Rattle.std.proofs.lemmas.List.{length-take-le, take-append-drop}
@@ -9,7 +9,7 @@ use Rattle.image_header.specs.declared.error.HeaderError.TheVariants.{Short, Bad
 use Rattle.image_header.specs.Header.{BeginsWith, IsAccepted, IsHeaderFault, header_bytes}
 use Rattle.image_reading.specs.Fault.{BeginsAccepted}
 
--- What the first 32 bytes begin with, all bytes begin with ..
+-- If the first 32 bytes begin with a header, so do all bytes.
 BeginsWith-first : (bytes : List ℕ) (header : Header) → BeginsWith (take 32 bytes) header → BeginsWith bytes header
 BeginsWith-first bytes header begins = record {
   fits = begins.fits;
@@ -18,7 +18,7 @@ BeginsWith-first bytes header begins = record {
       ∙ append_assoc (header_bytes header) begins.rest (drop 32 bytes);
 }
 
--- .. and what fails of them fails of all.
+-- The fault of the first 32 bytes is that of all bytes.
 IsHeaderFault-first : (bytes : List ℕ) (fault : HeaderError) → 32 ≤ length bytes → IsHeaderFault (take 32 bytes) fault
     → IsHeaderFault bytes fault
 IsHeaderFault-first bytes Short long failed = absurd (omega (arith, failed, length-take-le 32 bytes long))
@@ -27,14 +27,14 @@ IsHeaderFault-first bytes BadMagic long failed =
 IsHeaderFault-first bytes BadHeaderSize long failed = (failed.0, BeginsWith-first bytes failed.0 failed.1, failed.2)
 IsHeaderFault-first bytes UnsupportedFlags long failed = (failed.0, BeginsWith-first bytes failed.0 failed.1, failed.2)
 
--- So a header that was read of the first 32 bytes is that of all ..
+-- A header that was read from the first 32 bytes is that of all bytes.
 pub header_read : (bytes first : List ℕ) (result : Result Header HeaderError) → first ≡ take 32 bytes
     → IfOk result (λ header. BeginsWith first header × IsAccepted header) → IfOk result (BeginsAccepted bytes)
 header_read bytes first (Ok header) e read =
     (BeginsWith-first bytes header (subst (λ (b : List ℕ). BeginsWith b header) e read.0), read.1)
 header_read bytes first (Err fault) e read = tt
 
--- .. and so is its fault.
+-- A fault that was found in the first 32 bytes is that of all bytes.
 pub header_failed : (bytes first : List ℕ) (result : Result Header HeaderError) → first ≡ take 32 bytes
     → 32 ≤ length bytes → IfErr result (IsHeaderFault first) → IfErr result (IsHeaderFault bytes)
 header_failed bytes first (Ok header) e long failed = tt

@@ -1,4 +1,5 @@
--- Bytes that begin with an image: its parts lie where the header says, and there is one such image.
+-- Bytes that begin with an image have its parts at the places that the header gives, and begin with
+-- only one image.
 use Rattle.std.proofs.Common.{◌≡◌, ℕ, ◌+◌, ◌-◌, ◌<◌, ◌≤◌, inl, inr, cond, eqb, None, Some, List, [], ◌++◌, length, take, drop, refl, sym, ap, ◌∙◌, append_assoc, arith}
 use Rattle.std.proofs.lemmas.Bool.{cases_lt, eq-eqb, ne_eqb, cond-true, cond-false}
 use Rattle.std.proofs.lemmas.List.{append-nil, append_cancel_left, length-append, length-drop, take_at}
@@ -13,9 +14,9 @@ use Rattle.image_reading.specs.Reading.{entries_of}
 use Rattle.image_reading.proofs.Areas.{IsAreaOf, area_from_bytes, area_passes}
 use Rattle.image_reading.proofs.Parts.{parts_of, regrouped}
 
--- ---- the parts of an image that bytes begin with
+-- ---- the parts of the image at the beginning of bytes
 
--- The protected area's bytes, with and without the area.
+-- The bytes of a protected area that is absent or present.
 pub protected_bytes-absent : (image : Image) → image.header.protected_size ≡ 0 → protected_bytes image ≡ []
 protected_bytes-absent image none = cond-true (eqb image.header.protected_size 0) []
     (area_bytes protected_magic image.protected) (eq-eqb image.header.protected_size 0 none)
@@ -30,7 +31,7 @@ length-area_bytes : (magic : ℕ) (entries : List Entry)
     → length (area_bytes magic entries) ≡ 4 + length (entries_bytes entries)
 length-area_bytes magic entries = omega arith
 
--- What bytes that begin with these parts have, at the places that their lengths give.
+-- The bytes at the places of the parts of an image, which follow from the lengths of the parts.
 record HasPartsAt (bytes : List ℕ) (image : Image) (trailing : List ℕ)
     (filler_place body_place protected_place unprotected_place : ℕ) : Type 0 where
   pub after_header : drop filler_place bytes ≡ image.filler ++
@@ -42,7 +43,7 @@ record HasPartsAt (bytes : List ℕ) (image : Image) (trailing : List ℕ)
   pub unprotected : drop unprotected_place bytes ≡ area_bytes unprotected_magic image.unprotected ++ trailing
   pub hashed : take unprotected_place bytes ≡ hashed_bytes image
 
--- What bytes that begin with an image have, part by part.
+-- The parts of bytes that begin with an image.
 pub record HasParts (bytes : List ℕ) (image : Image) (trailing : List ℕ) : Type 0 where
   pub header : BeginsWith bytes image.header
   pub long : 32 ≤ image.header.header_size
@@ -54,7 +55,7 @@ pub record HasParts (bytes : List ℕ) (image : Image) (trailing : List ℕ) : T
       trailing
   pub hashed : take (unprotected_place image.header) bytes ≡ hashed_bytes image
 
--- The places of the parts, over plain lists.
+-- The places of the parts, for plain lists.
 parts_at : (bytes head : List ℕ) (image : Image) (trailing : List ℕ) (a b c d : ℕ)
     → bytes ≡ (head ++ (image.filler ++ (image.body ++ protected_bytes image))) ++
     (area_bytes unprotected_magic image.unprotected ++ trailing)
@@ -109,7 +110,7 @@ parts_of_image bytes image trailing begins =
       hashed = parts.hashed;
     }
 
--- Bytes reach as far as what lies behind a place.
+-- The length of bytes is that of a place, the part there, and the rest.
 reaches : (bytes part rest : List ℕ) (place : ℕ) → drop place bytes ≡ part ++ rest → 0 < length part
     → place + length part + length rest ≡ length bytes
 reaches bytes part rest place e some =
@@ -117,7 +118,7 @@ reaches bytes part rest place e some =
     sym (length-drop place bytes) ∙ ap length e ∙ length-append part rest in
     omega (arith, len, some)
 
--- The unprotected area of an image passes its checks ..
+-- The unprotected area of an image is at its place.
 pub unprotected_of_image : (bytes : List ℕ) (image : Image) (trailing : List ℕ) → BeginsWithImage bytes image trailing
     → IsAreaOf bytes (unprotected_place image.header) unprotected_magic image.unprotected
 unprotected_of_image bytes image trailing begins =
@@ -128,7 +129,7 @@ unprotected_of_image bytes image trailing begins =
     area_from_bytes bytes trailing (unprotected_place image.header) unprotected_magic image.unprotected (omega arith)
     begins.formed.unprotected (omega (arith, reach)) parts.unprotected
 
--- .. and the protected one, where there is one.
+-- The protected area of an image, if it has one, is at its place.
 pub protected_of_image : (bytes : List ℕ) (image : Image) (trailing : List ℕ) → BeginsWithImage bytes image trailing
     → 0 < image.header.protected_size → IsAreaOf bytes (protected_place image.header) protected_magic image.protected
 protected_of_image bytes image trailing begins some =
@@ -141,14 +142,14 @@ protected_of_image bytes image trailing begins some =
     area_from_bytes bytes rest (protected_place image.header) protected_magic image.protected (omega arith)
     begins.formed.protected (omega (arith, reach)) e
 
--- The protected area is as long as the header says.
+-- The length of the protected area is the one in the header.
 protected_total : (bytes : List ℕ) (image : Image) (trailing : List ℕ) → BeginsWithImage bytes image trailing
     → 0 < image.header.protected_size → 4 + length (entries_bytes image.protected) ≡ image.header.protected_size
 protected_total bytes image trailing begins some =
     sym (length-area_bytes protected_magic image.protected) ∙ sym (ap length (protected_bytes-there image some))
     ∙ begins.formed.protected_size
 
--- An image's areas pass their checks.
+-- The protected area of an image is absent or passes its checks.
 pub image_has_protected_area : (bytes : List ℕ) (image : Image) (trailing : List ℕ)
     → BeginsWithImage bytes image trailing → HasProtectedArea bytes image.header
 image_has_protected_area bytes image trailing begins =
@@ -173,7 +174,7 @@ image_has_unprotected_area bytes image trailing begins =
 
 -- ---- one image
 
--- The image that bytes begin with, where they begin with one with this header.
+-- The image at the beginning of bytes with this header, if there is one.
 abbrev pub image_at : Header → List ℕ → Image
 image_at header bytes = record {
   header = header;
@@ -190,13 +191,13 @@ pub same_images : (header : Header) (f1 f2 b1 b2 : List ℕ) (p1 p2 u1 u2 : List
     (record { header = header; filler = f2; body = b2; protected = p2; unprotected = u2 })
 same_images header f1 f2 b1 b2 p1 p2 u1 u2 f b p u = cc
 
--- The entries of an area of an image are those that are read there.
+-- The entries of an area of an image are those that are read at its place.
 entries_read : (bytes : List ℕ) (place magic : ℕ) (entries : List Entry) → FitsArea entries
     → IsAreaOf bytes place magic entries → entries_of (entries_at bytes place) ≡ entries
 entries_read bytes place magic entries fits area = ap entries_of area.entries_are
     ∙ (entries_of-entries_bytes entries fits.each).0
 
--- The image that bytes begin with is the one that lies there.
+-- The image at the beginning of bytes is the one that is read there.
 image_at-image : (bytes : List ℕ) (image : Image) (trailing : List ℕ) → BeginsWithImage bytes image trailing
     → image_at image.header bytes ≡ image
 image_at-image bytes image trailing begins =
@@ -215,7 +216,7 @@ image_at-image bytes image trailing begins =
     (entries_read bytes (unprotected_place image.header) unprotected_magic image.unprotected begins.formed.unprotected
     (unprotected_of_image bytes image trailing begins))
 
--- Bytes that begin with two images begin with one, and the same bytes follow it.
+-- Bytes begin with at most one image, and the same bytes follow it.
 pub image-unique : (bytes : List ℕ) (first second : Image) (more other : List ℕ) → BeginsWithImage bytes first more
     → BeginsWithImage bytes second other → (first ≡ second) × (more ≡ other)
 image-unique bytes first second more other a b =
@@ -229,14 +230,14 @@ image-unique bytes first second more other a b =
     sym a.parts ∙ b.parts ∙ sym (ap (λ (i : Image). image_bytes i ++ other) same) in
     (same, append_cancel_left (image_bytes first) more other rest)
 
--- An image whose bytes begin with another's is that one.
+-- If the bytes of an image begin with those of another, the two are the same.
 pub image_begins_no_other : (first second : Image) (more : List ℕ) → IsWellFormed first → IsWellFormed second
     → image_bytes second ≡ image_bytes first ++ more → (first ≡ second) × (more ≡ [])
 image_begins_no_other first second more one two e =
     image-unique (image_bytes second) first second more [] (record { formed = one; parts = e })
     (record { formed = two; parts = sym (append-nil (image_bytes second)) })
 
--- One front of bytes at most is an image.
+-- At most one front of bytes is an image.
 pub image_front-unique : (first second behind other : List ℕ) (one two : Image) → first ++ behind ≡ second ++ other
     → BeginsWithImage first one [] → BeginsWithImage second two [] → (first ≡ second) × (one ≡ two)
 image_front-unique first second behind other one two e a b =

@@ -1,4 +1,4 @@
--- Dependencies and groups together: which values spell them, and which checks they pass.
+-- Dependencies and groups together: which values encode them, and which checks they pass.
 use Rattle.std.proofs.Common.{◌≡◌, ℕ, ◌≤◌, Bool, true, false, List, [], ◌∷◌, length, map, refl, sym, ap, subst, ◌∙◌, arith}
 use Rattle.std.specs.List.{AllByRecursion, Any}
 use Rattle.common.specs.declared.limits.TheConstants.{MOST_DEPENDENCIES, MOST_GROUPS}
@@ -14,9 +14,9 @@ use Rattle.image_reading.proofs.FieldLaws.{IsDependencyForm-dependency_bytes, Sp
 use Rattle.image_reading.proofs.GroupLaws.{IsGroupForm-group_bytes, group_bytes-same}
 use Rattle.image_reading.proofs.Gathered.{AreSpelled, count_spelled, few_at_end, found_at_end, kept_at_end, many_at_end}
 
--- ---- what is spelled
+-- ---- what values encode
 
--- Things with one spelling in common are the same, where each is known by its bytes.
+-- If items are determined by their bytes, items with the same values are the same.
 spelled-unique : {X : Type 0} (spelling : Spelling X)
     → ((x y : X) → spelling.Fits x → spelling.Fits y → spelling.bytes x ≡ spelling.bytes y → x ≡ y)
     → (first second : List X) → AllByRecursion spelling.Fits first → AllByRecursion spelling.Fits second
@@ -30,13 +30,13 @@ spelled-unique spelling known (x ∷ xs) (y ∷ ys) a b e =
     let tail = spelled-unique spelling known xs ys a.1 b.1 parts.1 in
     cc
 
--- Values spell one list of dependencies ..
+-- Values encode one list of dependencies.
 pub dependencies-unique : (values : List (List ℕ)) (first second : List Dependency) → SpellDependencies values first
     → SpellDependencies values second → first ≡ second
 dependencies-unique values first second a b =
     spelled-unique dependency_spelling dependency_bytes-same first second a.fit b.fit (sym a.spelled ∙ b.spelled)
 
--- .. and one of groups.
+-- Values encode one list of groups.
 pub groups-unique : (values : List (List ℕ)) (first second : List Group) → SpellGroups values first
     → SpellGroups values second → first ≡ second
 groups-unique values first second a b =
@@ -44,7 +44,7 @@ groups-unique values first second a b =
 
 -- ---- forms
 
--- Values that spell things have their form ..
+-- Values that encode items have their form.
 forms_of : {X : Type 0} (spelling : Spelling X)
     → ((x : X) → spelling.Fits x → spelling.IsForm (spelling.bytes x))
     → (items : List X) → AllByRecursion spelling.Fits items
@@ -52,7 +52,7 @@ forms_of : {X : Type 0} (spelling : Spelling X)
 forms_of spelling formed [] fit = tt
 forms_of spelling formed (x ∷ xs) fit = (formed x fit.0, forms_of spelling formed xs fit.1)
 
--- .. so that none is bad.
+-- So no value is bad.
 spelled-good : {X : Type 0} (spelling : Spelling X)
     → ((x : X) → spelling.Fits x → spelling.IsForm (spelling.bytes x))
     → (values : List (List ℕ)) (items : List X) → AreSpelled spelling values items
@@ -72,7 +72,7 @@ groups-good = spelled-good group_spelling IsGroupForm-group_bytes
 
 -- ---- what a walk has kept
 
--- Where none is bad, each has its form.
+-- If no value is bad, each has its form.
 forms_kept : (values others : List (List ℕ)) (dependencies : Met Dependency MOST_DEPENDENCIES)
     (groups : Met Group MOST_GROUPS) → HaveMetDependencies values [] dependencies → HaveMetGroups others [] groups
     → dependencies.bad ≡ false → groups.bad ≡ false → HaveForms values others
@@ -85,7 +85,7 @@ forms_kept values others dependencies groups met met_groups good good_groups =
           (found_at_end group_spelling 4 others groups.kept.items groups.too_many kept_groups),
     )
 
--- There were too many dependencies ..
+-- There were too many dependencies.
 pub too_many_dependencies : (values others : List (List ℕ)) (dependencies : Met Dependency MOST_DEPENDENCIES)
     (groups : Met Group MOST_GROUPS) → HaveMetDependencies values [] dependencies → HaveMetGroups others [] groups
     → dependencies.bad ≡ false → groups.bad ≡ false → dependencies.too_many ≡ true
@@ -95,7 +95,7 @@ too_many_dependencies values others dependencies groups met met_groups good good
   many_at_end dependency_spelling 16 values dependencies.kept.items dependencies.too_many (met.kept good) many,
 )
 
--- .. or not, but too many groups.
+-- There were not too many dependencies, but too many groups.
 pub too_many_groups : (values others : List (List ℕ)) (dependencies : Met Dependency MOST_DEPENDENCIES)
     (groups : Met Group MOST_GROUPS) → HaveMetDependencies values [] dependencies → HaveMetGroups others [] groups
     → dependencies.bad ≡ false → groups.bad ≡ false → dependencies.too_many ≡ false → groups.too_many ≡ true
@@ -106,7 +106,7 @@ too_many_groups values others dependencies groups met met_groups good good_group
   many_at_end group_spelling 4 others groups.kept.items groups.too_many (met_groups.kept good_groups) many,
 )
 
--- Where there weren't, all are kept.
+-- If there weren't too many, all are kept.
 pub SpellDependencies-kept : (values : List (List ℕ)) (items : List Dependency) (too_many : Bool)
     → AreKept dependency_spelling MOST_DEPENDENCIES values [] items too_many → too_many ≡ false
     → SpellDependencies values items
@@ -122,7 +122,7 @@ SpellGroups-kept values items too_many kept few =
 
 -- ---- the checks of an image's entries
 
--- Dependencies and groups that are few pass their checks, and a counter does.
+-- Dependencies and groups within their limits pass their checks, and so does a counter.
 pub passes_needs : (image : Image) (dependencies : List Dependency) (groups : List Group) → PassesDigest image
     → SpellDependencies (dependency_values image) dependencies → SpellGroups (group_values image) groups
     → length dependencies ≤ MOST_DEPENDENCIES → length groups ≤ MOST_GROUPS → PassesGroupCount image

@@ -1,4 +1,4 @@
--- What was gathered of entries can be read, and what is gathered where there are none.
+-- Fields that were gathered can be read, and no fields are gathered if there are no entries.
 use Rattle.std.proofs.Common.{◌≡◌, ℕ, List, [], length, sym, ap, subst, arith}
 use Rattle.common.specs.declared.limits.TheConstants.{MOST_DEPENDENCIES, MOST_GROUPS}
 use Rattle.flash_model.specs.Chip.{Chip}
@@ -15,19 +15,19 @@ use Rattle.image_reading.specs.Reading.{values_read}
 use Rattle.image_reading.specs.Span.{bytes_of}
 use Rattle.image_reading.proofs.AreaLaws.{entries_of-none, first_entry-short}
 
--- What occurs once can be read.
+-- A value that occurs once can be read.
 pub CanReadOccurrence-met : (chip : Chip) (values left : List (List ℕ)) (occurrence : Occurrence)
     → IsOccurrence chip values left occurrence → CanReadOccurrence chip occurrence
 CanReadOccurrence-met chip values left Absent so_far = tt
 CanReadOccurrence-met chip values left (Once value) so_far = so_far.1
 CanReadOccurrence-met chip values left Repeated so_far = tt
 
--- Bytes of which there are none hold no values ..
+-- No bytes have no values.
 no_values : (kind : ℕ) (bytes : List ℕ) → length bytes ≡ 0 → values_read kind bytes ≡ []
 no_values kind bytes none =
     ap (values_of kind) (entries_of-none bytes (first_entry-short bytes (omega (arith, none))))
 
--- .. so that nothing is gathered of them.
+-- So no fields are gathered from no bytes.
 pub HasGatheredProtected-none : (chip : Chip) (entries : Span) (dependencies : Met Dependency MOST_DEPENDENCIES)
     (groups : Met Group MOST_GROUPS) → length (bytes_of chip entries) ≡ 0
     → ((values : List (List ℕ)) → HaveMetDependencies values values dependencies)

@@ -1,4 +1,4 @@
--- Where a slot lies in the flash.
+-- The span of a slot in the flash.
 use Rattle.std.proofs.Common.{◌≡◌, ℕ, ◌+◌, ◌-◌, ◌*◌, ◌<◌, ◌≤◌, true, take, drop, ap, ◌∙◌, arith}
 use Rattle.flash_model.specs.Chip.{Chip, size_of}
 use Rattle.sector_map.specs.declared.layout.SectorMap.{SectorMap}
@@ -11,7 +11,7 @@ use Rattle.image_reading.specs.Slot.{slot_bytes}
 use Rattle.image_reading.specs.Span.{CanRead, bytes_of}
 use Rattle.image_reading.proofs.Spans.{CanRead-span}
 
--- The span from the slot's first byte on, as long as the slot, has the slot's bytes ..
+-- The span at the slot's first byte, with the slot's length, has the slot's bytes.
 pub bytes_of-slot : (map : SectorMap) (chip : Chip) (image : ℕ) (side : Side) (span : Span)
     → span.at ≡ start_of map (Slot image side) → span.len ≡ length_of map (Slot image side)
     → bytes_of chip span ≡ slot_bytes map chip image side
@@ -24,7 +24,7 @@ bytes_of-slot map chip image side span at len =
     ∙ ap (λ (a : ℕ). take ((first_of map slot + count_of map slot) * map.sector_size - start_of map slot)
     (drop a chip.bytes)) at
 
--- .. and can be read where the flash is on.
+-- The span of a slot can be read if the flash is on.
 pub CanRead-slot : (map : SectorMap) (chip : Chip) (image : ℕ) (side : Side) (span : Span) → IsLaidOut map chip
     → image < map.images → chip.is_on ≡ true
     → span.at ≡ start_of map (Slot image side) → span.len ≡ length_of map (Slot image side)

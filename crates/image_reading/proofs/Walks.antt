@@ -1,4 +1,4 @@
--- What a walk over the entries of an area comes to.
+-- The result of a walk over the entries of an area.
 use Rattle.std.proofs.Common.{◌≡◌, ℕ, ◌+◌, ◌^◌, ◌<◌, List, [], ◌∷◌, ◌++◌, length, Option, Some, None, refl, sym, ap, subst, ◌∙◌, ◌↔◌, append_assoc, arith}
 use Rattle.std.specs.List.{AllByRecursion}
 use Rattle.std.proofs.lemmas.Option.{none-some}
@@ -15,7 +15,7 @@ use Rattle.common.proofs.Bytes.{IsBytes-behind}
 use Rattle.image_reading.proofs.Spans.{IsBytes-bytes_of}
 use Rattle.image_reading.proofs.AreaLaws.{IsFilled-rest_of, entries_of-first, entries_of-none, entries_of-parts, first_entry-entry, first_entry-parts, first_entry-rest_of, rest_of-first, rest_of-none}
 
--- The entries of an area and its rest are a walk over it ..
+-- The entries of an area and its rest are a walk over it.
 pub walk_of : (area : List ℕ) → IsBytes area → IsWalk area (entries_of area) (rest_of area)
 walk_of area fits =
     let parts = entries_of-parts area fits in
@@ -28,7 +28,7 @@ walk_of area fits =
           none-some (begins.0, begins.1) (sym none ∙ ap first_entry begins.3 ∙ found);
     }
 
--- .. bytes in which no entry begins have none ..
+-- If no entry is at the beginning of bytes, none is found.
 no_entry : (bytes : List ℕ) (found : Option (Entry × List ℕ)) → IsBytes bytes → (BeginsWithEntry bytes → ⊥)
     → first_entry bytes ≡ found → first_entry bytes ≡ None
 no_entry bytes None fits ended e = e
@@ -36,7 +36,7 @@ no_entry bytes (Some found) fits ended e =
     let parts = first_entry-parts bytes found.0 found.1 fits e in
     absurd (ended (found.0, found.1, parts.0, parts.1))
 
--- .. so that no other walk is possible.
+-- So no other walk is possible.
 walked : (entries : List Entry) (rest : List ℕ) → AllByRecursion FitsEntry entries → first_entry rest ≡ None
     → (entries ≡ entries_of (entries_bytes entries ++ rest)) × (rest ≡ rest_of (entries_bytes entries ++ rest))
 walked [] rest fit none = (sym (entries_of-none rest none), sym (rest_of-none rest none))
@@ -57,21 +57,21 @@ only_walk area entries rest fits walk =
     let same = walked entries rest walk.fit (no_entry rest (first_entry rest) bytes walk.ended refl) in
     (same.0 ∙ ap entries_of (sym walk.parts), same.1 ∙ ap rest_of (sym walk.parts))
 
--- Entries fill an area exactly where nothing is left behind them.
+-- Entries fill an area exactly if nothing is left after them.
 pub IsFilled-left : (area left : List ℕ) → IsBytes area → 4 + length area < 2 ^ 16 → left ≡ rest_of area
     → (length left ≡ 0) ↔ IsFilled area
 IsFilled-left area left fits short same =
     let filled = IsFilled-rest_of area fits short in
     (λ none. filled.1 (sym same ∙ nil_from_length left none), λ is. ap length (same ∙ filled.0 is))
 
--- A walk over an area has come so far: the flash is as it was, what is left can be read, and what
--- follows all entries is the same.
+-- The progress of a walk over an area: the flash is unchanged, the remaining span can be read, and
+-- the bytes after all entries are the same.
 pub record HasWalked (chip now : Chip) (area left : Span) : Type 0 where
   pub same : now ≡ chip
   pub readable : CanRead chip left
   pub rest : rest_of (bytes_of chip left) ≡ rest_of (bytes_of chip area)
 
--- It goes on by a step.
+-- The walk continues with a step.
 pub HasWalked-step : (chip now next : Chip) (area before left : Span) → HasWalked chip now area before → next ≡ now
     → CanRead now left → rest_of (bytes_of now left) ≡ rest_of (bytes_of now before)
     → HasWalked chip next area left
@@ -81,7 +81,7 @@ HasWalked-step chip now next area before left so_far same readable rest = record
   rest = rw so_far.same at rest ∙ so_far.rest;
 }
 
--- Where it ends, the entries fill the area exactly if nothing is left.
+-- At its end, the entries fill the area exactly if nothing is left.
 pub IsFilled-walked : (chip now : Chip) (area before left : Span) → HasWalked chip now area before
     → IsBytes chip.bytes → 4 + area.len < 2 ^ 16 → CanRead chip area → CanRead now left
     → bytes_of now left ≡ rest_of (bytes_of now before) → (left.len ≡ 0) ↔ IsFilled (bytes_of chip area)

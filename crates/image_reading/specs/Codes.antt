@@ -1,11 +1,11 @@
--- The numbers and the names of the faults of an image and of a slot.
+-- The numbers and the names of the errors of an image and of a slot.
 use Rattle.std.specs.Prelude.{ℕ, List, codes}
 use Rattle.image_reading.specs.declared.error.ImageError.{ImageError}
 use Rattle.image_reading.specs.declared.error.ImageError.TheVariants as image_error
 use Rattle.image_reading.specs.declared.error.SlotError.{SlotError}
 use Rattle.image_reading.specs.declared.error.SlotError.TheVariants as slot_error
 
--- The numbers of an image's faults. The order of the checks is another: that of `IsFirstFault`.
+-- The number of an image's error. The checks are made in another order: that of `IsFirstFault`.
 abbrev pub code_of : ImageError → ℕ
 code_of image_error.Short = 1
 code_of image_error.BadMagic = 2
@@ -23,7 +23,7 @@ code_of image_error.TrailingBytes = 13
 code_of image_error.BadCounter = 14
 code_of image_error.TooManyGroups = 15
 
--- Their names.
+-- The name of an image's error.
 abbrev pub name_of : ImageError → List ℕ
 name_of image_error.Short = codes "Short"
 name_of image_error.BadMagic = codes "BadMagic"
@@ -41,13 +41,13 @@ name_of image_error.TrailingBytes = codes "TrailingBytes"
 name_of image_error.BadCounter = codes "BadCounter"
 name_of image_error.TooManyGroups = codes "TooManyGroups"
 
--- The numbers of the reasons why the image in a slot isn't described.
+-- The number of a slot's error.
 abbrev pub slot_code_of : SlotError → ℕ
 slot_code_of (slot_error.Image fault) = 1
 slot_code_of (slot_error.Flash error) = 2
 slot_code_of slot_error.NoMemory = 3
 
--- Their names.
+-- The name of a slot's error.
 abbrev pub slot_name_of : SlotError → List ℕ
 slot_name_of (slot_error.Image fault) = codes "Image"
 slot_name_of (slot_error.Flash error) = codes "Flash"

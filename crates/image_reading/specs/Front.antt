@@ -1,4 +1,4 @@
--- The image that bytes begin with, whatever its entries say and whatever follows it.
+-- The image at the beginning of bytes, whatever values its entries have and whatever follows it.
 use Rattle.std.specs.Prelude.{◌≡◌, ℕ, ◌<◌, ◌≤◌, ◌⊎◌, List, [], length, drop, Some}
 use Rattle.flash_model.specs.Chip.{Chip}
 use Rattle.image_reading.specs.declared.front.Front.{Front}
@@ -8,17 +8,18 @@ use Rattle.image_reading.specs.Gathered.{HasGatheredProtected, HasGatheredUnprot
 use Rattle.image_reading.specs.Image.{Image, BeginsWithImage, hashed_bytes, image_bytes}
 use Rattle.image_reading.specs.Span.{CanRead, bytes_of}
 
--- These are the bytes of the entries of a protected area that lies at a place ..
+-- These are the bytes of the entries of a protected area at a place.
 abbrev pub LiesProtected : List ℕ → ℕ → ℕ → List ℕ → Type 0
 LiesProtected bytes place size entries = (0 < size)
     × IsArea bytes place protected_magic (Some size) × (entries ≡ entries_at bytes place)
 
--- .. or of one that is absent, as its length of 0 says.
+-- These are the bytes of the entries of a protected area, or none if its length of 0 says that it
+-- is absent.
 abbrev pub IsProtected : List ℕ → ℕ → ℕ → List ℕ → Type 0
 IsProtected bytes place size entries =
     ((size ≡ 0) × (entries ≡ [])) ⊎ LiesProtected bytes place size entries
 
--- These are the parts of the image that bytes of a chip begin with.
+-- These are the parts of the image at the beginning of bytes of a chip.
 pub record IsFrontOf (chip : Chip) (bytes : List ℕ) (front : Front) (image : Image) : Type 0 where
   pub begins : BeginsWithImage bytes image (drop front.length bytes)
   pub header : front.header ≡ image.header
@@ -31,7 +32,7 @@ pub record IsFrontOf (chip : Chip) (bytes : List ℕ) (front : Front) (image : I
 abbrev pub IsFront : Chip → List ℕ → Front → Type 0
 IsFront chip bytes front = (image : Image) × IsFrontOf chip bytes front image
 
--- What the digest is taken of can be read, and what the areas say was gathered.
+-- The bytes that the digest covers can be read, and the fields of both areas were gathered.
 pub record HasGathered (chip : Chip) (front : Front) : Type 0 where
   pub hashed : CanRead chip front.hashed
   pub protected : HasGatheredProtected chip front.protected

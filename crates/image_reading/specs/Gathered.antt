@@ -1,5 +1,5 @@
--- What a walk over the entries of an area has gathered. Of all values of a type, those before the
--- ones that are left were met.
+-- The fields that a walk over the entries of an area has gathered. Of all values of a type, those
+-- before the remaining ones were read.
 use Rattle.std.specs.Prelude.{◌≡◌, ℕ, ◌≤◌, Bool, true, false, ltb, List, [], ◌∷◌, ◌++◌, length, map, take, ⊤}
 use Rattle.std.specs.List.{AllByRecursion, Any}
 use Rattle.common.specs.Limits.{MOST_DEPENDENCIES, MOST_GROUPS}
@@ -16,19 +16,19 @@ use Rattle.image_reading.specs.Fields.{FitsDependency, FitsGroup, IsDependencyFo
 use Rattle.image_reading.specs.SlotTlvs.{values_at}
 use Rattle.image_reading.specs.Span.{CanRead, bytes_of}
 
--- No value was met, or one, which lies at a place that can be read, or there are two or more.
+-- No value was read. Or one was, whose span can be read. Or there are two or more.
 abbrev pub IsOccurrence : Chip → List (List ℕ) → List (List ℕ) → Occurrence → Type 0
 IsOccurrence chip values left Absent = values ≡ left
 IsOccurrence chip values left (Once value) =
     (values ≡ bytes_of chip value ∷ left) × CanRead chip value
 IsOccurrence chip values left Repeated = 2 ≤ length values
 
--- The value that lies somewhere can be read.
+-- If there is one value, it can be read.
 abbrev pub CanReadOccurrence : Chip → Occurrence → Type 0
 CanReadOccurrence chip (Once value) = CanRead chip value
 CanReadOccurrence chip other = ⊤
 
--- What the values of a type spell: what fits the fields, its bytes, and the form of such bytes.
+-- How values of a type encode items: which items fit, their bytes, and the form of such bytes.
 pub record Spelling (X : Type 0) : Type 1 where
   pub Fits : X → Type 0
   pub bytes : X → List ℕ
@@ -44,7 +44,7 @@ dependency_spelling = record {
 abbrev pub group_spelling : Spelling Group
 group_spelling = record { Fits = FitsGroup; bytes = group_bytes; IsForm = IsGroupForm }
 
--- The values that were met spell things, of which as many are kept as an image may have.
+-- The values that were read encode items. The first items are kept: no more than an image may have.
 pub record AreKept {X : Type 0} (spelling : Spelling X) (most : ℕ) (values left : List (List ℕ))
     (items : List X) (too_many : Bool) : Type 0 where
   pub found : List X
@@ -53,36 +53,36 @@ pub record AreKept {X : Type 0} (spelling : Spelling X) (most : ℕ) (values lef
   pub first : items ≡ take most found
   pub over : too_many ≡ ltb most (length found)
 
--- They do so, or it was noted that one of them hasn't the form for it.
+-- The values encode items, or it was recorded that a value doesn't have the form of one.
 pub record HasMet {X : Type 0} (spelling : Spelling X) (most : ℕ) (values left : List (List ℕ))
     (met : Met X most) : Type 0 where
   pub bad : met.bad ≡ true → Any (λ value. spelling.IsForm value → ⊥) values
   pub kept : met.bad ≡ false → AreKept spelling most values left met.kept.items met.too_many
 
--- Dependencies were met ..
+-- Dependencies were read.
 abbrev pub HaveMetDependencies : List (List ℕ) → List (List ℕ)
     → Met Dependency MOST_DEPENDENCIES → Type 0
 HaveMetDependencies values left met = HasMet dependency_spelling MOST_DEPENDENCIES values left met
 
--- .. and groups.
+-- Groups were read.
 abbrev pub HaveMetGroups : List (List ℕ) → List (List ℕ) → Met Group MOST_GROUPS → Type 0
 HaveMetGroups values left met = HasMet group_spelling MOST_GROUPS values left met
 
--- Values spell these dependencies and others these groups, no more than an image may have.
+-- Values encode these dependencies and others these groups, no more than an image may have.
 pub record AreNeeds (values others : List (List ℕ)) (needs : Needs) : Type 0 where
   pub dependencies : SpellDependencies values needs.dependencies.items
   pub groups : SpellGroups others needs.groups.items
   pub few_dependencies : length needs.dependencies.items ≤ MOST_DEPENDENCIES
   pub few_groups : length needs.groups.items ≤ MOST_GROUPS
 
--- The dependencies, the groups and the security counter of a protected area were gathered ..
+-- The dependencies, the groups and the security counter of a protected area were gathered.
 pub record HasGatheredProtected (chip : Chip) (fields : ProtectedFields) : Type 0 where
   pub dependencies : HaveMetDependencies (values_at dependency_kind chip fields.entries) []
       fields.dependencies
   pub groups : HaveMetGroups (values_at group_kind chip fields.entries) [] fields.groups
   pub counter : IsOccurrence chip (values_at counter_kind chip fields.entries) [] fields.counter
 
--- .. and the digest of an unprotected one.
+-- The digest of an unprotected area was gathered.
 abbrev pub HasGatheredUnprotected : Chip → UnprotectedFields → Type 0
 HasGatheredUnprotected chip fields =
     IsOccurrence chip (values_at digest_kind chip fields.entries) [] fields.digest

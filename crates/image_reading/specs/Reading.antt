@@ -1,5 +1,5 @@
--- Reading entries from left to right, step by step. The readers follow these steps; what they come
--- to is said by `IsWalk`.
+-- Reading entries from left to right, step by step. The readers follow these steps. `IsWalk` says
+-- what they result in.
 use Rattle.std.specs.Prelude.{ℕ, zero, suc, ◌+◌, ◌-◌, List, [], ◌∷◌, length, take, drop, Option, Some, None, nat_lt, if◌then◌else◌}
 use Rattle.std.specs.Option.{option_map_or}
 use Rattle.byteorder.specs.Endian.{little_number}
@@ -9,7 +9,7 @@ use Rattle.image_reading.specs.Area.{Entry, values_of}
 abbrev pub value_size : List ℕ → ℕ
 value_size bytes = little_number 2 (drop 2 bytes)
 
--- The entry that the head names, and the bytes after it.
+-- The entry of the head, and the bytes after it.
 abbrev pub entry_at : List ℕ → Entry
 entry_at bytes = record {
   kind = little_number 2 bytes;
@@ -25,7 +25,7 @@ first_entry bytes = if nat_lt (length bytes) 4 then None
     else (if nat_lt (length bytes - 4) (value_size bytes) then None
     else Some (entry_at bytes, after_entry bytes))
 
--- At most so many entries, up to the first that doesn't fit, and the bytes after them.
+-- At most `count` entries, up to the first that doesn't fit, and the bytes after them.
 unfoldable pub entries_within : ℕ → List ℕ → List Entry
 entries_within zero bytes = []
 entries_within (suc count) bytes =
@@ -36,7 +36,7 @@ rest_within zero bytes = bytes
 rest_within (suc count) bytes =
     option_map_or (λ found. rest_within count found.1) (first_entry bytes) bytes
 
--- All entries, up to the first that doesn't fit: no more than bytes.
+-- All entries, up to the first that doesn't fit. There are at most as many entries as bytes.
 abbrev pub entries_of : List ℕ → List Entry
 entries_of bytes = entries_within (length bytes) bytes
 

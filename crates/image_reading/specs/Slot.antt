@@ -1,4 +1,4 @@
--- The bytes of a slot and of a file in it, and why no image is described there.
+-- The bytes of a slot and of a file in it, and the errors of describing them.
 use Rattle.std.specs.Prelude.{◌≡◌, ℕ, Bool, false, true, List, Option, Some, None, take}
 use Rattle.flash_model.specs.Chip.{Chip}
 use Rattle.flash_model.specs.declared.error.FlashError.TheVariants.{Off}
@@ -13,22 +13,22 @@ use Rattle.image_reading.specs.declared.error.SlotError.TheVariants.{Image, Flas
 use Rattle.image_reading.specs.Fault.{IsFrontFault}
 use Rattle.image_reading.specs.Image.{BeginsIntact}
 
--- The bytes of a slot ..
+-- The bytes of a slot.
 abbrev pub slot_bytes : SectorMap → Chip → ℕ → Side → List ℕ
 slot_bytes map chip image side = part_of map chip (Slot image side)
 
--- .. and of a file of so many bytes that stands at its front.
+-- The bytes of a file at the beginning of a slot.
 abbrev pub file_bytes : SectorMap → Chip → ℕ → Side → ℕ → List ℕ
 file_bytes map chip image side len = take len (slot_bytes map chip image side)
 
--- The flash was on and a check of the image is the first that fails, or the flash was off. Want of
--- memory is no answer.
+-- The flash was on and this check of the image is the first that fails, or the flash was off. The
+-- error is never `NoMemory`.
 abbrev pub IsSlotFault : Bool → (ImageError → Type 0) → SlotError → Type 0
 IsSlotFault was_on Fails (Image fault) = (was_on ≡ true) × Fails fault
 IsSlotFault was_on Fails (Flash fault) = (was_on ≡ false) × (fault ≡ Off)
 IsSlotFault was_on Fails NoMemory = ⊥
 
--- The image that bytes begin with is intact and so described, or one of its checks fails first.
+-- The bytes begin with an intact image with this description, or one of its checks fails.
 abbrev pub IsFoundIntact : List ℕ → Option Desc → Type 0
 IsFoundIntact bytes (Some description) = BeginsIntact bytes description
 IsFoundIntact bytes None = (fault : ImageError) × IsFrontFault bytes fault

@@ -1,4 +1,4 @@
--- Entries in a flash as their reader gives them, and what it hasn't given yet.
+-- A walk over the entries of an area in a flash: the entries that it gives, and those that remain.
 use Rattle.std.specs.Prelude.{◌≡◌, ℕ, ◌+◌, List, [], ◌∷◌, Option, Some, None}
 use Rattle.std.specs.Option.{option_map_or}
 use Rattle.flash_model.specs.Chip.{Chip}
@@ -13,32 +13,32 @@ use Rattle.image_reading.specs.Span.{bytes_of}
 abbrev pub slot_tlv_view : Chip → SlotTlv → Entry
 slot_tlv_view chip tlv = record { kind = tlv.kind; value = bytes_of chip tlv.value }
 
--- Where the bytes after the entries given so far lie ..
+-- The span of the bytes after the entries given so far.
 abbrev pub slot_tlvs_rest : SlotTlvs → Span
 slot_tlvs_rest tlvs = tlvs.rest
 
--- .. and the entries in them.
+-- The remaining entries.
 abbrev pub slot_tlvs_left : Chip → SlotTlvs → List Entry
 slot_tlvs_left chip tlvs = entries_of (bytes_of chip (slot_tlvs_rest tlvs))
 
--- A step gives the first of the entries that were left, and leaves the others, or there was none.
+-- A step gives the first of the remaining entries and leaves the others, or no entry remains.
 abbrev pub IsStep : Chip → SlotTlvs → SlotTlvs → Option SlotTlv → Type 0
 IsStep chip old new given = slot_tlvs_left chip old
     ≡ option_map_or (λ tlv. slot_tlv_view chip tlv ∷ slot_tlvs_left chip new) given []
 
--- An entry lies first in a span, and the rest behind it: its value behind the head of four bytes,
--- and the rest behind the value, to the end of the span.
+-- An entry is at the beginning of a span, and the rest is after it: its value follows the head of
+-- four bytes, and the rest follows the value, up to the end of the span.
 pub record LiesFirst (span : Span) (tlv : SlotTlv) (rest : Span) : Type 0 where
   pub value : tlv.value.at ≡ span.at + 4
   pub rest_at : rest.at ≡ tlv.value.at + tlv.value.len
   pub end : rest.at + rest.len ≡ span.at + span.len
 
--- An entry that a step gives lies first in what was left, and where there was none, the rest stays.
+-- An entry that a step gives is at the beginning of the old rest. If there is none, the rest stays.
 abbrev pub LiesAtStep : SlotTlvs → SlotTlvs → Option SlotTlv → Type 0
 LiesAtStep old new (Some tlv) = LiesFirst (slot_tlvs_rest old) tlv (slot_tlvs_rest new)
 LiesAtStep old new None = new ≡ old
 
--- The values of one type that haven't been given yet.
+-- The remaining values of one type.
 abbrev pub slot_values_left : ℕ → Chip → SlotTlvs → List (List ℕ)
 slot_values_left kind chip tlvs = values_of kind (slot_tlvs_left chip tlvs)
 

@@ -1,4 +1,4 @@
--- What a walk over the entries of an area comes to.
+-- The result of a walk over the entries of an area.
 use Rattle.std.specs.Prelude.{◌≡◌, ℕ, List, ◌++◌}
 use Rattle.std.specs.List.{AllByRecursion}
 use Rattle.image_reading.specs.Area.{Entry, FitsEntry, entries_bytes, entry_bytes}
@@ -9,7 +9,7 @@ BeginsWithEntry bytes = (entry : Entry) × (after : List ℕ)
     × FitsEntry entry × (bytes ≡ entry_bytes entry ++ after)
 
 -- A walk over an area gives these entries, and leaves this rest: the area is the bytes of the
--- entries, and then the rest; and the rest begins with no further entry.
+-- entries followed by the rest, and the rest doesn't begin with a further entry.
 pub record IsWalk (area : List ℕ) (entries : List Entry) (rest : List ℕ) : Type 0 where
   pub parts : area ≡ entries_bytes entries ++ rest
   pub fit : AllByRecursion FitsEntry entries

@@ -1,4 +1,4 @@
-//! What an image says of itself, where it is intact.
+//! Describes an image if it is intact.
 
 ghost use Rattle.std.specs.Prelude.{◌≡◌, ℕ, List, [], Err, IfErr, IfOk, Ok, OnOk};
 ghost use Rattle.sha2.specs.Sha256.{sha256};
@@ -18,22 +18,22 @@ use crate::gathering::Occurrence;
 use crate::medium::{Medium, Memory};
 use crate::span::Span;
 
-/// What the image says of itself that these bytes are, all of them. Does not allocate.
+/// Describes the image that these bytes are. No bytes may follow it. Does not allocate.
 ///
 /// # Errors
 ///
 /// The first check that fails, in this order: header, protected area, unprotected area, digest, the
-/// forms of dependencies and groups, how many dependencies there are, how many groups, security
-/// counter, and that nothing follows the image. `NoDigest`, `TwoDigests` and what comes after them
-/// in this order are found only where the bytes begin with an image by its areas.
+/// forms of dependencies and groups, the number of dependencies, the number of groups, security
+/// counter, and that no bytes follow the image. `NoDigest`, `TwoDigests` and all later errors of
+/// this order require that the header and both areas pass their checks.
 pub fn describe(bytes: &[u8]) -> Result<Desc, ImageError>
-    // What is described is an intact image, so described.
+    // The bytes are an intact image with this description.
     ensures described { IfOk result (IsIntact bytes.now) }
     // Each intact image is described.
     ensures only { (description : Desc) → IsIntact bytes.now description → result ≡ Ok description }
-    // The error is the first check that fails ..
+    // The error is the first check that fails.
     ensures fault { IfErr result (IsFirstFault bytes.now) }
-    // .. and where one fails first, that is the error.
+    // The first check that fails is the error.
     ensures refused { (fault : ImageError) → IsFirstFault bytes.now fault → result ≡ Err fault }
 {
     let whole = Span {
@@ -43,7 +43,7 @@ pub fn describe(bytes: &[u8]) -> Result<Desc, ImageError>
     describe_whole(&mut Memory { bytes }, whole)
 }
 
-/// What the image says of itself that these bytes are, all of them.
+/// Describes the image that these bytes are. No bytes may follow it.
 pub(crate) fn describe_whole<M: Medium>(medium: &mut M, bytes: Span) -> Result<Desc, ImageError>
     requires { CanRead (M.chip medium.old) bytes }
     ensures same { M.chip medium.new ≡ M.chip medium.old }
@@ -57,7 +57,7 @@ pub(crate) fn describe_whole<M: Medium>(medium: &mut M, bytes: Span) -> Result<D
     Ok(description)
 }
 
-/// What the image says of itself that these bytes begin with, whatever follows it.
+/// Describes the image at the beginning of these bytes, whatever follows it.
 pub(crate) fn describe_front<M: Medium>(medium: &mut M, bytes: Span) -> Result<Desc, ImageError>
     requires { CanRead (M.chip medium.old) bytes }
     ensures same { M.chip medium.new ≡ M.chip medium.old }
@@ -66,7 +66,7 @@ pub(crate) fn describe_front<M: Medium>(medium: &mut M, bytes: Span) -> Result<D
 {
     let front = Front::read(medium, bytes)?;
     let digest = own_digest(medium, front.hashed, front.unprotected.digest)?;
-    // Dependencies and groups are moved out of the front: what else it says is taken first.
+    // Dependencies and groups are moved out of the front, so its other fields are read first.
     let (header, length, counter_entry) = (front.header, front.length, front.protected.counter);
     let needs = checked_needs(front.protected.dependencies, front.protected.groups)?;
     let counter = counter(medium, counter_entry)?;
@@ -81,7 +81,7 @@ pub(crate) fn describe_front<M: Medium>(medium: &mut M, bytes: Span) -> Result<D
     })
 }
 
-// The SHA-256 of the hashed bytes, where the one digest entry holds that.
+// The SHA-256 of the hashed bytes, if the only digest entry holds it.
 fn own_digest<M: Medium>(
     medium: &mut M,
     hashed: Span,

@@ -1,4 +1,4 @@
-//! Why bytes are no intact image, and why a slot isn't described.
+//! The errors of describing an image, in memory or in a slot.
 
 ghost use Rattle.std.specs.Prelude.{◌≡◌};
 ghost use Rattle.image_reading.specs.Codes.{code_of, name_of, slot_code_of, slot_name_of};
@@ -10,17 +10,17 @@ use flash_model::FlashError;
 use image_header::HeaderError;
 use thiserror::Error;
 
-/// The first check that fails of bytes that are no intact image. The numbers are 1 to 15, in this
-/// order; the order of the checks is another, that of [`describe`](crate::describe).
+/// The first failed check of bytes that aren't an intact image. The numbers are 1 to 15, in this
+/// order. The checks are made in another order: that of [`describe`](crate::describe).
 #[derive(Clone, Copy, Debug, PartialEq, Eq, Error)]
 pub enum ImageError {
-    /// There are fewer than 32 bytes.
+    /// The input has fewer than 32 bytes.
     #[error("fewer than 32 bytes")]
     Short,
     /// The magic number isn't 0x96f3b83d.
     #[error("another magic number than 0x96f3b83d")]
     BadMagic,
-    /// The header's length is below 32.
+    /// The header's length is less than 32.
     #[error("a header length below 32")]
     BadHeaderSize,
     /// A flag is set that isn't accepted.
@@ -32,19 +32,19 @@ pub enum ImageError {
     /// An area of entries begins with another magic number.
     #[error("an area of entries with another magic number")]
     BadTlvMagic,
-    /// The length of an area isn't the header's, is below 4, or isn't filled by its entries.
+    /// The length of an area isn't the header's, is less than 4, or isn't filled by its entries.
     #[error("an area of entries with a wrong length")]
     BadTlvSize,
     /// There is no digest entry.
     #[error("no digest entry")]
     NoDigest,
-    /// There are two digest entries or more.
+    /// There are two or more digest entries.
     #[error("two digest entries or more")]
     TwoDigests,
     /// The digest entry isn't the SHA-256 of header, body and protected area.
     #[error("a digest entry that isn't the image's SHA-256")]
     BadDigest,
-    /// A dependency isn't 12 bytes long, or its three bytes after the image number aren't zero; or
+    /// A dependency isn't 12 bytes long, or its three bytes after the image number aren't zero. Or
     /// a group isn't 12, 24, 36 or 48 bytes long, or the three bytes of an alternative aren't zero.
     #[error("a dependency or group entry of a wrong length, or without its three zero bytes")]
     BadDependency,
@@ -54,7 +54,7 @@ pub enum ImageError {
     /// Bytes follow the image.
     #[error("bytes behind the image")]
     TrailingBytes,
-    /// A security counter isn't 4 bytes long, or there are two.
+    /// A security counter isn't 4 bytes long, or there are two or more.
     #[error("two security counters, or one that isn't 4 bytes long")]
     BadCounter,
     /// There are more than [`MOST_GROUPS`] groups.
@@ -63,7 +63,7 @@ pub enum ImageError {
 }
 
 impl ImageError {
-    /// The number of the kind, 1 to 15.
+    /// The number of this kind: 1 to 15.
     pub fn code(self) -> u8
         ensures { result ≡ code_of self }
     {
@@ -86,7 +86,7 @@ impl ImageError {
         }
     }
 
-    /// The name of the kind, as a program prints it.
+    /// The name of this kind, as programs print it.
     pub fn name(self) -> &'static str
         ensures { result.now ≡ name_of self }
     {
@@ -126,19 +126,19 @@ impl From<HeaderError> for ImageError {
 /// Why the image in a slot isn't described. The numbers are 1 to 3, in this order.
 #[derive(Clone, Copy, Debug, PartialEq, Eq, Error)]
 pub enum SlotError {
-    /// The slot's bytes are no intact image: the first check that fails.
+    /// The slot doesn't hold an intact image: the first check that fails.
     #[error("{0}")]
     Image(ImageError),
-    /// The flash didn't answer.
+    /// A read of the flash failed.
     #[error("{0}")]
     Flash(FlashError),
-    /// Memory ran out. No call answers it: none allocates.
+    /// An allocation failed. No call returns this error, since none allocates.
     #[error("no memory for the slot")]
     NoMemory,
 }
 
 impl SlotError {
-    /// The number of the kind, 1 to 3.
+    /// The number of this kind: 1 to 3.
     pub fn code(self) -> u8
         ensures { result ≡ slot_code_of self }
     {
@@ -149,7 +149,7 @@ impl SlotError {
         }
     }
 
-    /// The name of the kind, as a program prints it.
+    /// The name of this kind, as programs print it.
     pub fn name(self) -> &'static str
         ensures { result.now ≡ slot_name_of self }
     {

@@ -1,5 +1,4 @@
-//! The fields that entries hold: digest, security counter and dependencies; and dependencies and
-//! groups together.
+//! Reads the fields that entries hold: digest, security counter, dependencies and groups.
 
 ghost use Rattle.std.specs.Prelude.{◌≡◌, ◌≢◌, ◌↔◌, ℕ, ◌≤◌, ◌∷◌, [], List, length, IsTrue, IfOk, IfErr, IfSome, IfNone};
 ghost use Rattle.flash_model.specs.Chip.{Chip};
@@ -18,14 +17,15 @@ use byteorder::{ByteOrder, LittleEndian};
 use common::limits::{MOST_DEPENDENCIES, MOST_GROUPS};
 use version_order::{Dependency, Group, Version};
 
-/// Where the value of the one digest entry lies.
+/// The span of the value of the only digest entry.
 ///
-/// `NoDigest` where there is none, `TwoDigests` where there are two or more.
+/// # Errors
+/// `NoDigest` if there is none, `TwoDigests` if there are two or more.
 pub(crate) fn digest_value(digest: Occurrence) -> Result<Span, ImageError>
     ensures ok { (chip : Chip) (values : List (List ℕ)) → IsOccurrence chip values [] digest
         → IfOk result (λ value. values ≡ bytes_of chip value ∷ []) }
     ensures readable { (chip : Chip) → CanReadOccurrence chip digest → IfOk result (CanRead chip) }
-    // These two faults come whatever the digest is to be.
+    // These two faults don't depend on the expected digest.
     ensures err { (chip : Chip) (values : List (List ℕ)) → IsOccurrence chip values [] digest
         → (hashed : List ℕ) → IfErr result (IsDigestFault values hashed) }
 {
@@ -50,9 +50,10 @@ pub(crate) fn is_digest<M: Medium>(medium: &mut M, value: Span, digest: &[u8; 32
     own == *digest
 }
 
-/// The security counter, 0 where there is none.
+/// Reads the security counter; 0 if there is none.
 ///
-/// `BadCounter` where there are two or more, or its value isn't four bytes long.
+/// # Errors
+/// `BadCounter` if there are two or more, or if its value isn't four bytes long.
 pub(crate) fn counter<M: Medium>(medium: &mut M, counter: Occurrence) -> Result<u32, ImageError>
     requires { CanReadOccurrence (M.chip medium.old) counter }
     ensures same { M.chip medium.new ≡ M.chip medium.old }
@@ -68,7 +69,7 @@ pub(crate) fn counter<M: Medium>(medium: &mut M, counter: Occurrence) -> Result<
     }
 }
 
-// The counter that the value at a place spells, if it has the length of one.
+// The counter of a value, if the value has the length of one.
 fn counter_at<M: Medium>(medium: &mut M, value: Span) -> Option<u32>
     requires { CanRead (M.chip medium.old) value }
     ensures same { M.chip medium.new ≡ M.chip medium.old }
@@ -99,7 +100,7 @@ impl Spelled for Dependency {
     }
 }
 
-// The dependency that twelve bytes spell, if they have the form of one.
+// The dependency of twelve bytes, if they have the form of one.
 fn dependency_of(value: &[u8]) -> Option<Dependency>
     requires { length value.now ≡ 12 }
     ensures fits { IfSome result FitsDependency }
@@ -121,7 +122,7 @@ fn dependency_of(value: &[u8]) -> Option<Dependency>
     })
 }
 
-/// What an image asks of the images of the device.
+/// What an image requires of the images of the device.
 #[derive(Drop)]
 pub(crate) struct Needs {
     /// The dependencies, in the order of their entries.
@@ -130,11 +131,12 @@ pub(crate) struct Needs {
     pub(crate) groups: ArrayVec<Group, MOST_GROUPS>,
 }
 
-/// The dependencies and the groups, once all are met.
+/// Checks the dependencies and the groups, after all entries were read.
 ///
-/// `BadDependency` where the value of one hasn't its form; `TooManyDependencies` where none is so,
-/// but there are more than [`MOST_DEPENDENCIES`] dependencies; `TooManyGroups` where there aren't,
-/// but there are more than [`MOST_GROUPS`] groups.
+/// # Errors
+/// `BadDependency` if a value doesn't have its form. Otherwise `TooManyDependencies` if there are
+/// more than [`MOST_DEPENDENCIES`] dependencies. Otherwise `TooManyGroups` if there are more than
+/// [`MOST_GROUPS`] groups.
 pub(crate) fn checked_needs(
     dependencies: Met<Dependency, MOST_DEPENDENCIES>,
     groups: Met<Group, MOST_GROUPS>,

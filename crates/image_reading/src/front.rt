@@ -1,4 +1,4 @@
-//! The front of bytes: the image that they begin with.
+//! Reads the image at the beginning of bytes: its front.
 
 ghost use Rattle.std.specs.Prelude.{◌≡◌, ◌+◌, ◌↔◌, ◌^◌, ◌<◌, None, Some, IfOk, IfErr, IsTrue, OnErr, OnOk};
 ghost use Rattle.image_header.specs.Header.{IsHeaderFault};
@@ -19,35 +19,32 @@ use crate::span::Span;
 use crate::walk::head;
 use image_header::{HEADER_LENGTH, Header, HeaderError};
 
-/// The image that bytes begin with: header, body, protected area and unprotected area.
+/// The image at the beginning of bytes: header, body, protected area and unprotected area.
 #[derive(Drop)]
 pub(crate) struct Front {
     /// The header.
     pub(crate) header: Header,
-    /// What the digest is taken of: header, body and protected area.
+    /// The bytes that the digest covers: header, body and protected area.
     pub(crate) hashed: Span,
-    /// What the protected area says.
+    /// The fields of the protected area.
     pub(crate) protected: ProtectedFields,
-    /// What the unprotected area says.
+    /// The fields of the unprotected area.
     pub(crate) unprotected: UnprotectedFields,
     /// The length of the image in bytes.
     pub(crate) length: usize,
 }
 
 impl Front {
-    /// The image that bytes begin with, whatever its entries say and whatever follows it.
-    ///
-    /// # Errors
-    ///
-    /// The first check of header and areas that fails.
+    /// Reads the image at the beginning of bytes, whatever values its entries have and whatever
+    /// follows it.
     pub(crate) fn read<M: Medium>(medium: &mut M, bytes: Span) -> Result<Front, ImageError>
         requires { CanRead (M.chip medium.old) bytes }
         ensures same { M.chip medium.new ≡ M.chip medium.old }
-        // What is found is an image, by its parts, and what its areas say.
+        // The result is an image, by its parts, with the fields of its areas.
         ensures found { IfOk result
             (IsFront (M.chip medium.old) (bytes_of (M.chip medium.old) bytes)) }
         ensures gathered { IfOk result (HasGathered (M.chip medium.old)) }
-        // Which check fails.
+        // The error is the first check that fails.
         ensures fault { IfErr result (IsFrontFault (bytes_of (M.chip medium.old) bytes)) }
     {
         let header = header(medium, bytes)?;
@@ -65,7 +62,7 @@ impl Front {
     }
 }
 
-// The header.
+// Reads the header.
 fn header<M: Medium>(medium: &mut M, bytes: Span) -> Result<Header, HeaderError>
     requires { CanRead (M.chip medium.old) bytes }
     ensures same { M.chip medium.new ≡ M.chip medium.old }
@@ -80,7 +77,7 @@ fn header<M: Medium>(medium: &mut M, bytes: Span) -> Result<Header, HeaderError>
     Header::read(&header)
 }
 
-// What the protected area says, which has `size` bytes: nothing where it is absent.
+// Reads the fields of the protected area, which has `size` bytes. It has no fields if it is absent.
 fn protected_area<M: Medium>(
     medium: &mut M,
     bytes: Span,
@@ -109,7 +106,7 @@ fn protected_area<M: Medium>(
     protected_fields(medium, entries).ok_or(ImageError::BadTlvSize)
 }
 
-// What the unprotected area says.
+// Reads the fields of the unprotected area.
 fn unprotected_area<M: Medium>(
     medium: &mut M,
     bytes: Span,
@@ -131,8 +128,8 @@ fn unprotected_area<M: Medium>(
     unprotected_fields(medium, entries).ok_or(ImageError::BadTlvSize)
 }
 
-// Where the entries of the area lie that begins at a place, with this magic number; its length is
-// the one that is expected, if any. That they fill it isn't seen yet.
+// The span of the entries of the area at a place, with this magic number. If a length is expected,
+// the area has it. Whether the entries fill the area isn't checked yet.
 fn area_entries<M: Medium>(
     medium: &mut M,
     bytes: Span,

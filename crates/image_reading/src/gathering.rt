@@ -1,4 +1,4 @@
-//! What one walk over the entries of an area gathers, while it sees that they fill the area.
+//! Gathers the fields of an area in one walk over its entries, and checks that they fill the area.
 
 ghost use Rattle.std.specs.Prelude.{◌≡◌, ℕ, ◌+◌, ◌^◌, ◌<◌, ◌∷◌, List, IfNone, IfSome, OnSome};
 ghost use Rattle.flash_model.specs.Chip.{Chip};
@@ -16,19 +16,19 @@ use crate::span::Span;
 use common::limits::{MOST_DEPENDENCIES, MOST_GROUPS};
 use version_order::{Dependency, Group};
 
-/// How often a type occurs of which an area is to have one entry at most.
+/// How often a type occurs of which an area may have only one entry.
 #[derive(Clone, Copy)]
 pub(crate) enum Occurrence {
     /// There is no entry of the type.
     Absent,
-    /// There is one, whose value lies here.
+    /// There is one. This is the span of its value.
     Once(Span),
     /// There are two or more.
     Repeated,
 }
 
 impl Occurrence {
-    /// How often the type occurs with this entry too.
+    /// How often the type occurs if this entry is counted too.
     fn with(self, kind: u16, entry: SlotTlv) -> Occurrence
         ensures { (chip : Chip) (values : List (List ℕ)) (left : List Entry)
             → CanRead chip entry.value
@@ -46,29 +46,30 @@ impl Occurrence {
     }
 }
 
-/// What is gathered of a protected area.
+/// The fields of a protected area.
 #[derive(Drop)]
 pub(crate) struct ProtectedFields {
-    /// The entries, without the area's first four bytes; none where the area is absent.
+    /// The span of the entries, without the area's first four bytes; no bytes if the area is
+    /// absent.
     pub(crate) entries: Span,
-    /// The dependencies among them.
+    /// The dependencies of these entries.
     pub(crate) dependencies: Met<Dependency, MOST_DEPENDENCIES>,
-    /// The groups among them.
+    /// The groups of these entries.
     pub(crate) groups: Met<Group, MOST_GROUPS>,
-    /// The security counter among them.
+    /// The security counter of these entries.
     pub(crate) counter: Occurrence,
 }
 
-/// What is gathered of an unprotected area.
+/// The fields of an unprotected area.
 #[derive(Clone, Copy)]
 pub(crate) struct UnprotectedFields {
-    /// The entries, without the area's first four bytes.
+    /// The span of the entries, without the area's first four bytes.
     pub(crate) entries: Span,
-    /// The digest among them.
+    /// The digest of these entries.
     pub(crate) digest: Occurrence,
 }
 
-/// What is gathered of the entries in a protected area, where they fill it.
+/// Gathers the fields of a protected area, if the entries fill it.
 pub(crate) fn protected_fields<M: Medium>(medium: &mut M, area: Span) -> Option<ProtectedFields>
     requires readable { CanRead (M.chip medium.old) area }
     requires short { 4 + area.len < 2 ^ 16 }
@@ -99,7 +100,7 @@ pub(crate) fn protected_fields<M: Medium>(medium: &mut M, area: Span) -> Option<
     })
 }
 
-/// What is gathered of the entries in an unprotected area, where they fill it.
+/// Gathers the fields of an unprotected area, if the entries fill it.
 pub(crate) fn unprotected_fields<M: Medium>(medium: &mut M, area: Span) -> Option<UnprotectedFields>
     requires readable { CanRead (M.chip medium.old) area }
     requires short { 4 + area.len < 2 ^ 16 }

@@ -1,4 +1,4 @@
-//! Groups of alternatives.
+//! Reads groups of alternatives.
 
 use crate::format::DEPENDENCY_LENGTH;
 use crate::medium::Medium;
@@ -16,7 +16,7 @@ impl Spelled for Group {
 
     ghost spelling = { group_spelling };
 
-    // Read alternative by alternative, each in its twelve bytes.
+    // Reads the alternatives one by one, twelve bytes each.
     fn at<M: Medium>(medium: &mut M, value: Span) -> Option<Group> {
         let is_whole = value.len % DEPENDENCY_LENGTH == 0;
         if value.len == 0 || value.len > MOST_GROUP_LENGTH || !is_whole {

@@ -1,5 +1,5 @@
-//! Laws of areas and images, for the crates above. Each function does nothing: its contract is the
-//! law.
+//! Laws about areas and images, for the crates above. Each function does nothing: its contract is
+//! the law.
 
 ghost use Rattle.std.specs.Prelude.{◌≡◌, ◌++◌, ℕ, List, []};
 ghost use Rattle.common.specs.Bytes.{IsBytes};
@@ -8,23 +8,23 @@ ghost use Rattle.image_reading.specs.Image.{BeginsWithImage, Image, IsWellFormed
 ghost use Rattle.image_reading.specs.Reading.{entries_of, rest_of};
 ghost use Rattle.image_reading.specs.Walk.{IsWalk};
 
-/// What a walk by [`Tlvs`](crate::Tlvs) gives: the area is the bytes of the entries given and of
-/// the rest, each entry fits its fields, and no further entry begins the rest. No other entries and
-/// rest are so.
+/// A walk by [`Tlvs`](crate::Tlvs) gives the entries of the area. The area is the bytes of these
+/// entries followed by the rest, each entry fits its fields, and the rest doesn't begin with an
+/// entry. No other entries and rest have these properties.
 pub fn a_walk_gives_the_entries_of_its_area()
     ensures walk { (area : List ℕ) → IsBytes area → IsWalk area (entries_of area) (rest_of area) }
     ensures only { (area : List ℕ) (entries : List Entry) (rest : List ℕ) → IsBytes area
         → IsWalk area entries rest → (entries ≡ entries_of area) × (rest ≡ rest_of area) }
 {}
 
-/// No image begins another: where the bytes of one begin those of another, the two are the same.
+/// No image begins another: if the bytes of one begin with those of another, the two are the same.
 pub fn no_image_begins_another()
     ensures { (first second : Image) (more : List ℕ) → IsWellFormed first → IsWellFormed second
         → image_bytes second ≡ image_bytes first ++ more → (first ≡ second) × (more ≡ []) }
 {}
 
-/// At most one front of bytes, as of a slot, is an image: where two fronts are images, the two are
-/// the same.
+/// At most one front of bytes, such as those of a slot, is an image: if two fronts are images, they
+/// are the same.
 pub fn one_front_is_an_image()
     ensures { (first second behind other : List ℕ) (one two : Image)
         → first ++ behind ≡ second ++ other

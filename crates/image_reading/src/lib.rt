@@ -1,7 +1,7 @@
-//! The entries of an image in MCUboot's format, and what a whole image says of itself.
+//! Reads images in MCUboot's format: their entries, and the description of a complete image.
 //!
 //! - Promises: A file or a slot is described exactly, or the first check that fails is returned. No
-//!   flash is changed, and a flash without power isn't taken for a slot without an image.
+//!   flash is changed. A flash that is off results in an error, not in a slot without an image.
 //! - Main calls: `describe`, `describe_file`, `describe_slot`, `digest_file`
 //! - Allocates: no.
 //! - Callers: any crate that reads images.
@@ -9,8 +9,8 @@
 //! MCUboot's design document describes the format under "Image format". One type of entry is
 //! bootswap's own: a group (0xA0) lists dependencies of which one has to be met.
 //!
-//! One reader serves bytes in memory, a file in a slot and the front of a slot, and has one proof:
-//! it reads span by span ([`Span`]), and hashes a flash in pieces of 256 bytes.
+//! One reader serves bytes in memory, a file in a slot and the front of a slot, and has one proof.
+//! It reads span by span ([`Span`]), and hashes a flash in pieces of 256 bytes.
 #![tactic(auto)]
 
 mod desc;

@@ -1,4 +1,4 @@
-//! What an image is read from: bytes in memory, or a flash.
+//! The media from which images are read: bytes in memory, or a flash.
 
 ghost use Rattle.std.specs.Prelude.{◌≡◌, ◌<◌, ℕ, length, slice_index};
 ghost use Rattle.flash_model.specs.Chip.{Chip};
@@ -9,22 +9,22 @@ use crate::span::Span;
 use flash_model::Flash;
 use sha2::{Digest, Sha256};
 
-/// The length in bytes of the pieces that a flash is hashed by.
+/// The length in bytes of the pieces in which a flash is hashed.
 const PIECE_LENGTH: usize = 256;
 
-/// What an image is read from, span by span. Contracts see bytes in memory as a flash that is
-/// always on.
+/// A medium from which an image is read, span by span. Contracts see bytes in memory as a flash
+/// that is always on.
 pub(crate) trait Medium {
     ghost chip: { Self → Chip };
 
-    /// Reads a span into `out`, which has its length.
+    /// Reads a span into `out`, which has the span's length.
     fn read(&mut self, span: Span, out: &mut [u8])
         requires readable { CanRead (chip self.old) span }
         requires whole { length out.old ≡ span.len }
         ensures same { chip self.new ≡ chip self.old }
         ensures read { out.new ≡ bytes_of (chip self.old) span };
 
-    /// The SHA-256 of a span, which is read piece by piece.
+    /// The SHA-256 of a span, which is read in pieces.
     fn digest(&mut self, span: Span) -> [u8; 32]
         requires { CanRead (chip self.old) span }
         ensures same { chip self.new ≡ chip self.old }
@@ -76,7 +76,7 @@ impl<F: Flash> Medium for F {
     ghost bytes = { λ flash. F.bytes flash };
 
     fn read(&mut self, span: Span, out: &mut [u8]) {
-        // A span can be read only of a flash that is on, and such a flash answers each read.
+        // A span can be read only from a flash that is on, and no read of such a flash fails.
         match Flash::read(self, span.at as u32, out) {
             Ok(()) => {}
             Err(_) => unreachable!(),

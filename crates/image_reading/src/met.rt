@@ -1,4 +1,4 @@
-//! What the entries of one type spell, gathered entry by entry.
+//! Collects the items of the entries of one type, entry by entry.
 
 ghost use Rattle.std.specs.Prelude.{◌≡◌, ◌∷◌, ℕ, List, IfNone, IfSome};
 ghost use Rattle.image_reading.specs.Area.{Entry, values_of};
@@ -11,11 +11,11 @@ use crate::slot_tlvs::SlotTlv;
 use crate::span::Span;
 use arrayvec::ArrayVec;
 
-/// What the values of the entries of one type spell.
+/// An item that the value of an entry encodes.
 pub(crate) trait Spelled: Default + Drop {
     ghost spelling: { Spelling Self };
 
-    /// What the value at a place spells, if it has the form for it.
+    /// Reads the item of a value, if the value has the form of one.
     fn at<M: Medium>(medium: &mut M, value: Span) -> Option<Self>
         requires { CanRead (M.chip medium.old) value }
         ensures same { M.chip medium.new ≡ M.chip medium.old }
@@ -25,19 +25,19 @@ pub(crate) trait Spelled: Default + Drop {
         ensures none { IfNone result (spelling.IsForm (bytes_of (M.chip medium.old) value) → ⊥) };
 }
 
-/// What the entries of one type spell that were met so far.
+/// The items of the entries of one type that were read so far.
 #[derive(Drop)]
 pub(crate) struct Met<T, const MOST: usize> {
-    /// The first of it, as many as an image may have.
+    /// The first items: no more than an image may have.
     pub(crate) kept: ArrayVec<T, MOST>,
-    /// Whether there was more.
+    /// Whether there were more.
     pub(crate) too_many: bool,
-    /// Whether the value of one hasn't the form for it. What comes after it isn't read.
+    /// Whether a value didn't have the form of an item. Later values aren't read.
     pub(crate) bad: bool,
 }
 
 impl<T: Spelled, const MOST: usize> Met<T, MOST> {
-    /// None was met.
+    /// No item was read.
     pub(crate) fn new() -> Met<T, MOST>
         ensures { (values : List (List ℕ)) → HasMet T.spelling MOST values values result }
     {
@@ -48,7 +48,7 @@ impl<T: Spelled, const MOST: usize> Met<T, MOST> {
         }
     }
 
-    /// Meets an entry. Its value is read if it is of this type.
+    /// Takes an entry. Its value is read if the entry is of this type.
     pub(crate) fn meet<M: Medium>(&mut self, medium: &mut M, kind: u16, entry: SlotTlv)
         requires { CanRead (M.chip medium.old) entry.value }
         ensures same { M.chip medium.new ≡ M.chip medium.old }

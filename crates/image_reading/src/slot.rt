@@ -1,4 +1,4 @@
-//! What stands in a slot.
+//! Describes the image or the file in a slot.
 
 ghost use Rattle.std.specs.Prelude.{◌≡◌, ◌<◌, ◌≤◌, Err, IfErr, IfOk, Ok, OnErr, OnOk, false, true};
 ghost use Rattle.flash_model.specs.Chip.{Chip, Ends};
@@ -22,17 +22,18 @@ use crate::span::Span;
 use flash_model::{Flash, Result};
 use sector_map::{SectorMap, Side};
 
-/// What the image says of itself that a slot begins with, whatever follows it. Does not allocate.
+/// Describes the image at the beginning of a slot, whatever follows it. Does not allocate.
 ///
-/// The map is laid out on the flash and has the image, which is told by its number from 0. Header,
-/// body and protected area are read once for the digest, by pieces of 256 bytes at most. Beside
-/// that the header, the first four bytes of each area, the type and length of each entry, and the
-/// values of digest, dependencies, groups and security counter are read once at most, and nothing
-/// else is.
+/// The map must be laid out on the flash, and must have the image. `image` is its number, from 0.
+///
+/// Header, body and protected area are read once for the digest, in pieces of at most 256 bytes. In
+/// addition, the following bytes are read at most once: the header, the first four bytes of each
+/// area, the type and length of each entry, and the values of digest, dependencies, groups and
+/// security counter. No other bytes are read.
 ///
 /// # Errors
-/// `Image` with the first check that fails, as of [`describe`](crate::describe), but that bytes may
-/// follow the image; an image may reach to the slot's end. `Flash(Off)` where the flash was off.
+/// `Image` with the first check that fails, as in [`describe`](crate::describe), except that bytes
+/// may follow the image. An image may extend to the slot's end. `Flash(Off)` if the flash was off.
 /// Nothing changes in any case.
 pub fn describe_slot<F: Flash>(
     flash: &mut F,
@@ -43,17 +44,17 @@ pub fn describe_slot<F: Flash>(
     requires laid_out { IsLaidOut map.now (F.chip flash.old) }
     requires there { image < map.now.images }
     ensures same { F.chip flash.new ≡ F.chip flash.old }
-    // What is described is an intact image that the slot begins with, so described.
+    // The slot begins with an intact image with this description.
     ensures described { IfOk result
         (BeginsIntact (slot_bytes map.now (F.chip flash.old) image side)) }
-    // Each is described.
+    // Each such image is described.
     ensures only { (F.chip flash.old).is_on ≡ true → (description : Desc)
         → BeginsIntact (slot_bytes map.now (F.chip flash.old) image side) description
         → result ≡ Ok description }
-    // The error is the first check that fails, or that the flash was off ..
+    // The error is the first check that fails, or that the flash was off.
     ensures fault { IfErr result (IsSlotFault (F.chip flash.old).is_on
         (IsFrontFault (slot_bytes map.now (F.chip flash.old) image side))) }
-    // .. and where a check fails first, that is the error.
+    // The first check that fails is the error.
     ensures refused { (F.chip flash.old).is_on ≡ true → (fault : ImageError)
         → IsFrontFault (slot_bytes map.now (F.chip flash.old) image side) fault
         → result ≡ Err (SlotError.Image fault) }
@@ -61,20 +62,19 @@ pub fn describe_slot<F: Flash>(
     ensures off { (F.chip flash.old).is_on ≡ false
         → result ≡ Err (SlotError.Flash FlashError.Off) }
 {
-    // A read of no bytes is answered only by a flash that is on, and of such a flash no read fails.
+    // A read of no bytes succeeds only if the flash is on, and then no read fails.
     flash.read(0, &mut [])?;
     let description = describe_front(flash, slot_span(map, image, side))?;
     Ok(description)
 }
 
-/// What the image says of itself that a slot begins with, if it begins with an intact one. Does not
-/// allocate.
+/// Describes the image at the beginning of a slot if it is intact. Does not allocate.
 ///
-/// The map is laid out on the flash and has the image, which is told by its number from 0. It reads
-/// what [`describe_slot`] does.
+/// The map must be laid out on the flash, and must have the image. `image` is its number, from 0.
+/// The call reads the same bytes as [`describe_slot`].
 ///
 /// # Errors
-/// `Off` where the flash was off. Nothing changes in any case.
+/// `Off` if the flash was off. Nothing changes in any case.
 pub fn intact_image<F: Flash>(
     flash: &mut F,
     map: &SectorMap,
@@ -83,7 +83,7 @@ pub fn intact_image<F: Flash>(
 ) -> Result<Option<Desc>>
     requires { HasImage map.now image (F.chip flash.old) }
     ensures same { F.chip flash.new ≡ F.chip flash.old }
-    // The image is described, or a check of it fails first.
+    // The image is described, or one of its checks fails.
     ensures found { IfOk result
         (IsFoundIntact (slot_bytes map.now (F.chip flash.old) image side)) }
     ensures on { OnOk result ((F.chip flash.old).is_on ≡ true) }
@@ -97,14 +97,14 @@ pub fn intact_image<F: Flash>(
     }
 }
 
-/// What the image says of itself that the first `len` bytes of a slot are, all of them:
-/// [`describe`](crate::describe) of them. Does not allocate.
+/// Describes the file that the first `len` bytes of a slot are: the same as
+/// [`describe`](crate::describe) of these bytes. Does not allocate.
 ///
-/// The map is laid out on the flash and has the image, which is told by its number from 0; the slot
-/// has as many bytes.
+/// The map must be laid out on the flash, and must have the image. `image` is its number, from 0.
+/// The slot must have at least `len` bytes.
 ///
 /// # Errors
-/// `Image` with the first check that fails, as of [`describe`](crate::describe). `Flash(Off)` where
+/// `Image` with the first check that fails, as in [`describe`](crate::describe). `Flash(Off)` if
 /// the flash was off. Nothing changes in any case.
 pub fn describe_file<F: Flash>(
     flash: &mut F,
@@ -117,17 +117,17 @@ pub fn describe_file<F: Flash>(
     requires there { image < map.now.images }
     requires room { len ≤ length_of map.now (Slot image side) }
     ensures same { F.chip flash.new ≡ F.chip flash.old }
-    // What is described is an intact image, so described.
+    // The file is an intact image with this description.
     ensures described { IfOk result
         (IsIntact (file_bytes map.now (F.chip flash.old) image side len)) }
-    // Each is described.
+    // Each such image is described.
     ensures only { (F.chip flash.old).is_on ≡ true → (description : Desc)
         → IsIntact (file_bytes map.now (F.chip flash.old) image side len) description
         → result ≡ Ok description }
-    // The error is the first check that fails, or that the flash was off ..
+    // The error is the first check that fails, or that the flash was off.
     ensures fault { IfErr result (IsSlotFault (F.chip flash.old).is_on
         (IsFirstFault (file_bytes map.now (F.chip flash.old) image side len))) }
-    // .. and where a check fails first, that is the error.
+    // The first check that fails is the error.
     ensures refused { (F.chip flash.old).is_on ≡ true → (fault : ImageError)
         → IsFirstFault (file_bytes map.now (F.chip flash.old) image side len) fault
         → result ≡ Err (SlotError.Image fault) }
@@ -141,13 +141,13 @@ pub fn describe_file<F: Flash>(
     Ok(description)
 }
 
-/// The SHA-256 of the first `len` bytes of a slot (FIPS 180-4). Does not allocate.
+/// Returns the SHA-256 of the first `len` bytes of a slot (FIPS 180-4). Does not allocate.
 ///
-/// The map is laid out on the flash and has the image, which is told by its number from 0; the slot
-/// has as many bytes. They are read by pieces of 256 bytes at most.
+/// The map must be laid out on the flash, and must have the image. `image` is its number, from 0.
+/// The slot must have at least `len` bytes. They are read in pieces of at most 256 bytes.
 ///
 /// # Errors
-/// `Off` where the flash was off. Nothing changes in any case.
+/// `Off` if the flash was off. Nothing changes in any case.
 pub fn digest_file<F: Flash>(
     flash: &mut F,
     map: &SectorMap,
@@ -169,7 +169,7 @@ pub fn digest_file<F: Flash>(
     Ok(flash.digest(file))
 }
 
-// Where a slot lies.
+// The span of a slot.
 fn slot_span(map: &SectorMap, image: u8, side: Side) -> Span
     requires { image < map.now.images }
     ensures bytes { (chip : Chip) → IsLaidOut map.now chip

@@ -1,4 +1,4 @@
-//! The entries of an area in a flash, one after the other.
+//! Walks over the entries of an area in a flash.
 
 ghost use Rattle.std.specs.Prelude.{◌≡◌, ◌<◌, ◌∷◌, [], IfErr, IfNone, IfOk, IfSome, OnErr, OnOk};
 ghost use Rattle.std.specs.Option.{option_map_or};
@@ -12,48 +12,48 @@ use crate::span::Span;
 use crate::walk::first_slot_tlv;
 use flash_model::{Flash, Result};
 
-/// An entry of an area (MCUboot's `struct image_tlv`), and where its value lies.
+/// An entry of an area in a flash (MCUboot's `struct image_tlv`), with the span of its value.
 #[derive(Clone, Copy, Debug, PartialEq, Eq)]
 pub struct SlotTlv {
-    /// The type, which says what the value means.
+    /// The type, which defines the meaning of the value.
     pub kind: u16,
-    /// Where the value lies, and its length in bytes.
+    /// The span of the value.
     pub value: Span,
 }
 
-/// The entries of an area in a flash from its first on, up to the first that doesn't fit. The flash
-/// is lent to each call, and of the entries only types and lengths are read.
+/// A walk over the entries of an area in a flash, up to the first entry that doesn't fit. Each call
+/// borrows the flash, and reads only the type and length of entries.
 #[derive(Clone, Copy, Debug)]
 pub struct SlotTlvs {
     rest: Span,
 }
 
 impl SlotTlvs {
-    /// The entries of an area, which is given without its magic number and length.
+    /// Starts a walk over an area. `area` is the area without its magic number and length.
     pub fn new(area: Span) -> SlotTlvs
         ensures { slot_tlvs_rest result ≡ area }
     {
         SlotTlvs { rest: area }
     }
 
-    /// Where the bytes after the entries given so far lie.
+    /// The span of the bytes after the entries given so far.
     pub fn rest(&self) -> Span
         ensures { result ≡ slot_tlvs_rest self.now }
     {
         self.rest
     }
 
-    /// The next entry, where there is one. The area lies in the flash.
+    /// Returns the next entry, or `None` after the last. The area must be inside the flash.
     ///
     /// # Errors
-    /// `Off` where the flash was off. The entries are left as they were.
+    /// `Off` if the flash was off. The walk doesn't advance.
     pub fn next<F: Flash>(&mut self, flash: &mut F) -> Result<Option<SlotTlv>>
         requires { IsInside (F.chip flash.old) (slot_tlvs_rest self.old) }
         ensures same { F.chip flash.new ≡ F.chip flash.old }
         ensures inside { IsInside (F.chip flash.old) (slot_tlvs_rest self.new) }
-        // The entries that were left are this one and those that are left now.
+        // The old entries are this one followed by the remaining ones.
         ensures ok { IfOk result (IsStep (F.chip flash.old) self.old self.new) }
-        // It lies where they began.
+        // The entry is at the beginning of the old rest.
         ensures lies { IfOk result (LiesAtStep self.old self.new) }
         ensures err { OnErr result (self.new ≡ self.old) }
         ensures erases { OnOk result ((F.chip flash.new).erases ≡ (F.chip flash.old).erases) }
@@ -63,13 +63,13 @@ impl SlotTlvs {
         Ok(self.step(flash))
     }
 
-    /// The next entry, where there is one, of an area that can be read.
+    /// Returns the next entry, if there is one, of an area that can be read.
     pub(crate) fn step<M: Medium>(&mut self, medium: &mut M) -> Option<SlotTlv>
         requires { CanRead (M.chip medium.old) (slot_tlvs_rest self.old) }
         ensures same { M.chip medium.new ≡ M.chip medium.old }
         ensures readable { CanRead (M.chip medium.old) (slot_tlvs_rest self.new) }
         ensures steps { IsStep (M.chip medium.old) self.old self.new result }
-        // What stands after all entries stays the same, and is what is left at the end.
+        // The bytes after all entries stay the same, and are the rest at the end.
         ensures rest { rest_of (bytes_of (M.chip medium.old) (slot_tlvs_rest self.new))
             ≡ rest_of (bytes_of (M.chip medium.old) (slot_tlvs_rest self.old)) }
         ensures ended { IfNone result (bytes_of (M.chip medium.old) (slot_tlvs_rest self.new)

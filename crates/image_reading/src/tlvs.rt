@@ -1,4 +1,4 @@
-//! The entries of an area, one after the other.
+//! Walks over the entries of an area in memory.
 
 ghost use Rattle.std.specs.Prelude.{◌≡◌, IfNone, ⊤};
 ghost use Rattle.std.specs.Option.{option_map};
@@ -8,33 +8,33 @@ ghost use Rattle.image_reading.specs.Tlv.{tlv_view, tlvs_rest};
 use crate::format::HEAD_LENGTH;
 use byteorder::{ByteOrder, LittleEndian};
 
-/// An entry of an area (MCUboot's `struct image_tlv`, and the bytes behind it).
+/// An entry of an area (MCUboot's `struct image_tlv`, and the value after it).
 #[derive(Clone, Copy, Debug)]
 pub struct Tlv<'a> {
-    /// The type, which says what the value means.
+    /// The type, which defines the meaning of the value.
     pub kind: u16,
-    /// The value: that part of the area.
+    /// The value: a part of the area.
     pub value: &'a [u8],
 }
 
-/// The entries of an area from its first on, up to the first that doesn't fit. It borrows the area.
-/// What a walk comes to is said by
-/// [`a_walk_gives_the_entries_of_its_area`](crate::a_walk_gives_the_entries_of_its_area).
+/// A walk over the entries of an area, up to the first entry that doesn't fit. It borrows the area.
+/// The law [`a_walk_gives_the_entries_of_its_area`](crate::a_walk_gives_the_entries_of_its_area)
+/// says what it gives.
 #[derive(Clone, Debug, Drop)]
 pub struct Tlvs<'a> {
     rest: &'a [u8],
 }
 
 impl<'a> Tlvs<'a> {
-    /// The entries of an area, whose bytes are given without its magic number and length.
+    /// Starts a walk over an area. `area` is the area without its magic number and length.
     pub fn new(area: &'a [u8]) -> Tlvs<'a>
         ensures { tlvs_rest result ≡ area.now }
     {
         Tlvs { rest: area }
     }
 
-    /// The bytes after the entries given so far. Once there is no further entry they are what
-    /// stands after all entries, and nothing where entries fill the area.
+    /// The bytes after the entries given so far. After the last entry they are the bytes after all
+    /// entries: none if the entries fill the area.
     pub fn rest(&self) -> &'a [u8]
         ensures { result.now ≡ tlvs_rest self.now }
     {
@@ -56,7 +56,7 @@ impl<'a> Iterator for Tlvs<'a> {
     fn next(&mut self) -> Option<Tlv<'a>>
         ensures steps { YieldsFirstBy tlv_view tlvs_left self.old result self.new }
         ensures goes { MakesProgress (λ _. ⊤) (item_count tlvs_left) self.old result self.new }
-        // What stands after all entries stays the same, and is what is left at the end.
+        // The bytes after all entries stay the same, and are the rest at the end.
         ensures rest { rest_of (tlvs_rest self.new) ≡ rest_of (tlvs_rest self.old) }
         ensures ended { IfNone result (tlvs_rest self.new ≡ rest_of (tlvs_rest self.old)) }
     {

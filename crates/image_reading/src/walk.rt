@@ -1,4 +1,4 @@
-//! The entry that bytes begin with, wherever they lie.
+//! Reads the entry at the beginning of bytes, in memory or in a flash.
 
 ghost use Rattle.std.specs.Prelude.{◌≡◌, ◌<◌, ◌≤◌, IfSome, drop};
 ghost use Rattle.std.specs.Option.{option_map};
@@ -13,7 +13,7 @@ use crate::slot_tlvs::SlotTlv;
 use crate::span::Span;
 use byteorder::{ByteOrder, LittleEndian};
 
-/// The two numbers of a head: an area's magic number and its length, or an entry's type and the
+/// Reads the two numbers of a head: an area's magic number and length, or an entry's type and the
 /// length of its value.
 pub(crate) fn head<M: Medium>(medium: &mut M, bytes: Span) -> (u16, u16)
     requires readable { CanRead (M.chip medium.old) bytes }
@@ -30,7 +30,7 @@ pub(crate) fn head<M: Medium>(medium: &mut M, bytes: Span) -> (u16, u16)
     )
 }
 
-/// The first entry, if one fits, and where the bytes after it lie. No byte of its value is read.
+/// The first entry, if one fits, and the span of the bytes after it. No byte of its value is read.
 pub(crate) fn first_slot_tlv<M: Medium>(medium: &mut M, bytes: Span) -> Option<(SlotTlv, Span)>
     requires { CanRead (M.chip medium.old) bytes }
     ensures same { M.chip medium.new ≡ M.chip medium.old }
