@@ -1,5 +1,5 @@
 -- The last gated record of a sector, and how writes change it.
-use Rattle.std.proofs.Common.{◌≡◌, ◌≢◌, ◌⊎◌, ℕ, zero, suc, ◌+◌, ◌-◌, ◌*◌, ◌<◌, ◌≤◌, Bool, true, false, List, Some, None, length, slice_range, slice_index, arith, refl, sym, ◌∙◌, ap, subst, inl, inr, ⊎_elim}
+use Rattle.std.proofs.Common.{◌≡◌, ◌≢◌, ◌⊎◌, ℕ, zero, suc, ◌+◌, ◌-◌, ◌*◌, ◌<◌, ◌≤◌, Bool, true, false, List, Some, length, slice_range, slice_index, arith, refl, sym, ◌∙◌, ap, subst, inl, inr, ⊎_elim}
 use Rattle.std.proofs.lemmas.Bool.{cases_eq}
 use Rattle.flash_model.specs.Chip.{Chip, IsErased, Reads, SameOutside}
 use Rattle.flash_model.proofs.Frame.{reads_kept, same_outside_joined, same_outside_wider}
@@ -20,10 +20,6 @@ pub last_here : (log : List ℕ) (at p q : ℕ) → p ≡ suc q → reads_erased
 last_here log at p q is gate =
     let here : last_gated log at (suc q) ≡ Some (slice_range log (at + 64 * q) (at + 64 * q + 56)) = rw gate refl in
     ap (last_gated log at) is ∙ here
-
--- Of no places there is no gated record.
-pub last_none : (log : List ℕ) (at p : ℕ) → p ≡ 0 → last_gated log at p ≡ None
-last_none log at p is = ap (last_gated log at) is
 
 pub last_of_is : (e : ℕ) (log : List ℕ) (sector n : ℕ) → n ≡ places_in e
     → last_of e log sector ≡ last_gated log (sector * e) n

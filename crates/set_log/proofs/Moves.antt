@@ -41,27 +41,6 @@ written map sector place body old mid new laid lt free first reads last long = r
   );
 }
 
--- The body of a free place is erased.
-pub free_body : (e sector place : ℕ) (log : Chip) → IsFree e log sector place
-    → IsErased log (sector * e + 64 * place) 56
-free_body e sector place log free = record {
-  each = λ k low high. free.erased.each k low (omega (arith, free.within));
-}
-
--- After its body is written, the gate of a free place is still erased.
-pub free_gate : (e sector place : ℕ) (old mid : Chip) → IsFree e old sector place
-    → SameOutside (sector * e + 64 * place) 56 old mid → IsErased mid (sector * e + 64 * place + 56) 8
-free_gate e sector place old mid free same = record {
-  each = λ k low high. same.after k low ∙ free.erased.each k (omega arith) (omega (arith, free.within));
-}
-
--- All places of an erased sector are free.
-pub free_first : (e sector : ℕ) (log : Chip) → HasPlaces e → IsErased log (sector * e) e → IsFree e log sector 0
-free_first e sector log sized erased = record {
-  within = omega (arith, sized.blocks, sized.room);
-  erased = record { each = λ k low high. erased.each k (omega arith) (omega (arith, sized.blocks, sized.room)) };
-}
-
 -- The next sector was erased, and then a record was written at its first place.
 pub record Moved (e sector next : ℕ) (old erased mid : Chip) : Type 0 where
   pub sized : HasPlaces e

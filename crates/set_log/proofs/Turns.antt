@@ -10,13 +10,6 @@ both : (a b : Bool) → (not a && b) ≡ true → (a ≡ false) × (b ≡ true)
 both true b is = let wrong : false ≡ true = is in absurd (cc wrong)
 both false b is = (refl, is)
 
--- If the test of a sector says so, it is active.
-pub active_of_test : (e : ℕ) (log : List ℕ) (sector : ℕ) → sector < 3 → is_active e log sector ≡ true
-    → IsActive e log sector
-active_of_test e log sector lt is =
-    let parts = both (is_closed e log sector) (is_closed e log (previous_of sector)) is in
-    record { within = lt; stays_open = parts.0; follows_closed = parts.1 }
-
 pass : (a : Bool) (x y : Option ℕ) → (if not a && false then x else y) ≡ y
 pass true x y = refl
 pass false x y = refl

@@ -170,10 +170,6 @@ at_sector map chip sector there laid lt is =
       inside = omega (arith, product_le sector 3 map.sector_size lt, laid.sector_size);
     }
 
-pub sector_inside : (map : SectorMap) (chip : Chip) (sector : ℕ) → IsLaidOut map chip → sector < 3
-    → first_of map Log + sector < chip.sectors
-sector_inside map chip sector laid lt = omega (arith, laid.sectors)
-
 not_false : (b : Bool) → not b ≡ false → b ≡ true
 not_false true is = refl
 not_false false is = cc

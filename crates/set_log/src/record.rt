@@ -1,6 +1,6 @@
 //! Encodes a state as the bytes of a record, and decodes it.
 
-ghost use Rattle.std.specs.Prelude.{◌≡◌, ◌↔◌, ◌+◌, ◌-◌, ◌^◌, ◌<◌, ◌≤◌, ◌++◌, ◌==◌, ℕ, List, Some, IfSome, drop, length, replicate, slice_index, if◌then◌else◌, true};
+ghost use Rattle.std.specs.Prelude.{◌≡◌, ◌↔◌, ◌+◌, ◌-◌, ◌^◌, ◌<◌, ◌≤◌, ◌++◌, ◌==◌, ℕ, List, Some, drop, length, replicate, slice_index, if◌then◌else◌, true};
 ghost use Rattle.byteorder.specs.Endian.{little_bytes, little_number};
 ghost use Rattle.set_log.specs.Record.{IsSized, Spells, fields, fits, record_bytes, state_from};
 

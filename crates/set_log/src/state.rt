@@ -1,6 +1,6 @@
 //! The state of a device that persists across its boots.
 
-ghost use Rattle.std.specs.Prelude.{◌≡◌, ◌<◌, ◌≤◌, ◌^◌, ◌==◌, ℕ, length, drop, slice_index};
+ghost use Rattle.std.specs.Prelude.{◌≡◌, ◌<◌, ◌≤◌, ◌==◌, drop};
 ghost use Rattle.std.specs.List.{list_all};
 ghost use Rattle.set_log.specs.Record.{fits, kind_fits, kind_number, kind_of};
 
