@@ -26,23 +26,34 @@ drop-number_1 k bytes within fits =
     let byte : slice_index bytes k % 256 ≡ slice_index bytes k = mod-eq_of_lt (fits k) in
     rw (byte, add-one) (drop-cons bytes k 0 (omega arith))
 
--- A number of two bytes, and the bytes after it.
+-- The bytes of the number in two bytes are these two.
+little_bytes-little_number_2 : (bytes : List ℕ) → IsBytes bytes → length bytes ≡ 2
+    → little_bytes 2 (little_number 2 bytes) ≡ bytes
+little_bytes-little_number_2 bytes fits size = le_bytes_2 bytes (little_number 2 bytes) size fits (omega arith)
+
+-- The bytes of the number in four bytes are these four.
+pub little_bytes-little_number_4 : (bytes : List ℕ) → IsBytes bytes → length bytes ≡ 4
+    → little_bytes 4 (little_number 4 bytes) ≡ bytes
+little_bytes-little_number_4 bytes fits size = le_bytes_4 bytes (little_number 4 bytes) size fits (omega arith)
+
+-- A number of n bytes, and the bytes after it, if n bytes are those of the number in them.
+drop-number : (n : ℕ)
+    → ((part : List ℕ) → IsBytes part → length part ≡ n → little_bytes n (little_number n part) ≡ part)
+    → (k x : ℕ) (bytes : List ℕ) → k + n ≤ length bytes → IsBytes bytes
+    → x ≡ little_number n (take n (drop k bytes)) → drop k bytes ≡ little_bytes n x ++ drop (k + n) bytes
+drop-number n back k x bytes within fits e =
+    let part = take n (drop k bytes) in
+    let whole : length part ≡ n = omega (arith, length-take n (drop k bytes), length-drop k bytes) in
+    let bounded = IsBytes-take n (drop k bytes) (IsBytes-drop k bytes fits) in
+    drop-part k n bytes (little_bytes n x) (ap (little_bytes n) e ∙ back part bounded whole)
+
 pub drop-number_2 : (k x : ℕ) (bytes : List ℕ) → k + 2 ≤ length bytes → IsBytes bytes
     → x ≡ little_number 2 (take 2 (drop k bytes)) → drop k bytes ≡ little_bytes 2 x ++ drop (k + 2) bytes
-drop-number_2 k x bytes within fits e =
-    let part = take 2 (drop k bytes) in
-    let whole : length part ≡ 2 = omega (arith, length-take 2 (drop k bytes), length-drop k bytes) in
-    let bounded = IsBytes-take 2 (drop k bytes) (IsBytes-drop k bytes fits) in
-    drop-part k 2 bytes (little_bytes 2 x) (le_bytes_2 part x whole bounded (omega arith))
+drop-number_2 = drop-number 2 little_bytes-little_number_2
 
--- A number of four bytes, and the bytes after it.
 pub drop-number_4 : (k x : ℕ) (bytes : List ℕ) → k + 4 ≤ length bytes → IsBytes bytes
     → x ≡ little_number 4 (take 4 (drop k bytes)) → drop k bytes ≡ little_bytes 4 x ++ drop (k + 4) bytes
-drop-number_4 k x bytes within fits e =
-    let part = take 4 (drop k bytes) in
-    let whole : length part ≡ 4 = omega (arith, length-take 4 (drop k bytes), length-drop k bytes) in
-    let bounded = IsBytes-take 4 (drop k bytes) (IsBytes-drop k bytes fits) in
-    drop-part k 4 bytes (little_bytes 4 x) (le_bytes_4 part x whole bounded (omega arith))
+drop-number_4 = drop-number 4 little_bytes-little_number_4
 
 -- Bytes begin with a header if they begin with the magic number, followed by the header's fields.
 pub BeginsWith-fields : (bytes : List ℕ) (header : Header) → 32 ≤ length bytes → IsBytes bytes

@@ -2,23 +2,18 @@
 use Rattle.std.proofs.Common.{◌≡◌, ◌≢◌, ℕ, ◌%◌, inl, inr, List, [], ◌∷◌, length, drop, slice_index, refl, sym, ap, subst, ◌∙◌, arith}
 use Rattle.std.specs.List.{AllByRecursion}
 use Rattle.std.proofs.lemmas.Bool.{eq-eqb, ne_eqb}
-use Rattle.std.proofs.lemmas.Nat.{le_bytes_4}
 use Rattle.byteorder.specs.Endian.{little_bytes, little_number}
 use Rattle.byteorder.specs.Numbers.{little_from-lt, little_number-reads_back}
 use Rattle.version_order.specs.declared.dependency.Dependency.{Dependency}
 use Rattle.common.proofs.Items.{AllByRecursion-no_Any, same_cons}
 use Rattle.sha2.specs.Sha256.{sha256}
+use Rattle.image_header.proofs.Fields.{little_bytes-little_number_4}
 use Rattle.image_reading.specs.declared.error.ImageError.TheVariants.{BadDigest}
 use Rattle.image_reading.specs.Area.{Entry, values_of}
 use Rattle.image_reading.specs.Fields.{FitsDependency, HasBadCounter, IsDependencyForm, IsDigestFault, SpellCounter, SpellDigest, dependency_bytes}
 use Rattle.common.specs.Bytes.{IsBytes}
 use Rattle.common.proofs.Bytes.{IsBytes-drop, IsBytes-take}
 use Rattle.image_reading.proofs.AreaLaws.{little_bytes-little_number_2}
-
--- The bytes of the number in four bytes are these four.
-pub little_bytes-little_number_4 : (value : List ℕ) → IsBytes value → length value ≡ 4
-    → little_bytes 4 (little_number 4 value) ≡ value
-little_bytes-little_number_4 value fits size = le_bytes_4 value (little_number 4 value) size fits (omega arith)
 
 -- ---- values of a type
 

@@ -2,7 +2,7 @@ use Rattle.std.proofs.Common.{◌≡◌, sym, ap, ◌∙◌}
 use Rattle.byteorder.specs.Endian.{little_number}
 use Rattle.image_reading.specs.Fields.{counter_bytes}
 use Rattle.image_reading.specs.Span.{bytes_of}
-use Rattle.image_reading.proofs.FieldLaws.{little_bytes-little_number_4}
+use Rattle.image_header.proofs.Fields.{little_bytes-little_number_4}
 use Rattle.image_reading.proofs.Spans.{IsBytes-bytes_of}
 use Rattle.image_reading.proofs.fields.counter_at.Goals as goal
 
