@@ -99,65 +99,54 @@ passes identity value manifest means (suc (suc (suc zero))) = means.class
 passes identity value manifest means (suc (suc (suc (suc zero)))) = (manifest, means.spelled, means.images)
 passes identity value manifest means (suc (suc (suc (suc (suc k))))) = (manifest, means.spelled, means.once)
 
--- The place of a refusal's check.
-abbrev place_of : ManifestError → ℕ
-place_of NotJson = 6
-place_of BadKey = 0
-place_of BadValue = 1
-place_of WrongVendor = 2
-place_of WrongClass = 3
-place_of NoComponent = 4
-place_of RepeatedComponent = 5
-place_of NoMemory = 7
-
--- The refusal at a place.
+-- The fault of each check that fails.
 abbrev fault_at : ℕ → ManifestError
 fault_at zero = BadKey
 fault_at (suc zero) = BadValue
 fault_at (suc (suc zero)) = WrongVendor
 fault_at (suc (suc (suc zero))) = WrongClass
 fault_at (suc (suc (suc (suc zero)))) = NoComponent
-fault_at (suc (suc (suc (suc (suc zero))))) = RepeatedComponent
-fault_at (suc (suc (suc (suc (suc (suc zero)))))) = NotJson
-fault_at (suc (suc (suc (suc (suc (suc (suc k))))))) = NoMemory
-
--- Each refusal is the one at its place.
-fault_at-place_of : (fault : ManifestError) → fault_at (place_of fault) ≡ fault
-fault_at-place_of NotJson = refl
-fault_at-place_of BadKey = refl
-fault_at-place_of BadValue = refl
-fault_at-place_of WrongVendor = refl
-fault_at-place_of WrongClass = refl
-fault_at-place_of NoComponent = refl
-fault_at-place_of RepeatedComponent = refl
-fault_at-place_of NoMemory = refl
+fault_at (suc (suc (suc (suc (suc k))))) = RepeatedComponent
 
 -- A property that the manifest of a value lacks holds for no manifest of the value.
 never : (value : Data) (manifest : Manifest) (P : Manifest → Type 0) → Spells value manifest → (P manifest → ⊥) → (other : Manifest) × Spells value other × P other → ⊥
 never value manifest P spelled fails (other, also, holds) = fails (subst P (Spells-unique value other manifest also spelled) holds)
 
--- The lowest refusal is at the first check that fails.
-fails_first : (identity : Identity) (value : Data) (fault : ManifestError) → IsLowestFault identity value fault → FailsFirst (checked identity value) (place_of fault)
-fails_first identity value NotJson h = absurd h
-fails_first identity value BadKey h = (tt, h)
-fails_first identity value BadValue h = ((tt, h.0), λ spelled. h.1 spelled.0 spelled.1)
-fails_first identity value WrongVendor h = (((tt, h.1.0), (h.0, h.1.1)), h.2)
-fails_first identity value WrongClass h = ((((tt, h.1.0.0), (h.0, h.1.0.1)), h.1.1), h.2)
-fails_first identity value NoComponent h =
-    (((((tt, h.1.0.0.0), (h.0, h.1.0.0.1)), h.1.0.1), h.1.1), never value h.0 (NamesImages identity) h.1.0.0.1 h.2)
-fails_first identity value RepeatedComponent h =
-    ((((((tt, h.1.0.0.0.0), (h.0, h.1.0.0.0.1)), h.1.0.0.1), h.1.0.1), (h.0, h.1.0.0.0.1, h.1.1)), never value h.0 NamesEachOnce h.1.0.0.0.1 h.2)
-fails_first identity value NoMemory h = absurd h
+-- The lowest refusal has its place among the checks: the first that fails.
+fails_at : (identity : Identity) (value : Data) (fault : ManifestError) → IsLowestFault identity value fault
+    → (place : ℕ) × FailsFirst (checked identity value) place × (fault ≡ fault_at place)
+fails_at identity value NotJson h = absurd h
+fails_at identity value BadKey h = (0, (tt, h), refl)
+fails_at identity value BadValue h = (1, ((tt, h.0), λ spelled. h.1 spelled.0 spelled.1), refl)
+fails_at identity value WrongVendor h = (2, (((tt, h.1.0), (h.0, h.1.1)), h.2), refl)
+fails_at identity value WrongClass h = (3, ((((tt, h.1.0.0), (h.0, h.1.0.1)), h.1.1), h.2), refl)
+fails_at identity value NoComponent h = (
+  4,
+  (((((tt, h.1.0.0.0), (h.0, h.1.0.0.1)), h.1.0.1), h.1.1), never value h.0 (NamesImages identity) h.1.0.0.1 h.2),
+  refl,
+)
+fails_at identity value RepeatedComponent h = (
+  5,
+  (
+    (((((tt, h.1.0.0.0.0), (h.0, h.1.0.0.0.1)), h.1.0.0.1), h.1.0.1), (h.0, h.1.0.0.0.1, h.1.1)),
+    never value h.0 NamesEachOnce h.1.0.0.0.1 h.2,
+  ),
+  refl,
+)
+fails_at identity value NoMemory h = absurd h
 
 -- A value has at most one lowest refusal.
 pub IsLowestFault-unique : (identity : Identity) (value : Data) (one other : ManifestError) → IsLowestFault identity value one → IsLowestFault identity value other → one ≡ other
 IsLowestFault-unique identity value one other a b =
-    let place = FailsFirst-unique (checked identity value) (place_of one) (place_of other) (fails_first identity value one a) (fails_first identity value other b) in
-    sym (fault_at-place_of one) ∙ ap fault_at place ∙ fault_at-place_of other
+    let at = fails_at identity value one a in
+    let too = fails_at identity value other b in
+    at.2 ∙ ap fault_at (FailsFirst-unique (checked identity value) at.0 too.0 at.1 too.1) ∙ sym too.2
 
 -- A value that means a manifest has no lowest refusal.
 pub means_or_fails : (identity : Identity) (value : Data) (manifest : Manifest) (fault : ManifestError) → Means identity value manifest → IsLowestFault identity value fault → ⊥
-means_or_fails identity value manifest fault means fails = (fails_first identity value fault fails).1 (passes identity value manifest means (place_of fault))
+means_or_fails identity value manifest fault means fails =
+    let at = fails_at identity value fault fails in
+    at.1.1 (passes identity value manifest means at.0)
 
 -- ---- what the reader returns
 
