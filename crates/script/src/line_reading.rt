@@ -5,7 +5,7 @@ ghost use Rattle.std.specs.Char.{is_ascii_hexdigit};
 ghost use Rattle.std.specs.List.{list_all};
 ghost use Rattle.std.specs.Option.{option_map};
 ghost use Rattle.common.specs.Event.{event_map};
-ghost use Rattle.script.specs.LineReading.{accept_of, cut_line_of, event_at, hex_of, image_event, line_at, piece_of, said_of, torn_of};
+ghost use Rattle.script.specs.LineReading.{accept_of, cut_line_of, event_at, hex_of, image_event, piece_of, said_of, torn_of};
 ghost use Rattle.script.specs.LineText.{IsLineText};
 ghost use Rattle.script.specs.Said.{Said, said, said_file, said_torn};
 
