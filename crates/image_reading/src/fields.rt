@@ -1,6 +1,6 @@
 //! Reads the fields that entries hold: digest, security counter, dependencies and groups.
 
-ghost use Rattle.std.specs.Prelude.{◌≡◌, ◌≢◌, ◌↔◌, ℕ, ◌≤◌, ◌∷◌, [], List, length, IsTrue, IfOk, IfErr, IfSome, IfNone};
+ghost use Rattle.std.specs.Prelude.{◌≡◌, ◌≢◌, ◌↔◌, ℕ, ◌∷◌, [], List, length, IsTrue, IfOk, IfErr, IfSome, IfNone};
 ghost use Rattle.flash_model.specs.Chip.{Chip};
 ghost use Rattle.image_reading.specs.Fields.{FitsDependency, IsCounterFault, IsDependencyFault, IsDependencyForm, IsDigestFault, SpellCounter, counter_bytes, dependency_bytes};
 ghost use Rattle.image_reading.specs.Gathered.{AreNeeds, CanReadOccurrence, HaveMetDependencies, HaveMetGroups, IsOccurrence};

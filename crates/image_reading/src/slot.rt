@@ -1,6 +1,6 @@
 //! Describes the image or the file in a slot.
 
-ghost use Rattle.std.specs.Prelude.{◌≡◌, ◌<◌, ◌≤◌, Err, IfErr, IfOk, Ok, OnErr, OnOk, false, true};
+ghost use Rattle.std.specs.Prelude.{◌≡◌, ◌<◌, ◌≤◌, Err, IfErr, IfOk, Ok, OnOk, false, true};
 ghost use Rattle.flash_model.specs.Chip.{Chip, Ends};
 ghost use Rattle.flash_model.specs.declared.error.FlashError.{FlashError};
 ghost use Rattle.sector_map.specs.Map.{HasImage, IsLaidOut, length_of};

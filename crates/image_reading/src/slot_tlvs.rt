@@ -1,10 +1,9 @@
 //! Walks over the entries of an area in a flash.
 
-ghost use Rattle.std.specs.Prelude.{◌≡◌, ◌<◌, ◌∷◌, [], IfErr, IfNone, IfOk, IfSome, OnErr, OnOk};
-ghost use Rattle.std.specs.Option.{option_map_or};
+ghost use Rattle.std.specs.Prelude.{◌≡◌, ◌<◌, [], IfNone, IfOk, IfSome, OnErr, OnOk};
 ghost use Rattle.flash_model.specs.Chip.{Ends};
 ghost use Rattle.image_reading.specs.Reading.{rest_of};
-ghost use Rattle.image_reading.specs.SlotTlvs.{IsStep, LiesAtStep, slot_tlv_view, slot_tlvs_left, slot_tlvs_rest};
+ghost use Rattle.image_reading.specs.SlotTlvs.{IsStep, LiesAtStep, slot_tlvs_rest};
 ghost use Rattle.image_reading.specs.Span.{CanRead, IsInside, bytes_of};
 
 use crate::medium::Medium;
