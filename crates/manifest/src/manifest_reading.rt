@@ -2,7 +2,7 @@
 
 ghost use Rattle.std.specs.Prelude.{◌≡◌, ◌≢◌, ◌⊎◌, ◌↔◌, ◌<◌, IfErr, IfNone, IfOk, IfSome, IsErrOf, IsTrue, length};
 ghost use Rattle.serde_json.specs.View.{view};
-ghost use Rattle.manifest.specs.Fault.{IsLowestFault, IsManifest, IsRefusal};
+ghost use Rattle.manifest.specs.Fault.{IsLowestFault, IsManifest, IsRefusal, MeetsClass};
 ghost use Rattle.manifest.specs.Manifest.{HasKeys, Means, Spells};
 ghost use Rattle.manifest.specs.declared.error.ManifestError.{ManifestError};
 ghost use Rattle.manifest.specs.declared.manifest.Manifest.{Manifest};
@@ -60,9 +60,9 @@ fn spelled(value: &Value) -> Option<Manifest>
     })
 }
 
-/// Reads the manifest of a value, for a device of this identity.
-fn meant(value: &Value, identity: &Identity) -> Result<Manifest, ManifestError>
-    ensures means { IfOk result (Means identity.now (view value.now)) }
+/// Reads the manifest of a value that names the vendor and the class of a device.
+fn addressed(value: &Value, identity: &Identity) -> Result<Manifest, ManifestError>
+    ensures meets { IfOk result (MeetsClass identity.now (view value.now)) }
     ensures fault { IfErr result (IsLowestFault identity.now (view value.now)) }
 {
     if !has_keys(value) {
@@ -75,6 +75,15 @@ fn meant(value: &Value, identity: &Identity) -> Result<Manifest, ManifestError>
     if uuid(value, "class-id") != Some(identity.class) {
         return Err(ManifestError::WrongClass);
     }
+    Ok(manifest)
+}
+
+/// Reads the manifest of a value, for a device of this identity.
+fn meant(value: &Value, identity: &Identity) -> Result<Manifest, ManifestError>
+    ensures means { IfOk result (Means identity.now (view value.now)) }
+    ensures fault { IfErr result (IsLowestFault identity.now (view value.now)) }
+{
+    let manifest = addressed(value, identity)?;
     if !name_images_below(manifest.components.as_slice(), identity.images) {
         return Err(ManifestError::NoComponent);
     }
