@@ -12,7 +12,7 @@ use Rattle.set_log.specs.Log.{is_place_free, log_bytes, log_of, record_of}
 use Rattle.set_log.specs.Ring.{IsFree, is_closed, last_of}
 use Rattle.set_log.specs.Written.{HasClosingFlag, IsBesideNext, IsMovedOn, IsWritten, PutsRecord}
 
--- The map is laid out on the flash, the log has a sector with this number, and all places of the
+-- The map is laid out on the flash, and the log has a sector with this number. All places of the
 -- sector from this index on are erased.
 pub record CanWrite (map : SectorMap) (number index : ℕ) (chip : Chip) : Type 0 where
   pub laid_out : IsLaidOut map chip

@@ -56,8 +56,8 @@ pub fn append<F: Flash>(flash: &mut F, map: &SectorMap, state: &State) -> Result
     append_record(flash, map, &body)
 }
 
-/// Starts a new log with a state, whatever the log contains: erases its three sectors, writes the
-/// record at the first place of the first sector, and closes the third.
+/// Starts a new log with a state, whatever the log contains. The call erases the three sectors,
+/// writes the record at the first place of the first sector, and closes the third.
 ///
 /// The map must be laid out on the flash. The state must fit the map's images: `State::fits` checks
 /// this. Does not allocate.
