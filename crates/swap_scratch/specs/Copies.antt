@@ -3,8 +3,8 @@ use Rattle.std.specs.Prelude.{◌≡◌, ◌≢◌, ℕ, ◌+◌, ◌*◌, ◌/�
 use Rattle.flash_model.specs.declared.error.FlashError.{FlashError}
 use Rattle.flash_model.specs.Chip.{Chip, size_of, Ends, IsCopy, IsErased, SameOutside}
 
--- A number of bytes can be copied from one address to another: both ranges are inside the flash,
--- and the second range is erased and consists of whole units.
+-- A number of bytes can be copied from one address to another. Both ranges are inside the flash.
+-- The second range is erased and consists of whole units.
 pub record CanCopy (from to n : ℕ) (chip : Chip) : Type 0 where
   pub from_inside : from + n ≤ size_of chip
   pub to_inside : to + n ≤ size_of chip

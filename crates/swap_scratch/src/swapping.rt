@@ -40,8 +40,8 @@ fn swap_member<F: Flash>(
 ///
 /// # Errors
 /// `Cut` if power failed during a write. The flash is then at a place of the same swap: each byte
-/// of the old contents is in a slot of its image or in scratch, and another call completes the
-/// swap. `Off` if the flash was already off: nothing changed.
+/// of the old contents is in a slot of its image or in scratch. Another call completes the swap.
+/// `Off` if the flash was already off: nothing changed.
 pub fn swap_set<F: Flash>(flash: &mut F, map: &SectorMap, mask: u8, side: Side) -> Result<()>
     requires images { HasImages map.now mask (F.chip flash.old) }
     ensures { Swaps map.now mask side (F.chip flash.old) (F.chip flash.new) result }
