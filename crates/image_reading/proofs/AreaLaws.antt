@@ -154,8 +154,8 @@ first_entry-parts bytes entry rest fits e =
 
 -- ---- all entries
 
--- A walk over entries, with a limit on the number of steps: its value if no entry begins, and the
--- value that one more entry adds.
+-- A walk over entries, with a limit on the number of steps: its value if no entry begins, and how
+-- one more entry changes it.
 module _ {A : Type 0} (walk : ℕ → List ℕ → A) (none : List ℕ → A) (more : Entry → A → A)
     (at_zero : (bytes : List ℕ) → walk zero bytes ≡ none bytes)
     (at_suc : (n : ℕ) (bytes : List ℕ) → walk (suc n) bytes

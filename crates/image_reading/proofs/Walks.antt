@@ -64,7 +64,7 @@ IsFilled-left area left fits short same =
     let filled = IsFilled-rest_of area fits short in
     (λ none. filled.1 (sym same ∙ nil_from_length left none), λ is. ap length (same ∙ filled.0 is))
 
--- The progress of a walk over an area: the flash is unchanged, the remaining span can be read, and
+-- The progress of a walk over an area. The flash is unchanged, the remaining span can be read, and
 -- the bytes after all entries are the same.
 pub record HasWalked (chip now : Chip) (area left : Span) : Type 0 where
   pub same : now ≡ chip

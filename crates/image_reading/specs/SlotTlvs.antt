@@ -26,8 +26,8 @@ abbrev pub IsStep : Chip → SlotTlvs → SlotTlvs → Option SlotTlv → Type 0
 IsStep chip old new given = slot_tlvs_left chip old
     ≡ option_map_or (λ tlv. slot_tlv_view chip tlv ∷ slot_tlvs_left chip new) given []
 
--- An entry is at the beginning of a span, and the rest is after it: its value follows the head of
--- four bytes, and the rest follows the value, up to the end of the span.
+-- An entry is at the beginning of a span, and the rest is after it. The entry's value follows the
+-- head of four bytes. The rest follows the value, up to the end of the span.
 pub record LiesFirst (span : Span) (tlv : SlotTlv) (rest : Span) : Type 0 where
   pub value : tlv.value.at ≡ span.at + 4
   pub rest_at : rest.at ≡ tlv.value.at + tlv.value.len

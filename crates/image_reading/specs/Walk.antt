@@ -8,8 +8,8 @@ abbrev pub BeginsWithEntry : List ℕ → Type 0
 BeginsWithEntry bytes = (entry : Entry) × (after : List ℕ)
     × FitsEntry entry × (bytes ≡ entry_bytes entry ++ after)
 
--- A walk over an area gives these entries, and leaves this rest: the area is the bytes of the
--- entries followed by the rest, and the rest doesn't begin with a further entry.
+-- A walk over an area gives these entries, and leaves this rest. The area is the bytes of the
+-- entries followed by the rest. The rest doesn't begin with a further entry.
 pub record IsWalk (area : List ℕ) (entries : List Entry) (rest : List ℕ) : Type 0 where
   pub parts : area ≡ entries_bytes entries ++ rest
   pub fit : AllByRecursion FitsEntry entries

@@ -22,10 +22,18 @@ use crate::span::Span;
 ///
 /// # Errors
 ///
-/// The first check that fails, in this order: header, protected area, unprotected area, digest, the
-/// forms of dependencies and groups, the number of dependencies, the number of groups, security
-/// counter, and that no bytes follow the image. `NoDigest`, `TwoDigests` and all later errors of
-/// this order require that the header and both areas pass their checks.
+/// The first check that fails, in this order:
+///
+/// - The header.
+/// - The protected area, and then the unprotected area.
+/// - The digest.
+/// - The forms of dependencies and groups.
+/// - The number of dependencies, and then the number of groups.
+/// - The security counter.
+/// - No bytes follow the image.
+///
+/// `NoDigest`, `TwoDigests` and all later errors of this order require that the header and both
+/// areas pass their checks.
 pub fn describe(bytes: &[u8]) -> Result<Desc, ImageError>
     // The bytes are an intact image with this description.
     ensures described { IfOk result (IsIntact bytes.now) }

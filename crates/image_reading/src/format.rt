@@ -6,8 +6,8 @@ pub const PROTECTED_MAGIC: u16 = 0x6908;
 /// The magic number of an unprotected area (`IMAGE_TLV_INFO_MAGIC`).
 pub const UNPROTECTED_MAGIC: u16 = 0x6907;
 
-/// The length in bytes of the head of an area (its magic number and its length), and of the head of
-/// an entry (its type and the length of its value).
+/// The length in bytes of the head of an area, and of the head of an entry. The head of an area is
+/// its magic number and its length. The head of an entry is its type and the length of its value.
 pub const HEAD_LENGTH: usize = 4;
 
 /// The type of the entry of a digest (`IMAGE_TLV_SHA256`).

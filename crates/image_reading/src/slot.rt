@@ -27,9 +27,12 @@ use sector_map::{SectorMap, Side};
 /// The map must be laid out on the flash, and must have the image. `image` is its number, from 0.
 ///
 /// Header, body and protected area are read once for the digest, in pieces of at most 256 bytes. In
-/// addition, the following bytes are read at most once: the header, the first four bytes of each
-/// area, the type and length of each entry, and the values of digest, dependencies, groups and
-/// security counter. No other bytes are read.
+/// addition, these bytes are read at most once, and no others are:
+///
+/// - The header.
+/// - The first four bytes of each area.
+/// - The type and the length of each entry.
+/// - The values of digest, dependencies, groups and security counter.
 ///
 /// # Errors
 /// `Image` with the first check that fails, as in [`describe`](crate::describe), except that bytes
