@@ -12,7 +12,7 @@ pub enum ManifestError {
     /// The bytes aren't the JSON text of a value.
     #[error("no JSON text")]
     NotJson,
-    /// The value isn't an object with exactly the keys of a manifest, or an object among its
+    /// The value isn't an object with exactly the keys of a manifest. Or an object among its
     /// components doesn't have exactly the keys of a component.
     #[error("a key that is missing, or one that isn't known")]
     BadKey,
