@@ -27,7 +27,7 @@ fn swap_member<F: Flash>(
 }
 
 /// Swaps the primary and the secondary slot of each image of a mask through scratch, in ascending
-/// order. It continues a swap that was interrupted anywhere.
+/// order. It starts a swap, or continues one that was interrupted anywhere.
 ///
 /// The map must be laid out on the flash. Bit i of the mask is image i: the mask must have only
 /// images of the map. The status units of the images' trailers of `side` count the progress. The
