@@ -1,8 +1,9 @@
-//! The calls of a device whose owner holds its flash, its open uploads and whether it is up apart
-//! from one another, since they are kept elsewhere between the calls. Each is the call of a `Device`
-//! with the same contract, and asks of its caller what is true of each `Device`: that the map is
-//! laid out on the flash, and that the open uploads stand on it, of which `Uploads::stand` is the
-//! test.
+//! The calls of a device that is held in parts: its owner keeps the flash, the open uploads and
+//! whether it is booted elsewhere between calls.
+//!
+//! Each call promises what the call of a `Device` does. Its caller has to ensure what holds of each
+//! `Device`: the map is laid out on the flash, and the open uploads match the flash.
+//! `Uploads::stand` checks the latter.
 
 pub use crate::boots::boot_device;
 pub use crate::confirming::confirm_on;

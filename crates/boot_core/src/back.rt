@@ -1,6 +1,6 @@
-//! A boot from a record Back or BackSettle: the set is swapped back, and the old images run.
+//! A boot from a record `Back` or `BackSettle`: swaps the set back, so that the old images run.
 //!
-//! It comes from `trial` or from a cut.
+//! It continues a boot from `trial`, or one that a power cut interrupted.
 
 ghost use Rattle.boot_core.specs.FromBack.{BootsFromBack, BootsFromBackSettle, FinishesBack, RecordsReturned, SettlesAndReturns, SwapsBack};
 ghost use Rattle.boot_core.specs.Recorded.{HasRecord, HasRecordOf};
@@ -15,8 +15,7 @@ use set_log::{RecordKind, State, append};
 use swap_scratch::swap_set;
 use trailer::Settling;
 
-/// From Back to BackSettle: the set is swapped back, from wherever the swap stands, and this is
-/// recorded.
+/// From `Back` to `BackSettle`: finishes the swap back from wherever it is, and records that.
 fn swap_back<F: Flash>(flash: &mut F, map: &SectorMap, state: &State) -> Result<State>
     requires { HasRecordOf map.now RecordKind.Back state.now (F.chip flash.old) }
     ensures { SwapsBack map.now state.now (F.chip flash.old) (F.chip flash.new) result }
@@ -30,7 +29,7 @@ fn swap_back<F: Flash>(flash: &mut F, map: &SectorMap, state: &State) -> Result<
     append_state(flash, map, settle)
 }
 
-/// At the end of settling: the old images run.
+/// From `BackSettle`, after the trailers are settled: records that the old images run.
 fn record_returned<F: Flash>(flash: &mut F, map: &SectorMap, state: &State) -> Result<()>
     requires { HasRecord map.now state.now (F.chip flash.old) }
     ensures { RecordsReturned map.now (F.chip flash.old) (F.chip flash.new) result }
@@ -45,7 +44,7 @@ fn record_returned<F: Flash>(flash: &mut F, map: &SectorMap, state: &State) -> R
     append(flash, map, &steady)
 }
 
-/// From BackSettle to Steady: the trailers are settled, and the old images run.
+/// From `BackSettle` to `Steady`: settles the trailers, and records that the old images run.
 fn settle_and_return<F: Flash>(flash: &mut F, map: &SectorMap, state: &State) -> Result<()>
     requires { HasRecord map.now state.now (F.chip flash.old) }
     ensures { SettlesAndReturns map.now state.now (F.chip flash.old) (F.chip flash.new) result }
@@ -54,7 +53,8 @@ fn settle_and_return<F: Flash>(flash: &mut F, map: &SectorMap, state: &State) ->
     record_returned(flash, map, state)
 }
 
-/// From Back on: the set is swapped back, from wherever the swap stands, and the old images run.
+/// From `Back` to `Steady`: finishes the swap back from wherever it is, settles the trailers, and
+/// records that the old images run.
 fn finish_back<F: Flash>(flash: &mut F, map: &SectorMap, state: &State) -> Result<()>
     requires { HasRecordOf map.now RecordKind.Back state.now (F.chip flash.old) }
     ensures { FinishesBack map.now state.now (F.chip flash.old) (F.chip flash.new) result }
@@ -63,7 +63,7 @@ fn finish_back<F: Flash>(flash: &mut F, map: &SectorMap, state: &State) -> Resul
     settle_and_return(flash, map, &settle)
 }
 
-/// From a record Back: the set is swapped back.
+/// From a record `Back`: swaps the set back, and replies that it reverted.
 pub(crate) fn boot_from_back<F: Flash>(
     flash: &mut F,
     map: &SectorMap,
@@ -76,7 +76,7 @@ pub(crate) fn boot_from_back<F: Flash>(
     Ok(Reply::Reverted(state.mask))
 }
 
-/// From a record BackSettle: the set that was swapped back is settled.
+/// From a record `BackSettle`: settles the set that was swapped back, and replies that it reverted.
 pub(crate) fn boot_from_back_settle<F: Flash>(
     flash: &mut F,
     map: &SectorMap,

@@ -1,4 +1,4 @@
-//! A boot, from whatever record stands.
+//! Boots a device: reads the record in its log, and continues from there.
 
 ghost use Rattle.std.specs.Prelude.{◌≤◌, ◌≡◌, true, IfOk};
 ghost use Rattle.common.specs.Limits.{MOST_BOOTS_LEFT};
@@ -20,7 +20,7 @@ use sector_map::SectorMap;
 use set_log::{LogError, RecordKind, State, read_state};
 use upload::Uploads;
 
-/// A boot from the record that stands.
+/// Boots from the record in the log, by its kind.
 fn boot_from<F: Flash>(flash: &mut F, map: &SectorMap, state: &State, left: u8) -> Result<Reply>
     requires recorded { HasRecord map.now state.now (F.chip flash.old) }
     requires few { left ≤ MOST_BOOTS_LEFT }
@@ -36,8 +36,8 @@ fn boot_from<F: Flash>(flash: &mut F, map: &SectorMap, state: &State, left: u8) 
     }
 }
 
-/// Boots: what was interrupted is finished, or the images that run are decided. A trial that begins
-/// has so many boots after this one.
+/// Boots: finishes what was interrupted, or decides which images run. A trial that begins has
+/// `left` more boots.
 fn boot<F: Flash>(flash: &mut F, map: &SectorMap, left: u8) -> Result<Reply>
     requires laid_out { IsLaidOut map.now (F.chip flash.old) }
     requires few { left ≤ MOST_BOOTS_LEFT }
@@ -50,7 +50,7 @@ fn boot<F: Flash>(flash: &mut F, map: &SectorMap, left: u8) -> Result<Reply>
     }
 }
 
-/// What a boot answers, and whether the device is up then.
+/// Turns the reply of a boot into its result, and sets whether the device is booted.
 pub(crate) fn conclude(reply: Reply, is_booted: &mut bool) -> Result<Reply, Fault>
     requires { IsBootReply reply }
     ensures is { reply_of_boot result ≡ reply }
@@ -87,12 +87,12 @@ pub(crate) fn conclude(reply: Reply, is_booted: &mut bool) -> Result<Reply, Faul
     }
 }
 
-/// Boots a device, as `Device::boot`, with its errors: its uploads end, and it is up where the boot
-/// answers.
+/// Boots a device that is held in parts, as `Device::boot`, with its errors. The device is booted
+/// exactly if this returns a reply. All uploads end.
 ///
 /// - `flash`, `map`: the map is laid out on the flash.
-/// - `uploads`: any, of which none is open then.
-/// - `is_booted`: whether the device is up.
+/// - `uploads`: any. None is open afterwards.
+/// - `is_booted`: any. Afterwards it says whether the device is booted.
 /// - `left`: how many boots a trial that begins has after this one, 0 to 6.
 ///
 /// Does not allocate.

@@ -1,4 +1,4 @@
-//! Confirming an image on trial.
+//! Confirms an image of a set on trial.
 
 ghost use Rattle.std.specs.Prelude.{◌≡◌, true, false, Some};
 ghost use Rattle.boot_core.specs.Confirming.{Confirms, ConfirmsImage};
@@ -18,7 +18,8 @@ use set_log::{LogError, RecordKind, State, read_state};
 use trailer::set_ok;
 use upload::Uploads;
 
-/// In Trial: an image of the set is confirmed; whether it is one.
+/// Confirms an image if it is in the set of this record, and returns whether it is. The record is
+/// that of a trial.
 fn confirm_image<F: Flash>(flash: &mut F, map: &SectorMap, state: &State, image: u8) -> Result<bool>
     requires laid_out { IsLaidOut map.now (F.chip flash.old) }
     requires read { state_of map.now (F.chip flash.old) ≡ Some state.now }
@@ -35,7 +36,7 @@ fn confirm_image<F: Flash>(flash: &mut F, map: &SectorMap, state: &State, image:
     Ok(true)
 }
 
-/// Whether a record is that of a trial.
+/// Whether a record says that a set is on trial.
 pub(crate) fn is_trial(kind: RecordKind) -> bool
     ensures yes { result ≡ true → kind ≡ RecordKind.Trial }
     ensures other { result ≡ false → kind ≡ RecordKind.Trial → ⊥ }
@@ -43,7 +44,7 @@ pub(crate) fn is_trial(kind: RecordKind) -> bool
     matches!(kind, RecordKind::Trial)
 }
 
-/// An image is confirmed, where it is on trial; whether it is.
+/// Confirms an image if it is on trial, and returns whether it is.
 pub(crate) fn confirm<F: Flash>(flash: &mut F, map: &SectorMap, image: u8) -> Result<bool>
     requires laid_out { IsLaidOut map.now (F.chip flash.old) }
     ensures { Confirms map.now image (F.chip flash.old) (F.chip flash.new) result }
@@ -62,15 +63,16 @@ pub(crate) fn confirm<F: Flash>(flash: &mut F, map: &SectorMap, image: u8) -> Re
     }
 }
 
-/// Confirms an image of the set on trial, told by its number from 0, as `Device::confirm`, with its
-/// errors.
+/// Confirms an image of the set on trial on a device that is held in parts, as `Device::confirm`,
+/// with its errors.
 ///
 /// - `flash`, `map`: the map is laid out on the flash.
-/// - `uploads`: those that are open, which stand on the flash.
-/// - `is_booted`: whether the device is up.
+/// - `uploads`: the open uploads, which match the flash.
+/// - `is_booted`: whether the device is booted.
+/// - `image`: its number, from 0.
 ///
-/// Where the flash stopped the call no upload is open then, and the device isn't up. Does not
-/// allocate.
+/// If the flash stopped the call, the device isn't booted afterwards, and no upload is open. Does
+/// not allocate.
 pub fn confirm_on<F: Flash>(
     flash: &mut F,
     map: &SectorMap,

@@ -1,5 +1,5 @@
-//! What follows from the decision of a boot: the set that is taken, the floors then, the reply; and
-//! the decision of a record, found again.
+//! What follows from the decision of a boot: the set to take, the raised floors and the reply. It
+//! also finds the decision of a record again.
 
 ghost use Rattle.std.specs.Prelude.{◌<◌, ◌≤◌, ◌≡◌, ℕ, ◌^◌, length};
 ghost use Rattle.boot_core.specs.Deciding.{AnswersFinding, AreForGoodIn, FindsAgain, IsForGoodIn};
@@ -21,9 +21,9 @@ use trailer::{Kind, standing};
 
 /// The mask of the images that a report takes.
 pub(crate) fn taken_mask(report: &Report) -> u8
-    // These images are in it and no others ..
+    // The mask has an image exactly if the report takes it.
     ensures each { (i : ℕ) → is_member result i ≡ taken_in report.now i }
-    // .. and there is no other such mask.
+    // No other mask of 8 bits does.
     ensures only { (mask : ℕ) → mask < 2 ^ 8
         → ((i : ℕ) → is_member mask i ≡ taken_in report.now i) → mask ≡ result }
 {
@@ -34,13 +34,15 @@ pub(crate) fn taken_mask(report: &Report) -> u8
     mask_of(&members)
 }
 
-/// The decision of a record, found again where the slots of its set are swapped, with these floors.
-/// `Damaged` tells the lowest image of which what ran, or what is of the set, isn't intact;
-/// `Invalid` that the table that is read isn't valid, or has another greatest set. Neither is so of
-/// a decision.
+/// Finds the decision of a record again after the slots of its set were swapped. `floors` are those
+/// of the record.
+///
+/// `Damaged` names the lowest image that can't be read: its old bytes aren't intact, or its new
+/// bytes if it is in the set. `Invalid` says that the table isn't valid, or has another greatest
+/// set. If the record is of a decision, neither is found.
 ///
 /// # Errors
-/// `Off` where the flash was off. Nothing changes in any case.
+/// `Off`: the flash was off. Nothing changes in any case.
 pub(crate) fn find_again<F: Flash>(
     flash: &mut F,
     map: &SectorMap,
@@ -61,7 +63,7 @@ pub(crate) fn find_again<F: Flash>(
     }
 }
 
-/// The security counter of what runs of an image once a set is taken.
+/// The security counter of the image that runs after a set is taken.
 fn counter_in(image: &Image, is_taken: bool) -> u32
     ensures { result ≡ (entry_in image.now is_taken).counter }
 {
@@ -71,7 +73,7 @@ fn counter_in(image: &Image, is_taken: bool) -> u32
     }
 }
 
-/// Floors raised to the security counters of what runs of these images once a set is taken.
+/// Raises floors to the security counters of the images that run after a set is taken.
 fn raised(images: &[Image], mask: u8, floors: &[u32; MOST_IMAGES]) -> [u32; MOST_IMAGES]
     requires { length images.now ≤ MOST_IMAGES }
     ensures { AreRaisedBy images.now mask (length images.now) floors.now result }
@@ -84,8 +86,8 @@ fn raised(images: &[Image], mask: u8, floors: &[u32; MOST_IMAGES]) -> [u32; MOST
     raised
 }
 
-/// Floors raised to the security counters of what runs once a set of a table is taken. No floor
-/// falls.
+/// Raises floors to the security counters of the images that run after a set of a table is taken.
+/// No floor falls.
 pub(crate) fn raised_floors(
     table: &Table,
     mask: u8,
@@ -97,7 +99,7 @@ pub(crate) fn raised_floors(
     raised(&table.images, mask, floors)
 }
 
-/// Whether a request that asks to be permanent stands for an image.
+/// Whether a permanent request is pending for an image.
 fn is_for_good<F: Flash>(flash: &mut F, map: &SectorMap, image: u8) -> Result<bool>
     requires { HasImage map.now image (F.chip flash.old) }
     ensures { Tells (IsForGoodIn map.now image) (F.chip flash.old) (F.chip flash.new) result }
@@ -106,10 +108,10 @@ fn is_for_good<F: Flash>(flash: &mut F, map: &SectorMap, image: u8) -> Result<bo
     Ok(matches!(standing, Some(Kind::Permanent)))
 }
 
-/// Whether each image of a set asks to be permanent.
+/// Whether each image of a set has a permanent request.
 ///
 /// # Errors
-/// `Off` where the flash was off. Nothing changes in any case.
+/// `Off`: the flash was off. Nothing changes in any case.
 pub(crate) fn asks_for_good<F: Flash>(flash: &mut F, map: &SectorMap, mask: u8) -> Result<bool>
     requires laid_out { IsLaidOut map.now (F.chip flash.old) }
     ensures { Tells (AreForGoodIn map.now mask) (F.chip flash.old) (F.chip flash.new) result }
@@ -122,7 +124,7 @@ pub(crate) fn asks_for_good<F: Flash>(flash: &mut F, map: &SectorMap, mask: u8) 
     Ok(true)
 }
 
-/// The reply to what is found.
+/// The reply of a boot to what it found.
 pub(crate) fn reply_to(finding: Finding, permanent: bool) -> Reply
     ensures { AnswersFinding finding permanent result }
 {

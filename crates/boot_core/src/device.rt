@@ -21,13 +21,14 @@ use std::alloc::Global;
 use std::marker::Model;
 use upload::Uploads;
 
-/// A device: its flash and what it holds besides. Contracts see what it was made with (`setup`),
-/// and what there is of it now (`here`): the flash, the uploads that are open, and whether it is
-/// up, which it is from a boot that answers until the power fails or it is reset.
+/// A device: its flash, its open uploads, and whether it is booted.
 ///
-/// No call has a condition. On a flash that holds a state each is a step of the machine of whole
-/// images (`machine`); on any other it returns too, and its answer is one of the faults that it
-/// lists.
+/// Contracts see what it was made with (`setup`) and its state (`here`). A device is booted after a
+/// boot that succeeds. It stays booted until a later boot is refused, the flash stops a call, or
+/// the device is reset.
+///
+/// No call has a precondition. On a flash that holds a state, each call is a step of the machine of
+/// whole images (`machine`). On any other flash it returns too.
 #[derive(Drop)]
 pub struct Device<F: Flash> {
     flash: F,
@@ -53,11 +54,13 @@ impl<F: Flash> Model for Device<F> {
 }
 
 impl<F: Flash> Device<F> {
-    /// A device whose trials have one boot: a set on trial that isn't confirmed until the next boot
-    /// goes back.
+    /// Makes a device whose trials last one boot: a set on trial that isn't confirmed by the next
+    /// boot reverts then.
     ///
-    /// The map is laid out on the flash, of which its `fits` is the test, and has as many images as
-    /// the identity says. The device isn't up. Does not allocate.
+    /// - `flash`, `map`: the map is laid out on the flash, which `SectorMap::fits` checks.
+    /// - `identity`: has as many images as the map.
+    ///
+    /// The device isn't booted, and no upload is open. The flash doesn't change. Does not allocate.
     pub fn new(flash: F, map: SectorMap, identity: Identity) -> Self
         requires laid_out { IsLaidOut map (F.chip flash) }
         requires images { identity.images ≡ map.images }
@@ -66,11 +69,14 @@ impl<F: Flash> Device<F> {
         Device::with_trial(flash, map, identity, 1)
     }
 
-    /// A device whose trials have so many boots, 1 to 7: a set on trial that isn't confirmed goes
-    /// back at the boot after the last of them.
+    /// Makes a device whose trials last `boots` boots: a set on trial that isn't confirmed reverts
+    /// at the boot after the last of them.
     ///
-    /// The map is laid out on the flash, of which its `fits` is the test, and has as many images as
-    /// the identity says. The device isn't up. Does not allocate.
+    /// - `flash`, `map`: the map is laid out on the flash, which `SectorMap::fits` checks.
+    /// - `identity`: has as many images as the map.
+    /// - `boots`: 1 to 7. The boot that begins a trial is the first of them.
+    ///
+    /// The device isn't booted, and no upload is open. The flash doesn't change. Does not allocate.
     pub fn with_trial(flash: F, map: SectorMap, identity: Identity, boots: u8) -> Self
         requires laid_out { IsLaidOut map (F.chip flash) }
         requires images { identity.images ≡ map.images }
@@ -88,19 +94,27 @@ impl<F: Flash> Device<F> {
         }
     }
 
-    /// Boots: what was interrupted is finished, or the images that run next are decided. All
-    /// uploads end. The answer is what the boot did: `Booted` with the table and the report of its
-    /// decision, `Reverted`, or `TrialAgain`; the device is up then. Does not allocate.
+    /// Boots the device: finishes what was interrupted, or decides which images run next.
+    ///
+    /// Returns what the boot did: `Booted` with the table and the report of its decision,
+    /// `Reverted`, or `TrialAgain`. The device is booted then. All uploads end. Does not allocate.
     ///
     /// # Errors
-    /// The device isn't up. `NotProvisioned` where the log has no state: nothing changed.
-    /// `RunningDamaged` and `InvalidSet` where the images that run are damaged or don't meet their
-    /// dependencies, which comes of no state that a device was provisioned to: nothing changed, but
-    /// that a trial which was wholly confirmed is recorded as over. In the midst of an upgrade
-    /// `RunningDamaged` names the lowest image of which what ran, or what is of the set, is
-    /// damaged, and nothing is written once the swap is done. `Flash` with `Cut` where power
-    /// failed: the state is the one before the boot, that state as it is read, or the one after it;
-    /// with `Off` where the flash was off, and nowhere else.
+    /// After each of these the device isn't booted.
+    ///
+    /// - `NotProvisioned`: the log has no state. Nothing is written.
+    /// - `RunningDamaged`: a running image isn't intact. During an upgrade this includes the old
+    ///   and the new image of each member of the set. It names the lowest such image.
+    /// - `InvalidSet`: the running images don't meet their dependencies. During an upgrade: the old
+    ///   images don't, or another set would be chosen.
+    /// - `Flash(Cut)`: power failed. The state of the device is the one before the boot, that state
+    ///   as the boot reads it, or the one after the boot.
+    /// - `Flash(Off)`: the flash was off. It is returned in no other case, and nothing is written.
+    ///
+    /// `RunningDamaged` and `InvalidSet` write nothing, with two exceptions. If each image of a set
+    /// on trial is confirmed, the boot has recorded that the trial is over. If the boot found an
+    /// interrupted swap of an upgrade, it has written no more than that swap. A device on which
+    /// `provision` succeeded, and whose flash only these calls changed, returns neither error.
     pub fn boot(&mut self) -> Result<Reply, Fault>
         ensures { BootsDevice self.old self.new result }
     {
@@ -113,16 +127,26 @@ impl<F: Flash> Device<F> {
         )
     }
 
-    /// Takes a manifest, given by the bytes of its JSON text: an upload is opened for each image
-    /// that it names, and what was requested for these is gone. Allocates while the text is read.
+    /// Accepts a manifest, given by the bytes of its JSON text: opens an upload for each image that
+    /// it names, and cancels pending requests for these images. Allocates while it reads the text.
     ///
     /// # Errors
-    /// The first of: `NotBooted`; `OnTrial`; `NotProvisioned` where the log has no state;
-    /// `Manifest` with the lowest refusal that applies, or `NoMemory` while the text is read;
-    /// `Upload` with `OldSequence`, `TooBig` or `WrongPrecursor`. Nothing changed then. `Upload`
-    /// with `Flash` where power failed or the flash was off: the device isn't up and no upload is
-    /// open; after a cut the old sequence number stands and each request as it was, or the new one
-    /// and each request of a named image as it was or gone.
+    /// The first that applies:
+    ///
+    /// - `NotBooted`: the device isn't booted.
+    /// - `Flash(Off)`: the flash was off.
+    /// - `OnTrial`: a set is on trial.
+    /// - `NotProvisioned`: the log has no state.
+    /// - `Manifest` with the lowest refusal of the text that applies, or `NoMemory` if memory runs
+    ///   out while the text is read.
+    /// - `Upload` with `OldSequence`, `TooBig` or `WrongPrecursor` (RFC 9124, "Monotonic Sequence
+    ///   Number" and "Precursor Image Digest Condition").
+    /// - `Upload` with `Flash(Cut)`: power failed. Either the old sequence number is stored and
+    ///   each request is as before. Or the new number is stored, and each request of a named image
+    ///   is as before or gone.
+    ///
+    /// After `Flash(Off)` and a power cut the device isn't booted, and no upload is open. After
+    /// each other error nothing has changed.
     pub fn accept(&mut self, alloc: Global, text: &[u8]) -> Result<(), Fault>
         ensures taken { Takes (event.Accept text.entry) any_part self.old self.new result }
         ensures named { TouchesNamed self.old.setup.map self.old.setup.identity text.now
@@ -139,16 +163,26 @@ impl<F: Flash> Device<F> {
         )
     }
 
-    /// Takes a manifest that was read already, as `accept` takes any text that means it: an upload
-    /// is opened for each image that it names, and what was requested for these is gone. Where two
-    /// components name an image the last one counts. A manifest has neither vendor nor class: who
-    /// reads it compares them. Does not allocate.
+    /// Accepts a manifest that was parsed before, as `accept` accepts any text that means it: opens
+    /// an upload for each image that it names, and cancels pending requests for these images. Does
+    /// not allocate.
+    ///
+    /// If two components name the same image, the last one counts. A `Manifest` has neither vendor
+    /// nor class: its reader compares them with those of the device.
     ///
     /// # Errors
-    /// The first of: `NotBooted`; `OnTrial`; `NotProvisioned` where the log has no state;
-    /// `Manifest` with `NoComponent` where it names an image that the device lacks; `Upload` with
-    /// `OldSequence`, `TooBig` or `WrongPrecursor`. Nothing changed then. `Upload` with `Flash`
-    /// where power failed or the flash was off, as in `accept`.
+    /// The first that applies:
+    ///
+    /// - `NotBooted`: the device isn't booted.
+    /// - `Flash(Off)`: the flash was off.
+    /// - `OnTrial`: a set is on trial.
+    /// - `NotProvisioned`: the log has no state.
+    /// - `Manifest` with `NoComponent`: it names an image that the device lacks.
+    /// - `Upload` with `OldSequence`, `TooBig` or `WrongPrecursor`.
+    /// - `Upload` with `Flash(Cut)`: power failed, as in `accept`.
+    ///
+    /// After `Flash(Off)` and a power cut the device isn't booted, and no upload is open. After
+    /// each other error nothing has changed.
     pub fn accept_manifest(&mut self, manifest: &Manifest) -> Result<(), Fault>
         ensures { TakesManifest manifest.now self.old self.new result }
     {
@@ -162,14 +196,25 @@ impl<F: Flash> Device<F> {
         )
     }
 
-    /// Takes a piece of the upload of an image, told by its number from 0: the bytes that follow
-    /// those before. Does not allocate.
+    /// Takes the next bytes of an image's upload. Does not allocate.
+    ///
+    /// - `image`: its number, from 0.
+    /// - `more`: the bytes that follow those of earlier pieces.
     ///
     /// # Errors
-    /// The first of: `NotBooted`; `OnTrial`; `NotProvisioned` where the log has no state; `Upload`
-    /// with `NoSession`: nothing changed. `Upload` with `TooMuch`: this upload is closed. `Upload`
-    /// with `Flash` where power failed or the flash was off: the device isn't up, and no upload is
-    /// open.
+    /// The first that applies:
+    ///
+    /// - `NotBooted`: the device isn't booted.
+    /// - `Flash(Off)`: the flash was off.
+    /// - `OnTrial`: a set is on trial.
+    /// - `NotProvisioned`: the log has no state.
+    /// - `Upload` with `NoSession`: no upload of this image is open.
+    /// - `Upload` with `TooMuch`: more bytes than the manifest said. This upload is closed, and
+    ///   nothing is written.
+    /// - `Upload` with `Flash(Cut)`: power failed.
+    ///
+    /// After `Flash(Off)` and a power cut the device isn't booted, and no upload is open. After
+    /// `NotBooted`, `OnTrial`, `NotProvisioned` and `NoSession` nothing has changed.
     pub fn piece(&mut self, image: u8, more: &[u8]) -> Result<(), Fault>
         ensures { Takes (event.Piece image more.entry) (only (Slot image Secondary))
             self.old self.new result }
@@ -184,15 +229,26 @@ impl<F: Flash> Device<F> {
         )
     }
 
-    /// Finishes the upload of an image, told by its number from 0: where it is whole, of the digest
-    /// that the manifest names, and an intact image, it is requested. Does not allocate.
+    /// Finishes an image's upload, and requests the image. The image has to be complete, intact and
+    /// of the digest in the manifest. Does not allocate.
+    ///
+    /// - `image`: its number, from 0.
     ///
     /// # Errors
-    /// The first of: `NotBooted`; `OnTrial`; `NotProvisioned` where the log has no state; `Upload`
-    /// with `NoSession`: nothing changed. `Upload` with `SizeWrong`, `DigestWrong` or `NotAnImage`:
-    /// this upload is closed, and nothing is requested. `Upload` with `Flash` where power failed or
-    /// the flash was off: the device isn't up, no upload is open, and after a cut the image is
-    /// requested whole or not at all.
+    /// The first that applies:
+    ///
+    /// - `NotBooted`: the device isn't booted.
+    /// - `Flash(Off)`: the flash was off.
+    /// - `OnTrial`: a set is on trial.
+    /// - `NotProvisioned`: the log has no state.
+    /// - `Upload` with `NoSession`: no upload of this image is open.
+    /// - `Upload` with `SizeWrong`, `DigestWrong` or `NotAnImage`: this upload is closed, and
+    ///   nothing is requested. `SizeWrong` writes nothing. The other two write at most the last
+    ///   unit of the upload.
+    /// - `Upload` with `Flash(Cut)`: power failed. The image is requested complete, or not at all.
+    ///
+    /// After `Flash(Off)` and a power cut the device isn't booted, and no upload is open. After
+    /// `NotBooted`, `OnTrial`, `NotProvisioned` and `NoSession` nothing has changed.
     pub fn finish(&mut self, image: u8) -> Result<(), Fault>
         ensures { FinishesUpload image self.old self.new result }
     {
@@ -205,13 +261,22 @@ impl<F: Flash> Device<F> {
         )
     }
 
-    /// Takes the request of an image back, told by its number from 0. Does not allocate.
+    /// Cancels the request of an image. Does not allocate.
+    ///
+    /// - `image`: its number, from 0.
     ///
     /// # Errors
-    /// The first of: `NotBooted`; `OnTrial`; `NotProvisioned` where the log has no state; `Upload`
-    /// with `NothingRequested`: nothing changed. `Upload` with `Flash` where power failed or the
-    /// flash was off: the device isn't up, no upload is open, and after a cut the request stands as
-    /// before or not at all.
+    /// The first that applies:
+    ///
+    /// - `NotBooted`: the device isn't booted.
+    /// - `Flash(Off)`: the flash was off.
+    /// - `OnTrial`: a set is on trial.
+    /// - `NotProvisioned`: the log has no state.
+    /// - `Upload` with `NothingRequested`: no request of this image is pending.
+    /// - `Upload` with `Flash(Cut)`: power failed. The request is pending as before, or gone.
+    ///
+    /// After `Flash(Off)` and a power cut the device isn't booted, and no upload is open. After
+    /// each other error nothing has changed.
     pub fn withdraw(&mut self, image: u8) -> Result<(), Fault>
         ensures { Takes (event.Withdraw image) (incoming_of image) self.old self.new result }
     {
@@ -224,13 +289,21 @@ impl<F: Flash> Device<F> {
         )
     }
 
-    /// Confirms an image of the set on trial, told by its number from 0. Confirming it again is no
-    /// fault. Does not allocate.
+    /// Confirms an image of the set on trial: sets `image_ok` in its primary trailer (MCUboot design
+    /// document, "Image Trailer"). A confirmed image can be confirmed again. Does not allocate.
+    ///
+    /// - `image`: its number, from 0.
     ///
     /// # Errors
-    /// `NotBooted`, then `NotOnTrial` where no set is on trial that has the image: nothing changed.
-    /// `Flash` where power failed or the flash was off: the device isn't up and no upload is open;
-    /// after a cut the image is confirmed or as it was.
+    /// The first that applies:
+    ///
+    /// - `NotBooted`: the device isn't booted.
+    /// - `Flash(Off)`: the flash was off.
+    /// - `NotOnTrial`: no set is on trial, or the image isn't in it.
+    /// - `Flash(Cut)`: power failed. The image is confirmed, or as before.
+    ///
+    /// After `Flash(Off)` and a power cut the device isn't booted, and no upload is open. After
+    /// each other error nothing has changed.
     pub fn confirm(&mut self, image: u8) -> Result<(), Fault>
         ensures { ConfirmsTried image self.old self.new result }
     {
@@ -243,8 +316,8 @@ impl<F: Flash> Device<F> {
         )
     }
 
-    /// Resets the device: all uploads end, it isn't up, and its flash has power again. No byte of
-    /// the flash changes. Does not allocate.
+    /// Resets the device: ends all uploads, and gives the flash power again. The device isn't
+    /// booted. No byte of the flash changes. Does not allocate.
     pub fn reset(&mut self)
         ensures { Resets self.old self.new }
     {
@@ -253,14 +326,14 @@ impl<F: Flash> Device<F> {
         self.is_booted = false;
     }
 
-    /// The flash.
+    /// Borrows the flash.
     pub fn flash(&self) -> &F
         ensures { F.chip result.now ≡ self.now.here.flash }
     {
         &self.flash
     }
 
-    /// The flash, of which the device lets go, with its map laid out on it.
+    /// Returns the flash, and drops the rest of the device. The map is still laid out on the flash.
     pub fn into_flash(self) -> F
         ensures flash { F.chip result ≡ self.here.flash }
         ensures laid_out { IsLaidOut self.setup.map (F.chip result) }

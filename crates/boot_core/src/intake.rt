@@ -1,4 +1,4 @@
-//! Uploads: what the device asks before it passes a call on, and what it does where the flash stops
+//! Calls of uploads: the device's own checks before each, and its state after the flash stopped
 //! one.
 
 ghost use Rattle.std.specs.Prelude.{◌≡◌, ◌↔◌, IfErr, IfOk, IsTrue};
@@ -26,7 +26,7 @@ use set_log::{LogError, read_state};
 use std::alloc::Global;
 use upload::{UploadError, Uploads};
 
-/// Whether uploads are taken now: the device is up, the log has a state, and no set is on trial.
+/// Checks that the device takes uploads: it is booted, the log has a state, and no set is on trial.
 fn check_ready<F: Flash>(flash: &mut F, map: &SectorMap, is_booted: bool) -> Result<(), Fault>
     requires laid_out { IsLaidOut map.now (F.chip flash.old) }
     ensures { ChecksReady map.now is_booted (F.chip flash.old) (F.chip flash.new) result }
@@ -48,7 +48,7 @@ fn check_ready<F: Flash>(flash: &mut F, map: &SectorMap, is_booted: bool) -> Res
     }
 }
 
-/// Whether a call stopped at the flash.
+/// Whether a fault says that the flash stopped the call.
 fn is_stop(fault: Fault) -> bool
     ensures { result ≡ is_stop fault }
 {
@@ -58,8 +58,8 @@ fn is_stop(fault: Fault) -> bool
     )
 }
 
-/// Passes a refusal on. Where the call stopped at the flash all uploads are closed, and the device
-/// isn't up.
+/// Returns a fault unchanged. If the flash stopped the call, closes all uploads and marks the
+/// device as not booted.
 pub(crate) fn stop(uploads: &mut Uploads, is_booted: &mut bool, fault: Fault) -> Fault
     ensures { Stops fault uploads.old.sessions is_booted.old uploads.new.sessions is_booted.new result }
 {
@@ -71,8 +71,8 @@ pub(crate) fn stop(uploads: &mut Uploads, is_booted: &mut bool, fault: Fault) ->
     fault
 }
 
-/// Whether uploads are taken now. Where the flash didn't answer all uploads are closed, and the
-/// device isn't up.
+/// Checks that the device takes uploads. If the flash stopped the check, closes all uploads and
+/// marks the device as not booted.
 fn ready<F: Flash>(
     flash: &mut F,
     map: &SectorMap,
@@ -89,7 +89,8 @@ fn ready<F: Flash>(
     }
 }
 
-/// Passes on what the table of uploads answered.
+/// Turns the result of a call of `Uploads` into that of the device. If the flash stopped the call,
+/// closes all uploads and marks the device as not booted.
 fn pass_on(
     taken: Result<(), UploadError>,
     uploads: &mut Uploads,
@@ -104,7 +105,7 @@ fn pass_on(
     }
 }
 
-/// The refusal of a text: want of memory is one of the device.
+/// The device's fault for a text that was refused as a manifest. `NoMemory` is a fault of its own.
 fn refused_text(error: ManifestError) -> Fault
     ensures { result ≡ text_fault error }
 {
@@ -120,7 +121,7 @@ fn refused_text(error: ManifestError) -> Fault
     }
 }
 
-/// The manifest that bytes are for this device.
+/// Reads the manifest that bytes are for this device.
 fn read_manifest(alloc: Global, bytes: &[u8], identity: &Identity) -> Result<Manifest, Fault>
     ensures means { IfOk result (IsManifest identity.now bytes.now) }
     ensures refused { IfErr result (RefusesText identity.now bytes.now) }
@@ -131,7 +132,7 @@ fn read_manifest(alloc: Global, bytes: &[u8], identity: &Identity) -> Result<Man
     }
 }
 
-/// Whether a manifest names images of the device alone.
+/// Whether a manifest names no image that the device lacks.
 fn names_images(manifest: &Manifest, identity: &Identity) -> bool
     ensures { IsTrue result ↔ NamesImages identity.now manifest.now }
 {
@@ -140,7 +141,7 @@ fn names_images(manifest: &Manifest, identity: &Identity) -> bool
     components.iter().all(|component| component.image < images)
 }
 
-/// Opens the uploads of a manifest, where uploads are taken.
+/// Opens the uploads of a manifest on a device that takes uploads.
 fn open_uploads<F: Flash>(
     flash: &mut F,
     map: &SectorMap,
@@ -158,7 +159,7 @@ fn open_uploads<F: Flash>(
     pass_on(uploads.accept(flash, map, manifest), uploads, is_booted)
 }
 
-/// Takes a manifest, given by the bytes of its text.
+/// Accepts a manifest on a device that is held in parts, as `Device::accept`.
 pub(crate) fn accept<F: Flash>(
     flash: &mut F,
     map: &SectorMap,
@@ -180,15 +181,16 @@ pub(crate) fn accept<F: Flash>(
     open_uploads(flash, map, identity, uploads, is_booted, &manifest)
 }
 
-/// Takes a manifest that was read already, as `Device::accept_manifest`, with its errors.
+/// Accepts a manifest that was parsed before, on a device that is held in parts, as
+/// `Device::accept_manifest`, with its errors.
 ///
 /// - `flash`, `map`: the map is laid out on the flash.
 /// - `identity`: has as many images as the map.
-/// - `uploads`: those that are open, which stand on the flash.
-/// - `is_booted`: whether the device is up.
+/// - `uploads`: the open uploads, which match the flash.
+/// - `is_booted`: whether the device is booted.
 ///
-/// Where the flash stopped the call no upload is open then, and the device isn't up. Does not
-/// allocate.
+/// If the flash stopped the call, the device isn't booted afterwards, and no upload is open. Does
+/// not allocate.
 pub fn accept_manifest<F: Flash>(
     flash: &mut F,
     map: &SectorMap,
@@ -211,8 +213,9 @@ pub fn accept_manifest<F: Flash>(
     open_uploads(flash, map, identity, uploads, is_booted, manifest)
 }
 
-/// Takes a piece of the upload of an image, told by its number from 0, as `Device::piece`, with its
-/// errors. The other arguments are those of `accept_manifest`. Does not allocate.
+/// Takes the next bytes of an image's upload on a device that is held in parts, as `Device::piece`,
+/// with its arguments and errors. The other arguments are those of `accept_manifest`. Does not
+/// allocate.
 pub fn piece<F: Flash>(
     flash: &mut F,
     map: &SectorMap,
@@ -231,8 +234,8 @@ pub fn piece<F: Flash>(
     pass_on(uploads.piece(flash, map, image, more), uploads, is_booted)
 }
 
-/// Finishes the upload of an image, told by its number from 0, as `Device::finish`, with its errors.
-/// The other arguments are those of `accept_manifest`. Does not allocate.
+/// Finishes an image's upload on a device that is held in parts, as `Device::finish`, with its
+/// arguments and errors. The other arguments are those of `accept_manifest`. Does not allocate.
 pub fn finish<F: Flash>(
     flash: &mut F,
     map: &SectorMap,
@@ -250,8 +253,8 @@ pub fn finish<F: Flash>(
     pass_on(uploads.finish(flash, map, image), uploads, is_booted)
 }
 
-/// Takes the request of an image back, told by its number from 0, as `Device::withdraw`, with its
-/// errors. The other arguments are those of `accept_manifest`. Does not allocate.
+/// Cancels the request of an image on a device that is held in parts, as `Device::withdraw`, with
+/// its arguments and errors. The other arguments are those of `accept_manifest`. Does not allocate.
 pub fn withdraw<F: Flash>(
     flash: &mut F,
     map: &SectorMap,

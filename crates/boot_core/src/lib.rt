@@ -1,14 +1,15 @@
-//! The device: its boots, uploads, confirmations and runs, over one flash.
+//! The bootloader core: a device over one flash that boots, takes uploads, confirms images and runs
+//! events.
 //!
-//! - Promises: Events and replies are a run of the machine over whole images, whatever is cut. Each
-//!   call is a step of it.
+//! - Promises: Events and replies are a run of the machine over whole images, wherever power fails.
+//!   Each call is a step of it.
 //! - Main calls: `run`, `step`, `provision`, `Device::boot`, `accept`, `accept_manifest`, `piece`,
 //!   `finish`, `withdraw`, `confirm`, `reset`
 //! - Allocates: `accept`, to read a manifest, and `run`, for its replies; no boot does.
 //! - Callers: programs and bootloaders.
 //!
-//! A boot that returns a report starts exactly the greatest valid set of images. Events are those
-//! of `common`, replies and faults those of `machine`.
+//! A boot that returns a report starts exactly the greatest valid set of images. `common` defines
+//! the events, `machine` the replies and faults.
 #![tactic(auto)]
 
 pub mod apart;

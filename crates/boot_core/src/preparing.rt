@@ -1,4 +1,4 @@
-//! Making the trailers of a set ready to keep the progress of a swap.
+//! Prepares the trailers of a set to count the steps of a swap.
 
 ghost use Rattle.decision.specs.Telling.{Tells};
 ghost use Rattle.sector_map.specs.Map.{HasImage, IsLaidOut};
@@ -10,8 +10,8 @@ use image_reading::intact_image;
 use sector_map::{SectorMap, Side, is_member};
 use trailer::{clear, write_size};
 
-/// How many bytes of a slot a swap has to move: those of the image that it begins with, or all of
-/// them where it begins with none.
+/// How many bytes of a slot a swap has to move: the length of the image that the slot begins with,
+/// or the length of the slot if no intact image is there.
 fn used_length<F: Flash>(flash: &mut F, map: &SectorMap, image: u8, side: Side) -> Result<u32>
     requires { HasImage map.now image (F.chip flash.old) }
     ensures { Tells (IsSizeIn map.now image (IsUsedIn map.now image side))
@@ -34,8 +34,7 @@ fn swap_length<F: Flash>(flash: &mut F, map: &SectorMap, image: u8) -> Result<u3
     Ok(running.max(asked))
 }
 
-/// Makes a trailer ready to keep the progress of a swap: erases it, and writes the size of the
-/// swap.
+/// Prepares a trailer to count the steps of a swap: erases it, and writes the size of the swap.
 fn prepare_image<F: Flash>(flash: &mut F, map: &SectorMap, image: u8, side: Side) -> Result<()>
     requires { HasImage map.now image (F.chip flash.old) }
     ensures { PreparesImage map.now image side (F.chip flash.old) (F.chip flash.new) result }
@@ -45,7 +44,7 @@ fn prepare_image<F: Flash>(flash: &mut F, map: &SectorMap, image: u8, side: Side
     write_size(flash, map, image, side, size)
 }
 
-/// Makes the trailer of an image ready, where the image is in a mask.
+/// Prepares the trailer of an image if the image is in a mask.
 fn prepare_member<F: Flash>(
     flash: &mut F,
     map: &SectorMap,
@@ -62,12 +61,13 @@ fn prepare_member<F: Flash>(
     Ok(())
 }
 
-/// Makes the trailers of one side of a set ready to keep the progress of a swap, each before the
-/// next: no status unit is set in them, and their size has room for both images, and no more.
+/// Prepares the trailers of a set on one side to count the steps of a swap, one trailer after the
+/// other. Then no status unit of them is set. Each holds how many bytes its swap moves: the longer
+/// length of the two images, or that of the slot if one slot begins with none.
 ///
 /// # Errors
-/// `Cut` where power failed: these trailers hold any bytes, and all else is as it was. `Off` where
-/// the flash was off before: nothing changed.
+/// `Cut`: power failed. These trailers hold any bytes, and all else is unchanged. `Off`: the flash
+/// was off before. Nothing changed.
 pub(crate) fn prepare_set<F: Flash>(
     flash: &mut F,
     map: &SectorMap,

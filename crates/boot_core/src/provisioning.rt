@@ -1,4 +1,4 @@
-//! Making a flash a device's.
+//! Provisions a flash: makes it a device's.
 
 ghost use Rattle.std.specs.Prelude.{◌≡◌, ℕ, ◌≤◌, List, slice_index};
 ghost use Rattle.sector_map.specs.Map.{HasImage, IsLaidOut};
@@ -22,8 +22,8 @@ use sector_map::{SectorMap, Side};
 use set_log::{RecordKind, State, start};
 use trailer::clear;
 
-/// The row of an image that runs, by its description: nothing is requested, and its own counter is
-/// the floor.
+/// The row of a running image, from its description: it has no request, and its own security
+/// counter is the floor.
 fn running_image(description: Desc) -> Image
     ensures { (whole : List ℕ) → BeginsIntact whole description → IsRunningRow whole result }
 {
@@ -35,7 +35,7 @@ fn running_image(description: Desc) -> Image
     }
 }
 
-/// The row of the image that a primary slot begins with, if that is intact.
+/// The row of the image that a primary slot begins with, or `None` if that isn't intact.
 fn read_row<F: Flash>(flash: &mut F, map: &SectorMap, image: u8) -> Result<Option<Image>>
     requires { HasImage map.now image (F.chip flash.old) }
     ensures { TellsUnlessOff (IsRowIn map.now image) (F.chip flash.old) (F.chip flash.new) result }
@@ -46,7 +46,8 @@ fn read_row<F: Flash>(flash: &mut F, map: &SectorMap, image: u8) -> Result<Optio
     }
 }
 
-/// The table of what the primary slots begin with, or the lowest image that isn't intact.
+/// The table of the images that the primary slots begin with, or the lowest image that isn't
+/// intact.
 fn read_running<F: Flash>(flash: &mut F, map: &SectorMap) -> Result<Reading>
     requires laid_out { IsLaidOut map.now (F.chip flash.old) }
     ensures { TellsUnlessOff (IsReadThere map.now) (F.chip flash.old) (F.chip flash.new) result }
@@ -68,7 +69,7 @@ fn running_counters(table: &Table) -> [u32; MOST_IMAGES]
     raised_floors(table, 0, &[0; MOST_IMAGES])
 }
 
-/// The security counters of what runs, where that is intact and valid.
+/// The security counters of the running images, if these are intact and valid.
 fn judge<F: Flash>(flash: &mut F, map: &SectorMap) -> Result<[u32; MOST_IMAGES], Fault>
     requires laid_out { IsLaidOut map.now (F.chip flash.old) }
     ensures { Judges map.now (F.chip flash.old) (F.chip flash.new) result }
@@ -107,7 +108,7 @@ fn clear_all<F: Flash>(flash: &mut F, map: &SectorMap) -> Result<()>
     Ok(())
 }
 
-/// Erases the trailers of all images, and begins the log at rest, with these floors.
+/// Erases the trailers of all images, and begins the log with a record `Steady` of these floors.
 fn begin_afresh<F: Flash>(flash: &mut F, map: &SectorMap, floors: &[u32; MOST_IMAGES]) -> Result<()>
     requires laid_out { IsLaidOut map.now (F.chip flash.old) }
     requires rest { (i : ℕ) → map.now.images ≤ i → slice_index floors.now i ≡ 0 }
@@ -126,7 +127,7 @@ fn begin_afresh<F: Flash>(flash: &mut F, map: &SectorMap, floors: &[u32; MOST_IM
     start(flash, map, &state)
 }
 
-/// Makes a flash a device's, where what runs is intact and valid.
+/// Provisions a flash if its running images are intact and valid.
 fn make_device<F: Flash>(flash: &mut F, map: &SectorMap) -> Result<(), Fault>
     requires laid_out { IsLaidOut map.now (F.chip flash.old) }
     ensures { MakesDevice map.now (F.chip flash.old) (F.chip flash.new) result }
@@ -136,19 +137,23 @@ fn make_device<F: Flash>(flash: &mut F, map: &SectorMap) -> Result<(), Fault>
     Ok(())
 }
 
-/// Makes a flash a device's: the images that the primary slots begin with run, nothing is
-/// requested, no set is on trial, the sequence number is 0, and the floors are the security
-/// counters of what runs. The secondary slots may hold anything.
+/// Provisions a flash: erases the trailers of all images and begins a new log. The images that the
+/// primary slots begin with run then.
 ///
-/// The map is laid out on the flash, of which its `fits` is the test, and the primary slots hold
-/// images. These are read and judged first; then the trailers of all images are erased, and a new
-/// log is begun. Does not allocate.
+/// Nothing is requested, no set is on trial, and the sequence number is 0. The floors are the
+/// security counters of the running images. The secondary slots may hold anything. The running
+/// images are checked before the first write. Does not allocate.
+///
+/// - `flash`, `map`: the map is laid out on the flash, which `SectorMap::fits` checks. The primary
+///   slots hold the images of the device.
 ///
 /// # Errors
-/// `RunningDamaged` with the lowest image whose primary slot begins with no intact image; else
-/// `InvalidSet` where the images don't meet their dependencies: nothing changed. `Flash(Cut)` where
-/// power failed: trailers and log hold any bytes, and all else is as it was; the call may be made
-/// again. `Flash(Off)` where the flash was off: nothing changed.
+/// - `RunningDamaged`: a primary slot begins with no intact image. It names the lowest such image.
+///   Nothing changed.
+/// - `InvalidSet`: the images don't meet their dependencies. Nothing changed.
+/// - `Flash(Cut)`: power failed. Trailers and log hold any bytes, and all else is unchanged. The
+///   call may be made again once the flash has power.
+/// - `Flash(Off)`: the flash was off. Nothing changed.
 pub fn provision<F: Flash>(flash: &mut F, map: &SectorMap) -> Result<(), Fault>
     requires laid_out { IsLaidOut map.now (F.chip flash.old) }
     ensures { Provisions map.now (F.chip flash.old) (F.chip flash.new) result }

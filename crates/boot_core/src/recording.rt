@@ -1,4 +1,4 @@
-//! Recording a state in the log.
+//! Records a state in the log.
 
 ghost use Rattle.std.specs.Prelude.{◌≡◌, IsSome, true};
 ghost use Rattle.sector_map.specs.Map.{IsLaidOut};

@@ -1,4 +1,4 @@
-//! Steps and runs: a reply to an event, and to each of many in order.
+//! Runs events on a device, and returns a reply to each.
 
 ghost use Rattle.std.specs.Prelude.{◌≡◌, true};
 ghost use Rattle.boot_core.specs.Answers.{fault_reply, reply_of_result};
@@ -10,7 +10,8 @@ use machine::{Event, Fault, Reply};
 use std::alloc::{AllocError, Global};
 use upload::UploadError;
 
-/// The reply to a refused call: a cut is a reply of its own. Does not allocate.
+/// The reply to a refused call: `Cut` if power failed, else `Refused` with the fault. Does not
+/// allocate.
 pub fn reply_of(fault: Fault) -> Reply
     ensures { result ≡ fault_reply fault }
 {
@@ -21,7 +22,7 @@ pub fn reply_of(fault: Fault) -> Reply
     }
 }
 
-/// The reply to a call that isn't a boot: `Done`, or that to its refusal. Does not allocate.
+/// The reply to a call that isn't a boot: `Done`, or the reply to its refusal. Does not allocate.
 pub fn answer(given: Result<(), Fault>) -> Reply
     ensures { result ≡ reply_of_result given }
 {
@@ -31,7 +32,7 @@ pub fn answer(given: Result<(), Fault>) -> Reply
     }
 }
 
-/// What a device answers to an event.
+/// Calls the device for an event, and returns the reply.
 fn call<F: Flash>(alloc: Global, device: &mut Device<F>, event: &Event<&[u8]>) -> Reply
     requires { device.old.here.flash.is_on ≡ true }
     ensures { Replies event.now device.old device.new result }
@@ -53,20 +54,24 @@ fn call<F: Flash>(alloc: Global, device: &mut Device<F>, event: &Event<&[u8]>) -
     }
 }
 
-/// What a device answers to one event. After a cut the device is reset, which gives its flash power
-/// again, so that what follows is refused with `NotBooted` until it boots.
+/// Passes one event to a device, and returns its reply. After a power cut it resets the device,
+/// which gives the flash power again. Until the next boot, each event but a boot or a reset is then
+/// refused with `NotBooted`.
 ///
-/// For every event and wherever power fails in it: where the device holds a state of the machine of
-/// whole images, the event with this reply is a step of that machine to a state which the device
-/// holds then, and the reply is `Cut` exactly where a write was cut: one that was armed, or one
-/// that the flash counts as a fault. The flash has power as the step begins, and when it ends; so
-/// steps in a row are a run, and a caller who tells each reply before the next step needs no memory
-/// for the replies.
+/// This holds for every event, wherever power fails in it. If the device holds a state of the
+/// machine of whole images, the event with this reply is a step of that machine, and the device
+/// then holds the next state. The reply is `Cut` exactly if a write was cut: one that was armed, or
+/// one that the flash counts as a fault.
+///
+/// The flash has to have power when the step begins, and has it when the step ends. So consecutive
+/// steps are a run. A caller who reports each reply before the next step needs no memory for the
+/// replies.
 pub fn step<F: Flash>(alloc: Global, device: &mut Device<F>, event: &Event<&[u8]>) -> Reply
     requires { device.old.here.flash.is_on ≡ true }
     ensures { Steps event.now device.old device.new result }
 {
-    // By a law of `Flash`, here and behind the call, each cut so far was armed or is a fault.
+    // Borrowing the flash applies a law of `Flash`: each cut so far was armed or is a fault. The
+    // proof needs it before and after the call.
     let _before = device.flash();
     let reply = call(alloc, device, event);
     let _behind = device.flash();
@@ -79,18 +84,19 @@ pub fn step<F: Flash>(alloc: Global, device: &mut Device<F>, event: &Event<&[u8]
     }
 }
 
-/// Runs events on a device, in order, and gives the reply to each. After a cut the device is reset,
-/// which gives its flash power again, so that what follows is refused with `NotBooted` until it
-/// boots.
+/// Passes events to a device, in order, and returns the reply to each. After a power cut it resets
+/// the device, which gives the flash power again. Until the next boot, each event but a boot or a
+/// reset is then refused with `NotBooted`.
 ///
-/// For every list of events and wherever power fails in it: where the device holds a state of the
-/// machine of whole images, the events with these replies are a run of that machine to a state
-/// which the device holds then, and the reply to an event is `Cut` exactly where a write was cut in
-/// it. The flash has power as the run begins, and when it ends.
+/// This holds for every list of events, wherever power fails in it. If the device holds a state of
+/// the machine of whole images, the events with these replies are a run of that machine, and the
+/// device then holds its last state. The reply to an event is `Cut` exactly if a write was cut in
+/// it.
+///
+/// The flash has to have power when the run begins, and has it when the run ends.
 ///
 /// # Errors
-/// `AllocError` where there is no memory for the replies, which are reserved first: nothing was
-/// done.
+/// `AllocError`: there is no memory for the replies, which are reserved first. No event was passed.
 pub fn run<F: Flash>(
     alloc: Global,
     device: &mut Device<F>,

@@ -1,7 +1,7 @@
-//! A boot from a record Settle: the trailers of a swapped set say what it is, and the set is on
-//! trial or taken for good.
+//! A boot from a record `Settle`: settles the trailers of a swapped set, which is then on trial or
+//! permanent.
 //!
-//! It comes from `swap` or from a cut.
+//! It continues a boot from `swap`, or one that a power cut interrupted.
 
 ghost use Rattle.std.specs.Prelude.{◌≤◌, ◌≡◌, ℕ, List, true, false, slice_index};
 ghost use Rattle.common.specs.Limits.{MOST_BOOTS_LEFT};
@@ -19,7 +19,7 @@ use sector_map::{SectorMap, is_member};
 use set_log::{RecordKind, State, append};
 use trailer::{Settling, settle};
 
-/// What a set is settled for: to stay, or to be tried.
+/// What a set's trailers are settled for.
 fn settling_for(permanent: bool) -> Settling
     ensures { is_confirmed result ≡ permanent }
 {
@@ -30,7 +30,7 @@ fn settling_for(permanent: bool) -> Settling
     }
 }
 
-/// In Settle or BackSettle: the trailers of one image, where it is of the set.
+/// In `Settle` or `BackSettle`: settles the trailers of an image if it is in the set.
 fn settle_member<F: Flash>(
     flash: &mut F,
     map: &SectorMap,
@@ -48,7 +48,7 @@ fn settle_member<F: Flash>(
     Ok(())
 }
 
-/// In Settle or BackSettle: the trailers of the set say what it is.
+/// In `Settle` or `BackSettle`: settles the trailers of each image of the set.
 pub(crate) fn settle_set<F: Flash>(
     flash: &mut F,
     map: &SectorMap,
@@ -64,7 +64,7 @@ pub(crate) fn settle_set<F: Flash>(
     Ok(())
 }
 
-/// From Settle to Trial: the set is on trial, of so many boots more.
+/// From `Settle` to `Trial`: records that the set is on trial, with `left` more boots.
 fn record_trial<F: Flash>(flash: &mut F, map: &SectorMap, state: &State, left: u8) -> Result<()>
     requires recorded { HasRecordOf map.now RecordKind.Settle state.now (F.chip flash.old) }
     requires few { left ≤ MOST_BOOTS_LEFT }
@@ -79,8 +79,8 @@ fn record_trial<F: Flash>(flash: &mut F, map: &SectorMap, state: &State, left: u
     append(flash, map, &trial)
 }
 
-/// From Settle to Steady: the set is taken for good, with these floors, which are those of the
-/// record past the last image.
+/// From `Settle` to `Steady`: records that the set is permanent, with these floors. Past the last
+/// image they are those of the old record.
 fn record_taken<F: Flash>(
     flash: &mut F,
     map: &SectorMap,
@@ -104,7 +104,8 @@ fn record_taken<F: Flash>(
     append(flash, map, &steady)
 }
 
-/// From Settle on: the trailers are settled, and the set is on trial or taken for good.
+/// From `Settle` to `Trial` or `Steady`: settles the trailers, and records that the set is on trial
+/// or permanent.
 pub(crate) fn settle_and_record<F: Flash>(
     flash: &mut F,
     map: &SectorMap,
@@ -127,8 +128,9 @@ pub(crate) fn settle_and_record<F: Flash>(
     }
 }
 
-/// From Settle on, where this was found of the decision: the set is on trial, of so many boots
-/// more, or taken for good; where it wasn't found nothing is done.
+/// From `Settle` on, with what was found of its decision: if that is a decision, settles the set
+/// and records that it is on trial, with `left` more boots, or permanent. Otherwise writes nothing.
+/// Returns what was found.
 pub(crate) fn settle_found<F: Flash>(
     flash: &mut F,
     map: &SectorMap,
@@ -150,8 +152,8 @@ pub(crate) fn settle_found<F: Flash>(
     }
 }
 
-/// From Settle on: the decision is found again, and the set is on trial, of so many boots more, or
-/// taken for good. Where it isn't found nothing is written.
+/// From `Settle` on: finds the decision again, settles the set and records that it is on trial,
+/// with `left` more boots, or permanent. If the decision isn't found, nothing is written.
 fn finish_settle<F: Flash>(
     flash: &mut F,
     map: &SectorMap,
@@ -166,7 +168,7 @@ fn finish_settle<F: Flash>(
     settle_found(flash, map, state, left, finding)
 }
 
-/// From a record Settle: the upgrade that was swapped is finished.
+/// From a record `Settle`: finishes the upgrade whose set is swapped.
 pub(crate) fn boot_from_settle<F: Flash>(
     flash: &mut F,
     map: &SectorMap,

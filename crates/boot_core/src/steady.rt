@@ -1,6 +1,6 @@
-//! A boot from a record Steady: the decision is made, and an upgrade begun where one is due.
+//! A boot from a record `Steady`: makes the decision, and begins an upgrade if a set is chosen.
 //!
-//! It goes on in `swap`.
+//! It continues in `swap`.
 
 ghost use Rattle.std.specs.Prelude.{◌≤◌};
 ghost use Rattle.common.specs.Limits.{MOST_BOOTS_LEFT};
@@ -17,8 +17,8 @@ use machine::{Fault, Finding, Reply};
 use sector_map::{SectorMap, Side};
 use set_log::{RecordKind, State};
 
-/// From Steady to Swap: the trailers of the set are made ready to count the swap, and then the
-/// decision is recorded, so that no swap begins that no record tells of.
+/// From `Steady` to `Swap`: prepares the trailers of the set to count the swap, and then records
+/// the decision. So no swap begins before its record is in the log.
 fn begin_swap<F: Flash>(
     flash: &mut F,
     map: &SectorMap,
@@ -41,7 +41,7 @@ fn begin_swap<F: Flash>(
     append_state(flash, map, swap)
 }
 
-/// From Steady: a chosen set is taken.
+/// From `Steady`: takes a chosen set.
 fn upgrade<F: Flash>(
     flash: &mut F,
     map: &SectorMap,
@@ -59,7 +59,7 @@ fn upgrade<F: Flash>(
     Ok(reply_to(finding, permanent))
 }
 
-/// From Steady: the decision is made, and a set that is chosen is taken.
+/// From `Steady`: makes the decision, and takes a chosen set.
 pub(crate) fn boot_from_steady<F: Flash>(
     flash: &mut F,
     map: &SectorMap,

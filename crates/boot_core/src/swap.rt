@@ -1,6 +1,7 @@
-//! A boot from a record Swap: the slots of the set are swapped, from wherever the swap stands.
+//! A boot from a record `Swap`: swaps the slots of the set, from wherever the swap is.
 //!
-//! It comes from `steady` or from a cut, and goes on in `settle`.
+//! It continues a boot from `steady`, or one that a power cut interrupted, and continues in
+//! `settle`.
 
 ghost use Rattle.std.specs.Prelude.{◌≤◌};
 ghost use Rattle.common.specs.Limits.{MOST_BOOTS_LEFT};
@@ -17,8 +18,8 @@ use sector_map::{SectorMap, Side};
 use set_log::{RecordKind, State};
 use swap_scratch::swap_set;
 
-/// From Swap to Settle: the swap is done, from wherever it stands, the decision is found again, and
-/// this is recorded. Where it isn't found nothing but the swap is written.
+/// From `Swap` to `Settle`: finishes the swap from wherever it is, finds the decision again, and
+/// records that the set is swapped. If the decision isn't found, only the swap is written.
 fn swap_forth<F: Flash>(flash: &mut F, map: &SectorMap, state: &State) -> Result<Finding>
     requires { HasRecordOf map.now RecordKind.Swap state.now (F.chip flash.old) }
     ensures { SwapsForth map.now state.now (F.chip flash.old) (F.chip flash.new) result }
@@ -38,9 +39,9 @@ fn swap_forth<F: Flash>(flash: &mut F, map: &SectorMap, state: &State) -> Result
     }
 }
 
-/// From Swap on: the swap is done, from wherever it stands, the decision is found again, and the
-/// set is on trial, of so many boots more, or taken for good. Where it isn't found nothing but the
-/// swap is written.
+/// From `Swap` on: finishes the swap from wherever it is, finds the decision again, settles the set
+/// and records that it is on trial, with `left` more boots, or permanent. If the decision isn't
+/// found, only the swap is written.
 pub(crate) fn finish_swap<F: Flash>(
     flash: &mut F,
     map: &SectorMap,
@@ -69,7 +70,7 @@ pub(crate) fn finish_swap<F: Flash>(
     }
 }
 
-/// From a record Swap: the upgrade that it began is finished.
+/// From a record `Swap`: finishes the upgrade that it began.
 pub(crate) fn boot_from_swap<F: Flash>(
     flash: &mut F,
     map: &SectorMap,

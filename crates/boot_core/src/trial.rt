@@ -1,7 +1,7 @@
-//! A boot from a record Trial: by the trailers and the slots the trial is over, goes on, or goes
-//! back.
+//! A boot from a record `Trial`: the trial is over, goes on, or reverts, by what trailers and slots
+//! hold.
 //!
-//! It goes on in `steady` or in `back`.
+//! It continues in `steady` or in `back`.
 
 ghost use Rattle.std.specs.Prelude.{◌<◌, ◌≤◌, ◌≡◌, ℕ, slice_index, Some};
 ghost use Rattle.common.specs.Limits.{MOST_BOOTS_LEFT};
@@ -49,7 +49,7 @@ fn is_all_confirmed<F: Flash>(flash: &mut F, map: &SectorMap, mask: u8) -> Resul
     Ok(true)
 }
 
-/// Whether the running bytes of an image are no intact image.
+/// Whether the primary slot of an image begins with no intact image.
 fn is_damaged<F: Flash>(flash: &mut F, map: &SectorMap, image: u8) -> Result<bool>
     requires { HasImage map.now image (F.chip flash.old) }
     ensures { Tells (IsDamagedIn map.now image) (F.chip flash.old) (F.chip flash.new) result }
@@ -60,7 +60,7 @@ fn is_damaged<F: Flash>(flash: &mut F, map: &SectorMap, image: u8) -> Result<boo
     }
 }
 
-/// Whether a running image is damaged, of the set or not.
+/// Whether a running image is damaged, in the set or not.
 fn is_any_damaged<F: Flash>(flash: &mut F, map: &SectorMap) -> Result<bool>
     requires { IsLaidOut map.now (F.chip flash.old) }
     ensures { Tells (IsAnyDamagedIn map.now) (F.chip flash.old) (F.chip flash.new) result }
@@ -74,7 +74,7 @@ fn is_any_damaged<F: Flash>(flash: &mut F, map: &SectorMap) -> Result<bool>
     Ok(false)
 }
 
-/// A floor raised to the counter of the image that runs. A damaged one raises nothing.
+/// Raises a floor to the security counter of a running image. A damaged image raises nothing.
 fn floor_of<F: Flash>(flash: &mut F, map: &SectorMap, image: u8, floor: u32) -> Result<u32>
     requires { HasImage map.now image (F.chip flash.old) }
     ensures { Tells (IsFloorIn map.now image floor) (F.chip flash.old) (F.chip flash.new) result }
@@ -85,7 +85,7 @@ fn floor_of<F: Flash>(flash: &mut F, map: &SectorMap, image: u8, floor: u32) -> 
     }
 }
 
-/// Floors raised to the counters of what runs. Those past the last image stay.
+/// Raises floors to the security counters of the running images. Floors past the last image stay.
 fn raise_running<F: Flash>(
     flash: &mut F,
     map: &SectorMap,
@@ -102,8 +102,9 @@ fn raise_running<F: Flash>(
     Ok(raised)
 }
 
-/// How a boot goes on from a trial: it is over where each image of the set is confirmed; else the
-/// set goes back where no boot is left or a running image is damaged; else it is tried again.
+/// Decides how a boot continues from a trial. The trial is over if each image of the set is
+/// confirmed. Otherwise the set reverts if no boot is left or a running image is damaged. Otherwise
+/// it is tried again.
 fn decide_trial<F: Flash>(flash: &mut F, map: &SectorMap, state: &State) -> Result<Passage>
     requires laid_out { IsLaidOut map.now (F.chip flash.old) }
     requires read { state_of map.now (F.chip flash.old) ≡ Some state.now }
@@ -124,8 +125,8 @@ fn decide_trial<F: Flash>(flash: &mut F, map: &SectorMap, state: &State) -> Resu
     }
 }
 
-/// From Trial to Steady: the trial is over, with these floors, which are those of the record past
-/// the last image.
+/// From `Trial` to `Steady`: records that the trial is over, with these floors. Past the last image
+/// they are those of the old record.
 fn record_over<F: Flash>(
     flash: &mut F,
     map: &SectorMap,
@@ -149,8 +150,8 @@ fn record_over<F: Flash>(
     append_state(flash, map, steady)
 }
 
-/// From a trial that is wholly confirmed: the set runs on, with raised floors, and the decision is
-/// made.
+/// From a trial whose set is completely confirmed: records that the trial is over, with raised
+/// floors, and makes the decision.
 fn boot_over<F: Flash>(flash: &mut F, map: &SectorMap, state: &State, left: u8) -> Result<Reply>
     requires recorded { HasRecord map.now state.now (F.chip flash.old) }
     requires few { left ≤ MOST_BOOTS_LEFT }
@@ -161,7 +162,7 @@ fn boot_over<F: Flash>(flash: &mut F, map: &SectorMap, state: &State, left: u8) 
     boot_from_steady(flash, map, &steady, left)
 }
 
-/// From a trial that goes on: one boot less is left.
+/// From a trial that goes on: records that it has one boot less.
 fn boot_again<F: Flash>(flash: &mut F, map: &SectorMap, state: &State) -> Result<Reply>
     requires recorded { HasRecordOf map.now RecordKind.Trial state.now (F.chip flash.old) }
     requires more { 0 < state.now.left }
@@ -175,8 +176,9 @@ fn boot_again<F: Flash>(flash: &mut F, map: &SectorMap, state: &State) -> Result
     })
 }
 
-/// From Trial to Back: the secondary trailers of the set are made ready to count the swap back, and
-/// then going back is recorded. The primary ones stay, which say that it is a trial.
+/// From `Trial` to `Back`: prepares the secondary trailers of the set to count the swap back, and
+/// then records that the set reverts. The primary trailers stay, since they say that this is a
+/// trial.
 fn begin_back<F: Flash>(flash: &mut F, map: &SectorMap, state: &State) -> Result<State>
     requires { HasRecordOf map.now RecordKind.Trial state.now (F.chip flash.old) }
     ensures { BeginsBack map.now state.now (F.chip flash.old) (F.chip flash.new) result }
@@ -190,7 +192,7 @@ fn begin_back<F: Flash>(flash: &mut F, map: &SectorMap, state: &State) -> Result
     append_state(flash, map, back)
 }
 
-/// From a trial that goes back.
+/// From a trial that reverts: swaps the set back.
 fn boot_back<F: Flash>(flash: &mut F, map: &SectorMap, state: &State) -> Result<Reply>
     requires { HasRecordOf map.now RecordKind.Trial state.now (F.chip flash.old) }
     ensures { BootsBack map.now (F.chip flash.old) (F.chip flash.new) result }
@@ -199,7 +201,7 @@ fn boot_back<F: Flash>(flash: &mut F, map: &SectorMap, state: &State) -> Result<
     boot_from_back(flash, map, &back)
 }
 
-/// From a record Trial.
+/// From a record `Trial`: ends the trial, goes on with it, or reverts its set.
 pub(crate) fn boot_from_trial<F: Flash>(
     flash: &mut F,
     map: &SectorMap,
