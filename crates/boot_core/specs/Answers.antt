@@ -1,4 +1,4 @@
--- What a device's calls answer, as replies of the machine, and what each answer tells.
+-- The replies of the machine to the results of a device's calls, and what each reply promises.
 use Rattle.std.specs.Prelude.{◌≡◌, ◌+◌, Bool, true, false, not, Result, Ok, Err}
 use Rattle.common.specs.declared.event.Event.TheVariants as event
 use Rattle.flash_model.specs.Chip.{Chip}
@@ -14,7 +14,7 @@ use Rattle.machine.specs.declared.error.Fault.TheVariants as no
 use Rattle.machine.specs.declared.reply.Reply.{Reply}
 use Rattle.machine.specs.declared.reply.Reply.TheVariants.{Done, Booted, Reverted, TrialAgain, Refused, Cut}
 
--- The reply of the machine to a refused upload: a cut is a reply of its own.
+-- The reply of the machine to a refused upload. A power cut is the reply Cut.
 abbrev pub error_reply : UploadError → Reply
 error_reply upload.OldSequence = Refused (no.Upload upload.OldSequence)
 error_reply upload.TooBig = Refused (no.Upload upload.TooBig)
@@ -43,50 +43,50 @@ fault_reply no.NoMemory = Refused no.NoMemory
 fault_reply (no.Manifest error) = Refused (no.Manifest error)
 fault_reply (no.Upload error) = error_reply error
 
--- The reply of the machine for the result of a call ..
+-- The reply of the machine for the result of a call.
 abbrev pub reply_of_result : Result Unit Fault → Reply
 reply_of_result (Ok done) = Done
 reply_of_result (Err fault) = fault_reply fault
 
--- .. and for that of a boot.
+-- The reply of the machine for the result of a boot.
 abbrev pub reply_of_boot : Result Reply Fault → Reply
 reply_of_boot (Ok reply) = reply
 reply_of_boot (Err fault) = fault_reply fault
 
--- Whether a call stopped at the flash, where power failed or was off.
+-- Whether a fault says that the flash stopped the call: power failed, or the flash was off.
 abbrev pub is_stop : Fault → Bool
 is_stop (no.Flash error) = true
 is_stop (no.Upload error) = is_flash {T = Unit} (Err error)
 is_stop other = false
 
--- Whether an event may close the upload of its image where it is refused.
+-- Whether a refusal of this event may close the upload of its image.
 abbrev pub may_close : DeviceEvent → Bool
 may_close (event.Piece image bytes) = true
 may_close (event.Finish image) = true
 may_close other = false
 
--- Whether an upload's refusal is that none is open.
+-- Whether an upload is refused because none is open.
 abbrev pub is_no_session : UploadError → Bool
 is_no_session upload.NoSession = true
 is_no_session other = false
 
--- Whether a refusal leaves the device as it was, by whether its call may close an upload. One of
--- the flash doesn't. Where an upload may be closed, one of uploads does only if none is open.
+-- Whether a refusal leaves the device as it was. A fault of the flash doesn't. A fault of an upload
+-- does, but if the call may close an upload, only NoSession does.
 abbrev pub keeps_all : Bool → Fault → Bool
 keeps_all closing (no.Flash error) = false
 keeps_all true (no.Upload error) = is_no_session error
 keeps_all false (no.Upload error) = not (is_flash {T = Unit} (Err error))
 keeps_all closing other = true
 
--- Whether a reply tells so.
+-- Whether a reply says that the flash stopped the call.
 abbrev pub is_stopped : Reply → Bool
 is_stopped (Refused fault) = is_stop fault
 is_stopped Cut = true
 is_stopped other = false
 
--- How a call of a device ends, by its reply. Cut is answered where a write was cut and nowhere
--- else, and the flash is off then; else the power is as it was. That the flash is off is answered
--- where it was. After either no upload is open, and the device isn't up.
+-- How a call of a device ends, by its reply. The reply is Cut exactly if a write was cut, and then
+-- the flash is off. Otherwise the power of the flash is as before. If the reply says that the flash
+-- is off, it was off before. After both replies the device isn't booted, and no upload is open.
 pub record EndsCall (reply : Reply) (old new : DeviceView) : Type 0 where
   pub cuts : new.flash.cuts ≡ old.flash.cuts + cut_of reply
   pub power : cut_of reply ≡ 0 → new.flash.is_on ≡ old.flash.is_on
@@ -95,8 +95,8 @@ pub record EndsCall (reply : Reply) (old new : DeviceView) : Type 0 where
   pub down : is_stopped reply ≡ true → new.up ≡ false
   pub closed : is_stopped reply ≡ true → AllClosed new.sessions
 
--- What a boot replies that isn't cut: a report, that a set is tried or reverted, or why it stops.
--- No other refusal is among them.
+-- The replies of a boot that isn't cut: a report, that a set is tried again or reverted, or why the
+-- boot is refused. No other refusal is among them.
 abbrev pub IsBootReply : Reply → Type 0
 IsBootReply (Booted table report permanent) = Unit
 IsBootReply (Reverted mask) = Unit
@@ -106,12 +106,12 @@ IsBootReply (Refused (no.RunningDamaged image)) = Unit
 IsBootReply (Refused no.InvalidSet) = Unit
 IsBootReply other = ⊥
 
--- A call of a flash that is off: it stops there, and the flash is as it was.
+-- A call on a flash that is off returns that, and the flash is as it was.
 pub record IsOff {T : Type 0} (result : Result T Fault) (old new : Chip) : Type 0 where
   pub is : result ≡ Err (no.Flash flash.Off)
   pub same : new ≡ old
 
--- A call of a device that isn't up: it is refused, and changes nothing.
+-- A call on a device that isn't booted is refused, and changes nothing.
 pub record IsNotBooted (result : Result Unit Fault) (old new : DeviceView) : Type 0 where
   pub is : result ≡ Err no.NotBooted
   pub same : new ≡ old

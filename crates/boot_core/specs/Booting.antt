@@ -1,5 +1,4 @@
--- What a boot does from whatever record stands, and what a device's boot does: each record is one
--- call.
+-- Contracts of a boot from any record, and of a device's boot: one record for each function.
 use Rattle.std.specs.Prelude.{◌≡◌, ◌⊎◌, ◌+◌, ℕ, Bool, true, false, Some, Result, IfOk, None, Err}
 use Rattle.std.specs.Prelude.{IsErrOf}
 use Rattle.common.specs.declared.event.Event.TheVariants as event
@@ -30,7 +29,7 @@ use Rattle.boot_core.specs.Found.{IsStopped}
 use Rattle.boot_core.specs.Over.{IsOverAlone}
 use Rattle.boot_core.specs.Wear.{DoesNothing, IsWorn}
 
--- A boot from the record that stands, with the wear of its kind.
+-- A boot from this record of the log, with the wear of its kind.
 pub record BootsFrom (map : SectorMap) (state : State) (left : ℕ) (old new : Chip)
     (result : Result Reply FlashError) : Type 0 where
   pub boot : BootEnds map (left + 1) (Stands map old)
@@ -43,86 +42,88 @@ pub record BootsFrom (map : SectorMap) (state : State) (left : ℕ) (old new : C
   pub over : state.kind ≡ log.Trial
       → IfOk result (λ reply. DoesNothing reply → IsOverAlone map state old new)
 
--- A boot from whatever record stands, or from none.
+-- A boot from any record, or from none.
 pub record BootsFromAny (map : SectorMap) (left : ℕ) (old new : Chip)
     (result : Result Reply FlashError) : Type 0 where
   pub layout : KeepsLayout map old new
   pub open layout use *
-  -- Whatever happened, a state stands that a cut boot comes to,
+  -- However the boot ends, the flash holds a state that a boot which is cut can leave.
   pub stands : (s : DeviceState) → Stands map old s → CutsBoot map (left + 1) new s
-  -- and where the call ends, one that a boot of its reply comes to.
+  -- If the boot succeeds, the flash holds a state that a boot with this reply ends in.
   pub ok : IfOk result (λ reply. (s : DeviceState) → Stands map old s
       → EndsBoot map (left + 1) new s reply)
-  -- From a state that is read sound a boot that isn't cut answers.
+  -- From a state that is sound as the boot reads it, a boot that isn't cut answers.
   pub answers : IfOk result (λ reply. (s : DeviceState)
       → Stands map old s → IsReadSound s → is_answer reply ≡ true)
-  -- Without a state in the log nothing changes.
+  -- If the log has no state, nothing changes.
   pub empty : state_of map old ≡ None → new ≡ old
   pub refused : state_of map old ≡ None
       → IfOk result (λ reply. reply ≡ Refused NotProvisioned)
-  -- How many erases a boot makes that isn't cut, by the record that stood.
+  -- How many erases a boot that isn't cut makes, by the record that it found.
   pub erases : IfOk result (λ reply. (state : State) (s : DeviceState)
       → state_of map old ≡ Some state → Stands map old s
       → IsWorn map state.kind state.mask old new reply)
-  -- A refusal tells why the upgrade stops that the record was in the midst of.
+  -- A refusal says why the upgrade of the record stops.
   pub stops : IfOk result (λ reply. (state : State) (finding : Finding) (permanent : Bool)
       → state_of map old ≡ Some state → reply ≡ reply_of finding permanent
       → IsStopped map state old new finding)
-  -- At rest nothing is written where no image is taken, or the boot is refused.
+  -- If the record is Steady, a boot that takes no image or is refused writes nothing.
   pub idle : IfOk result (λ reply. (state : State)
       → state_of map old ≡ Some state → state.kind ≡ log.Steady
       → DoesNothing reply → new ≡ old)
-  -- From a trial such a boot found it confirmed, and writes that it is over, and nothing else.
+  -- If the record is Trial, such a boot found each image of the set confirmed. It writes only the
+  -- record that the trial is over.
   pub over : IfOk result (λ reply. (state : State)
       → state_of map old ≡ Some state → state.kind ≡ log.Trial
       → DoesNothing reply → IsOverAlone map state old new)
   pub told : IfOk result IsBootReply
-  -- A flash that is off is the answer.
+  -- If the flash is off, that is the result.
   pub off : old.is_on ≡ false → IsErrOf result Off
   pub ends : Ends result old new
 
--- A device boots: its uploads end, and a trial that begins has so many boots after this one.
+-- A device boots, and its uploads end. A trial that begins has `left` more boots.
 pub record EndsUploadsAndBoots (map : SectorMap) (left : ℕ) (old new : DeviceView)
     (result : Result Reply Fault) : Type 0 where
   pub layout : KeepsLayout map old.flash new.flash
   pub open layout use *
-  -- The uploads are closed,
+  -- No upload is open.
   pub opens : AllOpenAt (view map new.flash) new.sessions
   pub closed : AllClosed new.sessions
-  -- and the machine steps by a boot, where the flash was on.
+  -- If the flash was on, the boot is a step of the machine.
   pub steps : (identity : Identity) → old.flash.is_on ≡ true
       → StepsTo (made map identity (left + 1)) old new event.Boot (reply_of_boot result)
-  -- The device is up where the boot answers,
+  -- The device is booted exactly if the boot answers.
   pub ok : IfOk result (λ reply. is_answer reply ≡ true)
   pub up : new.up ≡ is_answer (reply_of_boot result)
-  -- which is with a boot's reply, or that the flash stopped it.
+  -- The result is a reply of a boot, or the flash stopped it.
   pub told : IsBootReply (reply_of_boot result) ⊎ (is_stopped (reply_of_boot result) ≡ true)
-  -- From a state that is read sound a boot that isn't cut answers.
+  -- From a state that is sound as the boot reads it, a boot that isn't cut answers.
   pub answers : old.flash.is_on ≡ true → cut_of (reply_of_boot result) ≡ 0
       → (s : DeviceState) → Stands map old.flash s → IsReadSound s
       → is_answer (reply_of_boot result) ≡ true
-  -- Without a state in the log nothing changes.
+  -- If the log has no state, nothing changes.
   pub empty : state_of map old.flash ≡ None → new.flash ≡ old.flash
   pub refused : old.flash.is_on ≡ true → state_of map old.flash ≡ None
       → result ≡ Err NotProvisioned
-  -- How many erases a boot makes that isn't cut, by the record that stood.
+  -- How many erases a boot that isn't cut makes, by the record that it found.
   pub erases : old.flash.is_on ≡ true → cut_of (reply_of_boot result) ≡ 0
       → (state : State) (s : DeviceState)
       → state_of map old.flash ≡ Some state → Stands map old.flash s
       → IsWorn map state.kind state.mask old.flash new.flash (reply_of_boot result)
-  -- A refusal tells why the upgrade stops that the record was in the midst of.
+  -- A refusal says why the upgrade of the record stops.
   pub stops : (state : State) (finding : Finding) (permanent : Bool)
       → state_of map old.flash ≡ Some state
       → reply_of_boot result ≡ reply_of finding permanent
       → IsStopped map state old.flash new.flash finding
-  -- At rest nothing is written where no image is taken, or the boot is refused.
+  -- If the record is Steady, a boot that takes no image or is refused writes nothing.
   pub idle : (state : State) → state_of map old.flash ≡ Some state
       → state.kind ≡ log.Steady → DoesNothing (reply_of_boot result)
       → new.flash ≡ old.flash
-  -- From a trial such a boot found it confirmed, and writes that it is over, and nothing else.
+  -- If the record is Trial, such a boot found each image of the set confirmed. It writes only the
+  -- record that the trial is over.
   pub over : old.flash.is_on ≡ true → (state : State)
       → state_of map old.flash ≡ Some state → state.kind ≡ log.Trial
       → DoesNothing (reply_of_boot result) → IsOverAlone map state old.flash new.flash
-  -- A flash that is off is the answer.
+  -- If the flash is off, that is the result.
   pub off : old.flash.is_on ≡ false → IsOff result old.flash new.flash
   pub ends : EndsCall (reply_of_boot result) old new

@@ -1,4 +1,4 @@
--- What a call does that confirms an image: each record is one call.
+-- Contracts of the functions that confirm an image: one record for each.
 use Rattle.std.specs.Prelude.{◌≡◌, ◌⊎◌, ℕ, ◌<◌, Bool, true, false, Result, Ok, Err, IfOk, IsErrOf}
 use Rattle.flash_model.specs.Chip.{Chip, Ends}
 use Rattle.flash_model.specs.declared.error.FlashError.{FlashError}
@@ -17,12 +17,12 @@ use Rattle.machine.specs.Passing.{CutsConfirm, EndsConfirm}
 use Rattle.machine.specs.States.{with_confirmed}
 use Rattle.boot_core.specs.Ready.{LogsTrialOf}
 
--- image_ok of the primary trailer of an image is set.
+-- image_ok of an image's primary trailer is set.
 abbrev pub IsOkSet : SectorMap → ℕ → Chip → Type 0
 IsOkSet map image chip = (fields_at map chip image Primary).image_ok ≡ true
 
--- What each answer tells where an image is confirmed exactly if it is on trial: whether it is, and
--- after yes it is confirmed in its trailer. Only an image on trial is cut in being confirmed.
+-- What each result of a confirmation says. After yes the image is on trial, and is confirmed in its
+-- trailer. After no it isn't on trial. Power fails only if it is on trial.
 abbrev pub AnswersTrial : Type 0 → SectorMap → ℕ → Chip → Chip → Result Bool FlashError → Type 0
 AnswersTrial OnTrial map image old new (Ok true) = OnTrial × IsOkSet map image new
 AnswersTrial OnTrial map image old new (Ok false) = OnTrial → ⊥
@@ -33,49 +33,48 @@ AnswersTrial OnTrial map image old new (Err Off) = old.is_on ≡ false
 abbrev pub IsOfSet : SectorMap → ℕ → ℕ → Type 0
 IsOfSet map mask image = (image < map.images) × (is_member mask image ≡ true)
 
--- A call confirms an image where it is of the set that this record has on trial, and answers
--- whether it is.
+-- A call confirms an image if it is in the set of a record Trial, and returns whether it is.
 pub record ConfirmsImage (map : SectorMap) (mask image : ℕ) (old new : Chip)
     (result : Result Bool FlashError) : Type 0 where
-  -- Nothing is written but the trailer of what the image runs.
+  -- Only the primary trailer of the image is written.
   pub outside : Keeps map (only (TrailerOf image Primary)) old new
-  -- Whatever happened, the trial stands as it was, or with this image confirmed.
+  -- However the call ends, the trial is as it was, or with this image confirmed.
   pub stands : (s : DeviceState) (trial : Trial) → IsTrialAt (view map old) s trial
       → IsTrialAt (view map new) s trial
       ⊎ (IsOnTrial s image trial × IsAtRest (view map new) (with_confirmed s trial image))
-  -- Where the answer is yes the image is on trial, and confirmed,
+  -- If the result is yes, the image is on trial and is confirmed.
   pub done : IfOk result (λ yes. yes ≡ true → (s : DeviceState) (trial : Trial)
       → IsTrialAt (view map old) s trial
       → IsOnTrial s image trial × IsAtRest (view map new) (with_confirmed s trial image))
-  -- and where it is no the image isn't on trial, and the trial stands as it was.
+  -- If the result is no, the image isn't on trial, and the trial is as it was.
   pub none : IfOk result (λ yes. yes ≡ false → (s : DeviceState) (trial : Trial)
       → IsTrialAt (view map old) s trial
       → IsTrialAt (view map new) s trial × ((other : Trial) → IsOnTrial s image other → ⊥))
-  -- On any flash the answer is whether the image is of the set.
+  -- On any flash the result is whether the image is in the set.
   pub answers : AnswersTrial (IsOfSet map mask image) map image old new result
-  -- Only an image that is on trial is cut in being confirmed.
+  -- Power fails only if the image is on trial.
   pub tried : IsErrOf result Cut → (s : DeviceState) (trial : Trial)
       → IsTrialAt (view map old) s trial → IsOnTrial s image trial
-  -- With the answer no the flash is as it was.
+  -- If the result is no, the flash is as it was.
   pub same : IfOk result (λ yes. yes ≡ false → new ≡ old)
   pub ends : Ends result old new
 
--- A call confirms an image where it is on trial, and answers whether it is.
+-- A call confirms an image if it is on trial, and returns whether it is.
 pub record Confirms (map : SectorMap) (image : ℕ) (old new : Chip)
     (result : Result Bool FlashError) : Type 0 where
-  -- Nothing is written but the trailer of what the image runs.
+  -- Only the primary trailer of the image is written.
   pub outside : Keeps map (only (TrailerOf image Primary)) old new
-  -- After a cut the image is on trial, and confirmed or as it was.
+  -- After a power cut the image is on trial, and is confirmed or as it was.
   pub cut : IsErrOf result Cut → (s : DeviceState) → IsAtRest (view map old) s
       → CutsConfirm (view map new) s image
-  -- Else it is confirmed, or isn't on trial and all stands as it was.
+  -- Otherwise the image is confirmed, or it isn't on trial and the state is as it was.
   pub ok : IfOk result (λ yes. (s : DeviceState) → IsAtRest (view map old) s
       → EndsConfirm (view map new) s image yes)
-  -- On any flash the answer is whether the log says that the image is on trial.
+  -- On any flash the result is whether the image is on trial by the log.
   pub answers : AnswersTrial (LogsTrialOf map.images image (state_of map old)) map image old new
       result
-  -- A flash that is off is the answer.
+  -- If the flash is off, that is the result.
   pub off : old.is_on ≡ false → IsErrOf result Off
-  -- With the answer no the flash is as it was.
+  -- If the result is no, the flash is as it was.
   pub same : IfOk result (λ yes. yes ≡ false → new ≡ old)
   pub ends : Ends result old new

@@ -1,4 +1,4 @@
--- What a call does that finds the decision of a boot.
+-- Contracts of the functions that look for the decision of a boot, and reply to what they find.
 use Rattle.std.specs.Prelude.{◌≡◌, ℕ, Bool, true, List, Some, Result, IfOk, ◌↔◌, IsTrue}
 use Rattle.flash_model.specs.Chip.{Chip, Ends}
 use Rattle.flash_model.specs.declared.error.FlashError.{FlashError}
@@ -19,35 +19,35 @@ use Rattle.decision.specs.Found.{HasTable}
 use Rattle.boot_core.specs.Found.{IsToldAgain}
 use Rattle.boot_core.specs.Wear.{DoesNothing, IsSetMoved}
 
--- A call finds the decision of a record again, where the slots of its set are swapped.
+-- A call finds the decision of a record again after the slots of its set were swapped.
 pub record FindsAgain (map : SectorMap) (mask : ℕ) (floors : List ℕ) (old new : Chip)
     (result : Result Finding FlashError) : Type 0 where
-  -- The flash is as it was,
+  -- The flash is as it was.
   pub same : new ≡ old
-  -- the decision that a device's state had is found,
+  -- The call finds the decision that the state of the device led to.
   pub ok : IfOk result (λ finding. (s : DeviceState) (table : Table) (permanent : Bool)
       → CanRead (view map old) s mask floors → IsDecision s table mask permanent
       → IsFoundAgain s mask finding)
-  -- its set is that of the record,
+  -- The set of the decision is that of the record.
   pub set : IfOk result (IsSetFound mask)
-  -- only images of the map are taken,
+  -- Only images of the map are taken.
   pub whole : IfOk result (HasImages map.images)
-  -- its table has a row for each image,
+  -- The table has a row for each image.
   pub rows : IfOk result (HasTable map.images)
-  -- and on any flash, where no decision is found, what is told is why.
+  -- On any flash, if no decision is found, the finding says why.
   pub told : IfOk result (IsToldAgain (view map old) mask floors)
   pub ends : Ends result old new
 
--- Whether a request that asks to be permanent stands for an image,
+-- Whether a permanent request is pending for an image.
 abbrev pub IsForGoodIn : SectorMap → ℕ → Chip → Bool → Type 0
 IsForGoodIn map image chip answer = IsTrue answer ↔ (standing_of map chip image ≡ Some Permanent)
 
--- and whether each image of a set asks so.
+-- Whether each image of a set has a permanent request.
 abbrev pub AreForGoodIn : SectorMap → ℕ → Chip → Bool → Type 0
 AreForGoodIn map mask chip answer = (s : DeviceState) → IsAsking (view map chip) s mask
     → (answer ≡ true → AsksForGood s mask) × (AsksForGood s mask → answer ≡ true)
 
--- What is found is answered: for a set, what is reported of it.
+-- The reply to what is found: for a decision, its report.
 pub record AnswersFinding (finding : Finding) (permanent : Bool) (result : Reply) : Type 0 where
   pub is : result ≡ reply_of finding permanent
   pub set : (mask : ℕ) → IsSetFound mask finding → IsSetOf mask result

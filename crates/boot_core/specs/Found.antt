@@ -1,4 +1,4 @@
--- What is told of the decision of a record that isn't found again.
+-- What is found if the decision of a record isn't found again, and what is written then.
 use Rattle.std.specs.Prelude.{◌≡◌, ℕ, List}
 use Rattle.flash_model.specs.Chip.{Chip}
 use Rattle.sector_map.specs.declared.layout.SectorMap.{SectorMap}
@@ -17,26 +17,26 @@ use Rattle.machine.specs.declared.finding.Finding.{Finding}
 use Rattle.machine.specs.declared.finding.Finding.TheVariants.{Decided, Damaged, Invalid}
 use Rattle.decision.specs.Found.{AreReadable, IsLowestAt}
 
--- The table of what the flash holds isn't valid, or the set isn't its greatest.
+-- The table of a state isn't valid, or the set isn't the greatest of the table.
 abbrev pub IsMistaken : DeviceState → ℕ → Type 0
 IsMistaken s mask = (table : Table) × IsTableOf s table
     × (IsValid table running_set → IsGreatest table (is_member mask) → ⊥)
 
--- `Damaged` tells the lowest image that can't be read. `Invalid` tells that each can be, and that
--- what they say isn't the decision of the record.
+-- `Damaged` names the lowest image that can't be read. `Invalid` says that each image can be read,
+-- and that the table isn't one which the decision of the record follows from.
 abbrev pub IsToldAgain : View → ℕ → List ℕ → Finding → Type 0
 IsToldAgain w mask floors (Decided table report) = Unit {0}
 IsToldAgain w mask floors (Damaged i) = IsLowestAt w mask i
 IsToldAgain w mask floors Invalid = AreReadable w mask w.images
     × ((s : DeviceState) → CanRead w s mask floors → IsMistaken s mask)
 
--- Where it isn't found nothing is written ..
+-- If no decision is found, nothing is written.
 abbrev pub IsKeptFor : Chip → Chip → Finding → Type 0
 IsKeptFor old new (Decided table report) = Unit {0}
 IsKeptFor old new (Damaged i) = new ≡ old
 IsKeptFor old new Invalid = new ≡ old
 
--- .. or nothing but the swap of its set.
+-- If no decision is found, only the swap of the set is written.
 abbrev pub IsSwapAloneFor : SectorMap → ℕ → Chip → Chip → Finding → Type 0
 IsSwapAloneFor map mask old new (Decided table report) = Unit {0}
 IsSwapAloneFor map mask old new (Damaged i) = Keeps map (swap_of mask Primary) old new
@@ -44,8 +44,7 @@ IsSwapAloneFor map mask old new Invalid = Keeps map (swap_of mask Primary) old n
 
 -- ---- how a boot stops in an upgrade that was begun
 
--- What a boot tells of the upgrade that the record was in the midst of, and what it wrote, where it
--- finds no decision.
+-- What a boot reports and writes if it continues an upgrade and finds no decision.
 pub record IsStopped (map : SectorMap) (state : State) (old new : Chip) (finding : Finding)
     : Type 0 where
   pub swap : state.kind ≡ log.Swap → IsToldAgain (view map new) state.mask state.floors finding

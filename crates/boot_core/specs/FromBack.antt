@@ -1,4 +1,4 @@
--- What a boot does from a record Back or BackSettle: each record is one call.
+-- Contracts of a boot from a record Back or BackSettle: one record for each function.
 use Rattle.std.specs.Prelude.{◌≡◌, ◌⊎◌, ◌+◌, ◌≤◌, true, Some, Result, OnOk}
 use Rattle.flash_model.specs.Chip.{Chip, Ends}
 use Rattle.flash_model.specs.declared.error.FlashError.{FlashError}
@@ -21,7 +21,7 @@ use Rattle.machine.specs.declared.reply.Reply.{Reply}
 use Rattle.boot_core.specs.BootEnds.{BootEndsForAny, Passes}
 use Rattle.boot_core.specs.Wear.{IsSetMoved}
 
--- The swap back of the set of a record is recorded as done, in this record.
+-- The set of a record is swapped back, and the log says so in the record `now`.
 pub record IsSwapBackDone (map : SectorMap) (state : State) (old new : Chip) (now : State)
     : Type 0 where
   pub ok : (s : DeviceState) (trial : Trial) → state.mask ≡ trial.set
@@ -29,32 +29,32 @@ pub record IsSwapBackDone (map : SectorMap) (state : State) (old new : Chip) (no
       → IsSwappedBack (view map new) s trial log.BackSettle
   pub recorded : state_of map new ≡ Some now
   pub is : now ≡ record state { kind = log.BackSettle }
-  -- A sector is erased for each step that was left, and one more at most.
+  -- At most, a sector is erased for each step that was left, and one more.
   pub erases : (s : DeviceState) (trial : Trial) → state.mask ≡ trial.set
       → IsSwappingBackSome map old s trial
       → new.erases + steps_done map old Secondary state.mask
       ≤ old.erases + steps_in_all map old Secondary state.mask + 1
 
--- From Back to BackSettle: a call swaps the set of a record back, and records it. Whatever
--- happened, the device is on its way back.
+-- From Back to BackSettle: a call swaps the set of a record back, and records that. However it
+-- ends, the device is on its way back.
 abbrev pub SwapsBack : SectorMap → State → Chip → Chip → Result State FlashError → Type 0
 SwapsBack map state old new result = Passes map old new
     ((s : DeviceState) (trial : Trial) → state.mask ≡ trial.set
     → IsSwappingBackSome map old s trial → IsGoingBack map new s trial)
     (IsSwapBackDone map state old new) result
 
--- At the end of settling: a call records that the old images run.
+-- After BackSettle has settled the set, a call records that the old images run.
 pub record RecordsReturned (map : SectorMap) (old new : Chip) (result : Result Unit FlashError)
     : Type 0 where
-  -- Nothing is written but the log.
+  -- Only the log is written.
   pub outside : Keeps map (only Log) old new
-  -- Whatever happened, a set that was swapped back and settled is so, or the device is at rest,
+  -- However the call ends, the set is swapped back and settled as before, or the device is at rest.
   pub stands : (s : DeviceState) (trial : Trial)
       → IsSwappedBack (view map old) s trial log.BackSettle
       → AreSettled (view map old) trial.set true
       → IsSwappedBack (view map new) s trial log.BackSettle
       ⊎ IsSteadyAt (view map new) (reverted s trial)
-  -- and at rest where the call ends.
+  -- If the call succeeds, the device is at rest.
   pub ok : OnOk result ((s : DeviceState) (trial : Trial)
       → IsSwappedBack (view map old) s trial log.BackSettle
       → AreSettled (view map old) trial.set true
@@ -62,15 +62,15 @@ pub record RecordsReturned (map : SectorMap) (old new : Chip) (result : Result U
   pub erases : OnOk result (new.erases ≤ old.erases + 1)
   pub ends : Ends result old new
 
--- The set of a record that was swapped back is settled, and the device is at rest.
+-- The set of a record, which was swapped back, is settled, and the device is at rest.
 pub record IsReturned (map : SectorMap) (state : State) (old new : Chip) : Type 0 where
   pub ok : (s : DeviceState) (trial : Trial) → state.mask ≡ trial.set
       → IsSwappedBack (view map old) s trial log.BackSettle
       → IsSteadyAt (view map new) (reverted s trial)
   pub erases : IsSettling map old new state.mask
 
--- From BackSettle to Steady: a call settles the set of a record, and the old images run. Whatever
--- happened, the set that was swapped back is so, or the device is at rest.
+-- From BackSettle to Steady: a call settles the set of a record, and records that the old images
+-- run. However it ends, the set is swapped back as before, or the device is at rest.
 abbrev pub SettlesAndReturns : SectorMap → State → Chip → Chip → Result Unit FlashError → Type 0
 SettlesAndReturns map state old new result = Passes map old new
     ((s : DeviceState) (trial : Trial) → state.mask ≡ trial.set
@@ -86,21 +86,21 @@ pub record IsBackFinished (map : SectorMap) (state : State) (old new : Chip) : T
   pub erases : (s : DeviceState) (trial : Trial) → state.mask ≡ trial.set
       → IsSwappingBackSome map old s trial → IsResumed map old new Secondary state.mask
 
--- From Back on: a call ends the swap back of the set of a record, and the old images run. Whatever
--- happened, the device is on its way back, or at rest.
+-- From Back to Steady: a call finishes the swap back of the set of a record, and records that the
+-- old images run. However it ends, the device is on its way back, or at rest.
 abbrev pub FinishesBack : SectorMap → State → Chip → Chip → Result Unit FlashError → Type 0
 FinishesBack map state old new result = Passes map old new
     ((s : DeviceState) (trial : Trial) → state.mask ≡ trial.set → IsSwappingBackSome map old s trial
     → IsGoingBack map new s trial ⊎ IsSteadyAt (view map new) (reverted s trial))
     (λ done. IsBackFinished map state old new) result
 
--- The set of a record Back is swapped back ..
+-- A boot from a record Back swaps its set back.
 abbrev pub BootsFromBack : SectorMap → State → Chip → Chip → Result Reply FlashError → Type 0
 BootsFromBack map state old new result = BootEndsForAny map (Stands map old)
     (λ reply. (s : DeviceState) → Stands map old s
     → IsResumed map old new Secondary state.mask × IsSetMoved state.mask reply) old new result
 
--- .. and that of a record BackSettle is settled.
+-- A boot from a record BackSettle settles its set.
 abbrev pub BootsFromBackSettle : SectorMap → State → Chip → Chip → Result Reply FlashError → Type 0
 BootsFromBackSettle map state old new result = BootEndsForAny map (Stands map old)
     (λ reply. IsSettling map old new state.mask × IsSetMoved state.mask reply) old new result

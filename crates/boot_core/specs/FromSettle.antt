@@ -1,4 +1,4 @@
--- What a boot does from a record Settle: each record is one call.
+-- Contracts of a boot from a record Settle: one record for each function.
 use Rattle.std.specs.Prelude.{◌≡◌, ◌≢◌, ◌⊎◌, ◌+◌, ◌*◌, ◌≤◌, ℕ, Bool, true, false, List, Some}
 use Rattle.std.specs.Prelude.{Result, OnOk, IfOk}
 use Rattle.common.specs.Limits.{MOST_BOOTS_LEFT}
@@ -29,45 +29,45 @@ use Rattle.boot_core.specs.BootEnds.{BootEnds, Passes}
 use Rattle.decision.specs.Found.{HasTable}
 use Rattle.boot_core.specs.Found.{IsKeptFor, IsToldAgain}
 
--- In Settle or BackSettle: a call settles the trailers of an image where it is in the mask.
+-- In Settle or BackSettle: a call settles the trailers of an image if the image is in the mask.
 pub record SettlesMember (map : SectorMap) (mask image : ℕ) (settling : Settling)
     (old new : Chip) (result : Result Unit FlashError) : Type 0 where
-  -- Nothing is written but the trailers of the mask.
+  -- Only the trailers of the mask are written.
   pub outside : Keeps map (trailers_in mask) old new
-  -- Whatever happened, each other image that was settled so stays so,
+  -- However the call ends, each other image that was settled so stays so.
   pub others : (i : ℕ) → i ≢ image → IsSettledAt (view map old) i (is_confirmed settling)
       → IsSettledAt (view map new) i (is_confirmed settling)
-  -- and this one is where the call ends.
+  -- If the call succeeds, this image is settled.
   pub ok : OnOk result (is_member mask image ≡ true
       → IsSettledAt (view map new) image (is_confirmed settling))
-  -- Its two trailers are erased once each at most.
+  -- Each of its two trailers is erased at most once.
   pub erases : OnOk result (new.erases ≤ old.erases + 2 * share mask (λ i. 1) image)
   pub ends : Ends result old new
 
 -- In Settle or BackSettle: a call settles the trailers of a set.
 pub record SettlesSet (map : SectorMap) (mask : ℕ) (settling : Settling) (old new : Chip)
     (result : Result Unit FlashError) : Type 0 where
-  -- Nothing is written but the trailers of the set.
+  -- Only the trailers of the set are written.
   pub outside : Keeps map (trailers_in mask) old new
-  -- They say what the set is where the call ends,
+  -- If the call succeeds, the set is settled.
   pub ok : OnOk result (AreSettled (view map new) mask (is_confirmed settling))
-  -- and each is erased once at most.
+  -- Each of its trailers is erased at most once.
   pub erases : OnOk result (new.erases ≤ old.erases + 2 * members map mask)
   pub ends : Ends result old new
 
--- From Settle to Trial or to Steady: a call records that a set is on trial, of so many boots more, or
--- taken for good, with these floors.
+-- From Settle to Trial or Steady: a call records that a set is on trial, with `left` more boots, or
+-- permanent, with these floors.
 pub record RecordsTaken (map : SectorMap) (permanent : Bool) (left : ℕ) (floors : List ℕ)
     (old new : Chip) (result : Result Unit FlashError) : Type 0 where
-  -- Nothing is written but the log.
+  -- Only the log is written.
   pub outside : Keeps map (only Log) old new
-  -- Whatever happened, a set that was swapped and settled for this is so, or taken,
+  -- However the call ends, the set is swapped and settled as before, or it is taken.
   pub stands : (s : DeviceState) (table : Table) (mask : ℕ)
       → IsSwapped (view map old) s table log.Settle mask permanent
       → AreSettled (view map old) mask permanent
       → IsSwapped (view map new) s table log.Settle mask permanent
       ⊎ IsTakenAt (view map new) s mask permanent left floors
-  -- and taken where the call ends.
+  -- If the call succeeds, the set is taken.
   pub ok : OnOk result ((s : DeviceState) (table : Table) (mask : ℕ)
       → IsSwapped (view map old) s table log.Settle mask permanent
       → AreSettled (view map old) mask permanent
@@ -75,7 +75,7 @@ pub record RecordsTaken (map : SectorMap) (permanent : Bool) (left : ℕ) (floor
   pub erases : OnOk result (new.erases ≤ old.erases + 1)
   pub ends : Ends result old new
 
--- The set of a record that was swapped is settled, and taken, on trial or for good.
+-- The set of a record, which was swapped, is settled and taken: it is on trial or permanent.
 pub record IsSetTaken (map : SectorMap) (state : State) (left : ℕ) (floors : List ℕ)
     (old new : Chip) : Type 0 where
   pub ok : (s : DeviceState) (table : Table)
@@ -83,8 +83,8 @@ pub record IsSetTaken (map : SectorMap) (state : State) (left : ℕ) (floors : L
       → IsTakenAt (view map new) s state.mask state.permanent left floors
   pub erases : IsSettling map old new state.mask
 
--- From Settle on: a call settles the set of a record, and takes it, on trial or for good. Whatever
--- happened, the set that was swapped is so, or taken.
+-- From Settle to Trial or Steady: a call settles the set of a record and takes it, on trial or
+-- permanent. However it ends, the set is swapped as before, or it is taken.
 abbrev pub SettlesAndRecords : SectorMap → State → ℕ → List ℕ → Chip → Chip
     → Result Unit FlashError → Type 0
 SettlesAndRecords map state left floors old new result = Passes map old new
@@ -94,22 +94,22 @@ SettlesAndRecords map state left floors old new result = Passes map old new
     ⊎ IsTakenAt (view map new) s state.mask state.permanent left floors)
     (λ done. IsSetTaken map state left floors old new) result
 
--- A set that was swapped can be settled by this finding, of so many boots more where it is tried.
+-- A set that was swapped can be settled by this finding. If it is tried, it has `left` more boots.
 pub record CanSettle (map : SectorMap) (state : State) (left : ℕ) (finding : Finding) (chip : Chip)
     : Type 0 where
-  -- The map is laid out on the flash, its log says that the set is swapped,
+  -- The map is laid out on the flash, and the log says that the set is swapped.
   pub laid_out : IsLaidOut map chip
   pub read : state_of map chip ≡ Some state
   pub kind : state.kind ≡ log.Settle
   pub few : left ≤ MOST_BOOTS_LEFT
-  -- and this was found again of the decision, with a row for each image.
+  -- This was found of the decision, with a row for each image.
   pub found : (s : DeviceState) (table : Table) (permanent : Bool)
       → CanRead (view map chip) s state.mask state.floors → IsDecision s table state.mask permanent
       → IsFoundAgain s state.mask finding
   pub rows : HasTable map.images finding
 
--- The upgrade of a record whose set was swapped is done, by what is found. Where this is no
--- decision nothing is written.
+-- The upgrade of a record, whose set was swapped, is done by what is found. If that is no decision,
+-- nothing is written.
 pub record IsUpgradeSettled (map : SectorMap) (state : State) (left : ℕ) (old new : Chip)
     (finding : Finding) : Type 0 where
   pub ok : (s : DeviceState) (table : Table)
@@ -119,7 +119,8 @@ pub record IsUpgradeSettled (map : SectorMap) (state : State) (left : ℕ) (old 
   pub erases : IsSettling map old new state.mask
   pub kept : IsKeptFor old new finding
 
--- A call does so. Whatever happened, the set that was swapped is so, or the upgrade is done.
+-- A call finishes such an upgrade. However it ends, the set is swapped as before, or the upgrade is
+-- done.
 abbrev pub SettlesUpgrade : SectorMap → State → ℕ → (Finding → Type 0) → Chip → Chip
     → Result Finding FlashError → Type 0
 SettlesUpgrade map state left tells old new result = Passes map old new
@@ -129,23 +130,23 @@ SettlesUpgrade map state left tells old new result = Passes map old new
     ⊎ IsUpgraded left (view map new) s state.mask state.permanent)
     (λ finding. IsUpgradeSettled map state left old new finding × tells finding) result
 
--- From Settle on: a call takes the set, on trial or for good, where this was found of the decision,
--- which is answered.
+-- From Settle on: a call takes the set, on trial or permanent, if a decision was found. It returns
+-- what was found.
 abbrev pub SettlesFound : SectorMap → State → ℕ → Finding → Chip → Chip
     → Result Finding FlashError → Type 0
 SettlesFound map state left finding old new result =
     SettlesUpgrade map state left (λ answer. answer ≡ finding) old new result
 
--- From Settle on: a call finds the decision again, and takes its set, on trial or for good. What is
--- found is of the set of the record, or tells why no decision is found.
+-- From Settle on: a call finds the decision again, and takes its set, on trial or permanent. What
+-- is found is of the set of the record, or says why no decision is found.
 abbrev pub FinishesSettle : SectorMap → State → ℕ → Chip → Chip → Result Finding FlashError
     → Type 0
 FinishesSettle map state left old new result = SettlesUpgrade map state left
     (λ finding. IsSetFound state.mask finding
     × IsToldAgain (view map old) state.mask state.floors finding) old new result
 
--- The upgrade of a record Settle is finished. Where its decision isn't found again, the reply tells
--- why, and nothing is written.
+-- A boot from a record Settle finishes the upgrade. If the decision isn't found again, the reply
+-- says why, and nothing is written.
 pub record BootsFromSettle (map : SectorMap) (state : State) (left : ℕ) (old new : Chip)
     (result : Result Reply FlashError) : Type 0 where
   pub boot : BootEnds map (left + 1) (Stands map old)

@@ -1,4 +1,4 @@
--- What a boot does from a record Steady: each record is one call.
+-- Contracts of a boot from a record Steady: one record for each function.
 use Rattle.std.specs.Prelude.{◌≡◌, ◌⊎◌, ◌+◌, ◌≤◌, ℕ, Bool, Some, Result, IfOk}
 use Rattle.flash_model.specs.Chip.{Chip}
 use Rattle.flash_model.specs.declared.error.FlashError.{FlashError}
@@ -18,13 +18,13 @@ use Rattle.machine.specs.declared.reply.Reply.{Reply}
 use Rattle.boot_core.specs.BootEnds.{BootEnds, Passes}
 use Rattle.boot_core.specs.Wear.{AreMeasured, DoesNothing, IsAfresh}
 
--- The device stands in the swap that was decided.
+-- The swap of the decision has begun.
 pub record IsSwapBegun (map : SectorMap) (state : State) (mask : ℕ) (permanent : Bool)
     (old new : Chip) (now : State) : Type 0 where
   pub ok : (s : DeviceState) (table : Table)
       → IsSteadyAt (view map old) s → IsDecision s table mask permanent
       → IsSwappingSome map new s table mask permanent
-  -- The log says so, in this record,
+  -- The log says so in the record `now`.
   pub recorded : state_of map new ≡ Some now
   pub is : now ≡ record state {
     kind = log.Swap;
@@ -32,13 +32,13 @@ pub record IsSwapBegun (map : SectorMap) (state : State) (mask : ℕ) (permanent
     permanent = permanent;
     left = 0;
   }
-  -- and the primary trailers of the set how many bytes the swap moves.
+  -- The primary trailers of the set say how many bytes the swap moves.
   pub moves : AreMeasured (view map old) (view map new) Primary mask
-  -- A sector is erased for each image of the set at most, and one for the record.
+  -- At most, a sector is erased for each image of the set, and one for the record.
   pub erases : new.erases ≤ old.erases + members map mask + 1
 
--- From Steady to Swap: a call begins the swap of a set. Whatever happened, the device rests or
--- stands in the swap that was decided.
+-- From Steady to Swap: a call begins the swap of a set. However it ends, the device is at rest, or
+-- the swap of the decision has begun.
 abbrev pub BeginsSwap : SectorMap → State → ℕ → Bool → Chip → Chip → Result State FlashError
     → Type 0
 BeginsSwap map state mask permanent old new result = Passes map old new
@@ -47,7 +47,7 @@ BeginsSwap map state mask permanent old new result = Passes map old new
     → IsSteadyAt (view map new) s ⊎ IsSwappingSome map new s table mask permanent)
     (IsSwapBegun map state mask permanent old new) result
 
--- The device rests, and the set is the one that is taken.
+-- The device is at rest, and the set is the one that is chosen.
 abbrev pub HasChosen : SectorMap → ℕ → Chip → DeviceState → Type 0
 HasChosen map mask chip s =
     (table : Table) × IsSteadyAt (view map chip) s × IsChosen s table mask
@@ -61,8 +61,9 @@ pub record Upgrades (map : SectorMap) (mask left : ℕ) (old new : Chip)
   pub some : IfOk result (λ reply. (s : DeviceState) → HasChosen map mask old s
       → DoesNothing reply → ⊥)
 
--- The decision is made, and a set that is chosen is taken. Where none is, or the boot is refused,
--- nothing is written: so it is on any flash whose log says that the device rests.
+-- A boot from a record Steady makes the decision, and takes a chosen set. If none is chosen, or the
+-- boot is refused, nothing is written. That holds on any flash whose log says that the device is at
+-- rest.
 pub record BootsFromSteady (map : SectorMap) (left : ℕ) (old new : Chip)
     (result : Result Reply FlashError) : Type 0 where
   pub boot : BootEnds map (left + 1) (IsSteadyAt (view map old))

@@ -1,4 +1,4 @@
--- What a boot does from a record Swap: each record is one call.
+-- Contracts of a boot from a record Swap: one record for each function.
 use Rattle.std.specs.Prelude.{◌≡◌, ◌⊎◌, ◌+◌, ◌≤◌, ℕ, Bool, Some, Result, IfOk}
 use Rattle.flash_model.specs.Chip.{Chip}
 use Rattle.flash_model.specs.declared.error.FlashError.{FlashError}
@@ -23,15 +23,15 @@ use Rattle.machine.specs.declared.reply.Reply.{Reply}
 use Rattle.boot_core.specs.BootEnds.{BootEnds, Passes}
 use Rattle.boot_core.specs.Found.{IsSwapAloneFor, IsToldAgain}
 
--- Where the decision is found again, the log says that its set is swapped.
+-- If the decision is found again, the log says that its set is swapped.
 abbrev pub IsSettleRecorded : SectorMap → State → Chip → Finding → Type 0
 IsSettleRecorded map state chip (Decided table report) =
     state_of map chip ≡ Some (record state { kind = log.Settle })
 IsSettleRecorded map state chip (Damaged i) = Unit {0}
 IsSettleRecorded map state chip Invalid = Unit {0}
 
--- What is found is of the set of a record that is swapped, or tells why no decision is found. Then
--- nothing but the swap is written.
+-- What is found is of the set of the record, or says why no decision is found. If none is found,
+-- only the swap is written.
 pub record IsFoundSwapped (map : SectorMap) (state : State) (old new : Chip) (finding : Finding)
     : Type 0 where
   pub set : IsSetFound state.mask finding
@@ -45,22 +45,22 @@ pub record IsSwapDone (map : SectorMap) (state : State) (old new : Chip) (findin
       → IsSwappingSome map old s table state.mask state.permanent
       → IsFoundAgain s state.mask finding
       × IsSwapped (view map new) s table log.Settle state.mask state.permanent
-  -- The log says so.
+  -- If a decision is found, the log says so.
   pub recorded : IsSettleRecorded map state new finding
-  -- What is found is the decision that a device's state had, with a row for each image.
+  -- The finding is the decision that the state of the device led to, with a row for each image.
   pub found : (s : DeviceState) (table : Table) (permanent : Bool)
       → CanRead (view map new) s state.mask state.floors
       → IsDecision s table state.mask permanent → IsFoundAgain s state.mask finding
   pub rows : HasTable map.images finding
   pub tells : IsFoundSwapped map state old new finding
-  -- A sector is erased for each step that was left, and one more at most.
+  -- At most, a sector is erased for each step that was left, and one more.
   pub erases : (s : DeviceState) (table : Table) (permanent : Bool)
       → IsSwappingSome map old s table state.mask permanent
       → new.erases + steps_done map old Primary state.mask
       ≤ old.erases + steps_in_all map old Primary state.mask + 1
 
--- From Swap to Settle: a call ends the swap of the set of a record, finds the decision again, and
--- records it. Whatever happened, the upgrade goes on from where it stood.
+-- From Swap to Settle: a call finishes the swap of the set of a record, finds the decision again,
+-- and records that. However it ends, the upgrade is under way.
 abbrev pub SwapsForth : SectorMap → State → Chip → Chip → Result Finding FlashError → Type 0
 SwapsForth map state old new result = Passes map old new
     ((s : DeviceState) (table : Table) → IsSwappingSome map old s table state.mask state.permanent
@@ -79,8 +79,8 @@ pub record IsSwapFinished (map : SectorMap) (state : State) (left : ℕ) (old ne
       → IsResumed map old new Primary state.mask
   pub tells : IsFoundSwapped map state old new finding
 
--- From Swap on: a call ends the swap, finds the decision again, and takes its set, on trial or for
--- good. Whatever happened, the upgrade goes on from where it stood, or is done.
+-- From Swap on: a call finishes the swap, finds the decision again, and takes its set, on trial or
+-- permanent. However it ends, the upgrade is under way, or is done.
 abbrev pub FinishesSwap : SectorMap → State → ℕ → Chip → Chip → Result Finding FlashError → Type 0
 FinishesSwap map state left old new result = Passes map old new
     ((s : DeviceState) (table : Table) → IsSwappingSome map old s table state.mask state.permanent
@@ -88,8 +88,8 @@ FinishesSwap map state left old new result = Passes map old new
     ⊎ IsUpgraded left (view map new) s state.mask state.permanent)
     (IsSwapFinished map state left old new) result
 
--- The upgrade of a record Swap is finished. Where its decision isn't found again, the reply tells
--- why, and nothing but the swap is written.
+-- A boot from a record Swap finishes the upgrade. If the decision isn't found again, the reply says
+-- why, and only the swap is written.
 pub record BootsFromSwap (map : SectorMap) (state : State) (left : ℕ) (old new : Chip)
     (result : Result Reply FlashError) : Type 0 where
   pub boot : BootEnds map (left + 1) (Stands map old)

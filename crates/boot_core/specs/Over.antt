@@ -1,4 +1,4 @@
--- What a boot leaves that finds a trial wholly confirmed, and takes nothing.
+-- What a boot leaves that finds a trial completely confirmed and takes nothing.
 use Rattle.std.specs.Prelude.{◌≡◌, ℕ, ◌≤◌, true, false, List, Ok, slice_index}
 use Rattle.flash_model.specs.Chip.{Chip}
 use Rattle.sector_map.specs.declared.layout.SectorMap.{SectorMap}
@@ -10,7 +10,7 @@ use Rattle.upload.specs.View.{view}
 use Rattle.machine.specs.Reading.{AreSetOk, RunsAt}
 use Rattle.machine.specs.States.{IsRaised}
 
--- The record that a trial is over, with these floors: that of a device at rest.
+-- The record that a trial is over, with these floors: the device is at rest.
 abbrev pub record_over : State → List ℕ → State
 record_over state floors = record {
   kind = Steady;
@@ -21,19 +21,20 @@ record_over state floors = record {
   floors = floors;
 }
 
--- Floors are raised to the counters of what runs. Those past the last image stay.
+-- Floors are raised to the security counters of the running images. Floors past the last image
+-- stay.
 pub record AreFloorsRaised (map : SectorMap) (chip : Chip) (old new : List ℕ) : Type 0 where
   pub raised : (s : DeviceState) → RunsAt (view map chip) s → s.floors ≡ old
       → IsRaised s.images s.running s.floors new
   pub rest : (i : ℕ) → map.images ≤ i → slice_index new i ≡ slice_index old i
 
--- The record that a trial is over is appended, with raised floors, and nothing else is written.
+-- The record that a trial is over is appended, with raised floors. Nothing else is written.
 pub record IsRecordedOver (map : SectorMap) (state : State) (old new : Chip) : Type 0 where
   pub floors : List ℕ
   pub raised : AreFloorsRaised map old state.floors floors
   pub appended : Appends map (record_over state floors) old new {T = Unit} (Ok tt)
 
--- So it is, and each image of the set was confirmed.
+-- The trial is recorded as over, and each image of its set was confirmed.
 pub record IsOverAlone (map : SectorMap) (state : State) (old new : Chip) : Type 0 where
   pub confirmed : AreSetOk (view map old) state.mask true
   pub recorded : IsRecordedOver map state old new

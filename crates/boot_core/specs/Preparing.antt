@@ -1,4 +1,4 @@
--- What a call does that makes trailers ready to keep the progress of a swap.
+-- Contracts of the functions that prepare trailers to count the steps of a swap.
 use Rattle.std.specs.Prelude.{◌≡◌, ◌≢◌, ℕ, ◌+◌, ◌*◌, ◌<◌, ◌≤◌, true, Result, OnOk}
 use Rattle.flash_model.specs.declared.error.FlashError.{FlashError}
 use Rattle.flash_model.specs.Chip.{Chip, Ends}
@@ -13,59 +13,59 @@ use Rattle.machine.specs.Prepared.{IsPrepared}
 use Rattle.machine.specs.Wear.{members}
 use Rattle.boot_core.specs.SwapSize.{IsReady, IsSwapSize, IsUsed}
 
--- How many bytes are used of a slot of an image,
+-- How many bytes of a slot of an image are used.
 abbrev pub IsUsedIn : SectorMap → ℕ → Side → Chip → ℕ → Type 0
 IsUsedIn map image side chip size = IsUsed (slot_bytes map chip image side) size
 
--- and how many of each a swap moves.
+-- How many bytes of each slot of an image a swap moves.
 abbrev pub IsSwapSizeIn : SectorMap → ℕ → Chip → ℕ → Type 0
 IsSwapSizeIn map image chip size = IsSwapSize (view map chip) image size
 
--- Such a number of bytes of an image.
+-- A number of bytes in a slot of an image.
 pub record IsSizeIn (map : SectorMap) (image : ℕ) (says : Chip → ℕ → Type 0) (chip : Chip)
     (size : ℕ) : Type 0 where
-  -- The number is exact,
+  -- The number is exact.
   pub exact : says chip size
-  -- not 0,
+  -- It isn't 0.
   pub some : 0 < size
-  -- and no more than the slot has.
+  -- It is at most the length of the slot.
   pub most : size ≤ slot_sectors map image * map.sector_size
 
--- A call makes a trailer of an image ready.
+-- A call prepares a trailer of an image.
 pub record PreparesImage (map : SectorMap) (image : ℕ) (side : Side) (old new : Chip)
     {T : Type 0} (result : Result T FlashError) : Type 0 where
-  -- Nothing is written but this trailer,
+  -- Only this trailer is written.
   pub outside : Keeps map (only (TrailerOf image side)) old new
-  -- and it is ready in the end.
+  -- If the call succeeds, the trailer is ready.
   pub ok : OnOk result (IsReady (view map new) side image)
-  -- One sector is erased at most.
+  -- At most one sector is erased.
   pub erases : OnOk result (new.erases ≤ old.erases + 1)
   pub ends : Ends result old new
 
--- A call makes the trailer of an image ready where the image is in a mask.
+-- A call prepares the trailer of an image if the image is in a mask.
 pub record PreparesMember (map : SectorMap) (mask : ℕ) (side : Side) (image : ℕ) (old new : Chip)
     {T : Type 0} (result : Result T FlashError) : Type 0 where
-  -- Nothing is written but the trailers of the mask on this side,
+  -- Only the trailers of the mask on this side are written.
   pub outside : Keeps map (trailers_on mask side) old new
-  -- and that of a member is ready in the end.
+  -- If the call succeeds, the trailer of a member is ready.
   pub ok : OnOk result (is_member mask image ≡ true → IsReady (view map new) side image)
-  -- Whatever happened, the other images that were ready stay so.
+  -- However the call ends, the other images that were ready stay so.
   pub kept : (i : ℕ) → i ≢ image → IsReady (view map old) side i → IsReady (view map new) side i
-  -- For a member one sector is erased at most, and else none.
+  -- At most one sector is erased for a member, and none otherwise.
   pub erases : OnOk result (new.erases ≤ old.erases + share mask (λ i. 1) image)
   pub ends : Ends result old new
 
--- A call makes the trailers of a mask on one side ready.
+-- A call prepares the trailers of a mask on one side.
 pub record Prepares (map : SectorMap) (mask : ℕ) (side : Side) (old new : Chip)
     {T : Type 0} (result : Result T FlashError) : Type 0 where
-  -- Nothing is written but these trailers.
+  -- Only these trailers are written.
   pub outside : Keeps map (trailers_on mask side) old new
-  -- In the end they can count the steps of a swap,
+  -- If the call succeeds, the trailers can count the steps of a swap.
   pub ok : OnOk result ((i : ℕ) → i < map.images → is_member mask i ≡ true
       → IsPrepared (view map new) side i)
-  -- and say how many bytes it moves.
+  -- They say how many bytes it moves.
   pub ready : OnOk result ((i : ℕ) → i < map.images → is_member mask i ≡ true
       → IsReady (view map new) side i)
-  -- A sector is erased at most for each member.
+  -- At most one sector is erased for each member.
   pub erases : OnOk result (new.erases ≤ old.erases + members map mask)
   pub ends : Ends result old new

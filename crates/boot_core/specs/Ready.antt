@@ -1,4 +1,4 @@
--- Whether a device takes uploads now.
+-- Whether a device takes uploads, and which refusals come from a manifest.
 use Rattle.std.specs.Prelude.{◌≡◌, ℕ, ◌<◌, Bool, true, false, List, Option, Some, None, Result, Ok, Err}
 use Rattle.flash_model.specs.declared.error.FlashError.TheVariants as flash
 use Rattle.manifest.specs.declared.identity.Identity.{Identity}
@@ -13,11 +13,11 @@ use Rattle.set_log.specs.declared.state.RecordKind.TheVariants as log
 use Rattle.machine.specs.declared.error.Fault.{Fault}
 use Rattle.machine.specs.declared.error.Fault.TheVariants as no
 
--- A set is on trial, by the log.
+-- The log says that a set is on trial.
 abbrev pub LogsTrial : Option State → Type 0
 LogsTrial recorded = (state : State) × (recorded ≡ Some state) × (state.kind ≡ log.Trial)
 
--- A set is on trial, by the log, and an image of so many is in it.
+-- The log says that a set is on trial, and an image of this number, below `images`, is in it.
 pub record LogsTrialOf (images image : ℕ) (recorded : Option State) : Type 0 where
   pub state : State
   pub logged : recorded ≡ Some state
@@ -30,8 +30,8 @@ abbrev pub LogsNoTrial : Option State → Type 0
 LogsNoTrial recorded =
     (state : State) × (recorded ≡ Some state) × (state.kind ≡ log.Trial → ⊥)
 
--- Whether uploads are taken, by the first check that fails: the device is up, the log has a state,
--- and no set is on trial.
+-- Whether uploads are taken, by the first check that fails. They are taken if the device is booted,
+-- the log has a state, and no set is on trial.
 abbrev pub IsReadiness : Result Unit Fault → Bool → Option State → Bool → Type 0
 IsReadiness (Ok done) up recorded on = (up ≡ true) × LogsNoTrial recorded
 IsReadiness (Err no.NotBooted) up recorded on = up ≡ false
@@ -40,7 +40,7 @@ IsReadiness (Err no.NotProvisioned) up recorded on = (up ≡ true) × (recorded 
 IsReadiness (Err (no.Flash flash.Off)) up recorded on = (up ≡ true) × (on ≡ false)
 IsReadiness other up recorded on = ⊥
 
--- The refusal of a text: want of memory is one of the device.
+-- The device's fault for the refusal of a text. NoMemory is a fault of its own.
 abbrev pub text_fault : ManifestError → Fault
 text_fault text.NoMemory = no.NoMemory
 text_fault text.NotJson = no.Manifest text.NotJson
@@ -51,14 +51,14 @@ text_fault text.WrongClass = no.Manifest text.WrongClass
 text_fault text.NoComponent = no.Manifest text.NoComponent
 text_fault text.RepeatedComponent = no.Manifest text.RepeatedComponent
 
--- Why bytes aren't taken for a manifest: they are none for this device, or memory ran out.
+-- Why bytes aren't accepted as a manifest: they are none for this device, or memory ran out.
 abbrev pub RefusesText : Identity → List ℕ → Fault → Type 0
 RefusesText identity bytes (no.Manifest error) = IsRefusal identity bytes error
 RefusesText identity bytes no.NoMemory = Unit
 RefusesText identity bytes other = ⊥
 
--- What is refused of a manifest that was read already: that it names an image which the device
--- lacks, and no memory is wanted. Other refusals aren't of the manifest as such.
+-- Which refusals a manifest that was parsed before can have. NoComponent comes only if the manifest
+-- names an image that the device lacks. No other refusal of a text comes, nor NoMemory.
 abbrev pub RefusesManifest : Identity → Manifest → Fault → Type 0
 RefusesManifest identity manifest (no.Manifest text.NoComponent) =
     NamesImages identity manifest → ⊥

@@ -7,13 +7,13 @@ use Rattle.image_reading.specs.Image.{BeginsIntact}
 use Rattle.upload.specs.View.{View}
 use Rattle.machine.specs.Prepared.{IsPrepared}
 
--- How many bytes are used of a slot: those of the intact image that it begins with, or all where it
--- begins with none.
+-- How many bytes of a slot are used: the length of the intact image that it begins with, or the
+-- length of the slot if it begins with none.
 pub record IsUsed (slot : List ℕ) (n : ℕ) : Type 0 where
   pub intact : (description : Desc) → BeginsIntact slot description → n ≡ description.length
   pub damaged : ((description : Desc) → BeginsIntact slot description → ⊥) → n ≡ length slot
 
--- How many bytes of each slot of an image a swap moves: as many as are used of either.
+-- How many bytes of each slot of an image a swap moves: the larger one of both used lengths.
 pub record IsSwapSize (w : View) (i n : ℕ) : Type 0 where
   pub primary : ℕ
   pub secondary : ℕ
@@ -21,7 +21,8 @@ pub record IsSwapSize (w : View) (i n : ℕ) : Type 0 where
   pub of_secondary : IsUsed (w.slot i Secondary) secondary
   pub larger : n ≡ max primary secondary
 
--- The trailer of an image's side is ready to count a swap, and says how many bytes the swap moves.
+-- The trailer of an image on one side is prepared to count a swap, and says how many bytes the swap
+-- moves.
 pub record IsReady (w : View) (side : Side) (i : ℕ) : Type 0 where
   pub prepared : IsPrepared w side i
   pub size : ℕ

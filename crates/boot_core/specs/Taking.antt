@@ -1,5 +1,5 @@
--- What a call does that takes an event of a device: on the flash, in the table of uploads, and to
--- whether it is up.
+-- Contracts of the calls of a device that is held in parts: what they do to the flash, to the open
+-- uploads, and to whether the device is booted.
 use Rattle.std.specs.Prelude.{◌≡◌, ℕ, Bool, true, false, List, Option, Some, Result, Ok, Err, IfErr, OnOk}
 use Rattle.std.specs.Borrow.{Bor}
 use Rattle.common.specs.declared.event.Event.TheVariants as event
@@ -32,40 +32,40 @@ use Rattle.boot_core.specs.Confirming.{IsOkSet}
 use Rattle.boot_core.specs.Device.{StaysHeld, made}
 use Rattle.boot_core.specs.Ready.{IsReadiness, LogsNoTrial, LogsTrialOf, RefusesManifest}
 
--- A call asks whether uploads are taken now.
+-- A call checks whether uploads are taken.
 pub record ChecksReady (map : SectorMap) (is_booted : Bool) (old new : Chip)
     (result : Result Unit Fault) : Type 0 where
-  -- The flash is as it was,
+  -- The flash is as it was.
   pub same : new ≡ old
-  -- and the answer is the first check that fails.
+  -- The result is the first check that fails.
   pub ready : IsReadiness result is_booted (state_of map old) old.is_on
-  -- A flash that is off is the answer of a device that is up.
+  -- If the device is booted and the flash is off, that is the result.
   pub off : is_booted ≡ true → old.is_on ≡ false → result ≡ Err (no.Flash Off)
 
--- A call passes a fault on, and stops the device where the flash is its reason.
+-- A call returns a fault, and stops the device if the flash caused the fault.
 pub record Stops (fault : Fault) (old : List (Option Upload)) (was_up : Bool)
     (new : List (Option Upload)) (is_booted : Bool) (result : Fault) : Type 0 where
-  -- The fault is passed on.
+  -- The fault is returned unchanged.
   pub is : result ≡ fault
-  -- Where the call stopped at the flash the device isn't up,
+  -- If the flash stopped the call, the device isn't booted.
   pub down : is_stop fault ≡ true → is_booted ≡ false
-  -- and no upload is open.
+  -- If the flash stopped the call, no upload is open.
   pub closed : is_stop fault ≡ true → AllClosed new
-  -- Else it is up where it was,
+  -- Otherwise the device is booted if it was.
   pub up : is_stop fault ≡ false → is_booted ≡ was_up
-  -- and the uploads are as they were.
+  -- Otherwise the uploads are as they were.
   pub kept : is_stop fault ≡ false → new ≡ old
 
--- A call asks whether uploads are taken now, and stops the device where the flash didn't answer.
+-- A call checks whether uploads are taken, and stops the device if the flash stopped the check.
 pub record AsksReady (map : SectorMap) (old new : DeviceView) (result : Result Unit Fault)
     : Type 0 where
   pub asked : ChecksReady map old.up old.flash new.flash result
-  -- Where they are taken nothing changes,
+  -- If uploads are taken, nothing changes.
   pub taken : OnOk result (new ≡ old)
-  -- else the refusal is passed on.
+  -- Otherwise the refusal is returned.
   pub stops : IfErr result (λ fault. Stops fault old.sessions old.up new.sessions new.up fault)
 
--- A call passes on what the table of uploads answered.
+-- A call turns the result of a call of `Uploads` into that of the device.
 abbrev pub PassesOn : Result Unit UploadError → List (Option Upload) → Bool → List (Option Upload)
     → Bool → Result Unit Fault → Type 0
 PassesOn (Ok done) old was_up new is_booted (Ok passed) = (new ≡ old) × (is_booted ≡ was_up)
@@ -73,45 +73,46 @@ PassesOn (Err error) old was_up new is_booted (Err fault) =
     Stops (no.Upload error) old was_up new is_booted fault
 PassesOn taken old was_up new is_booted result = ⊥
 
--- A call takes an event of a device that has this map: what holds of each, whatever a refusal
+-- A call passes an event to a device with this map. This holds for each event, whatever a refusal
 -- leaves.
 pub record StepsHere (map : SectorMap) (event : DeviceEvent) (touched : Part → Bool)
     (old new : DeviceView) (result : Result Unit Fault) : Type 0 where
-  -- The map is still laid out on the flash,
+  -- The map is still laid out on the flash.
   pub laid : IsLaidOut map new.flash
-  -- and the open uploads stand on it.
+  -- The open uploads match the flash.
   pub opens : AllOpenAt (view map new.flash) new.sessions
-  -- On a flash with power it is a step of the machine, whatever else the device was made with.
+  -- On a flash with power the call is a step of the machine, whatever else the device was made
+  -- with.
   pub steps : (identity : Identity) (boots : ℕ) → old.flash.is_on ≡ true
       → StepsTo (made map identity boots) old new event (reply_of_result result)
-  -- Only these parts are touched,
+  -- Only these parts are touched.
   pub outside : Keeps map touched old.flash new.flash
-  -- and nothing where the device isn't up.
+  -- If the device isn't booted, nothing is touched, and that is the result.
   pub down : old.up ≡ false → IsNotBooted result old new
-  -- Where the flash is off that is the answer of a device that is up, and nothing is written.
+  -- If the device is booted and the flash is off, that is the result, and nothing is written.
   pub off : old.up ≡ true → old.flash.is_on ≡ false → IsOff result old.flash new.flash
   pub ends : EndsCall (reply_of_result result) old new
 
--- So does one of uploads, whatever a refusal leaves of the flash.
+-- A call of uploads on a device with this map, whatever a refusal leaves of the flash.
 pub record TakesCall (map : SectorMap) (event : DeviceEvent) (touched : Part → Bool)
     (old new : DeviceView) (result : Result Unit Fault) : Type 0 where
   pub here : StepsHere map event touched old new result
   pub open here use *
-  -- A refusal that is not of the flash leaves whether the device is up,
+  -- After a refusal that isn't the flash's, the device is booted if it was.
   pub up : IfErr result (λ fault. is_stop fault ≡ false → new.up ≡ old.up)
-  -- and the uploads, unless it closes the one of its image.
+  -- Such a refusal leaves the uploads too, unless it closes the upload of its image.
   pub kept : IfErr result (λ fault. keeps_all (may_close event) fault ≡ true → new ≡ old)
 
--- A call takes an event of a device that has this map.
+-- A call passes an event to a device with this map.
 pub record TakesHere (map : SectorMap) (event : DeviceEvent) (touched : Part → Bool)
     (old new : DeviceView) (result : Result Unit Fault) : Type 0 where
   pub call : TakesCall map event touched old new result
   pub open call use *
-  -- A refusal that is not of the flash leaves the flash as it was.
+  -- A refusal that isn't the flash's leaves the flash as it was.
   pub refused : IfErr result (λ fault. is_stop fault ≡ false → new.flash ≡ old.flash)
 
--- Taking a text touches only what comes in for the images of the manifest that it means to this
--- identity, and the log. A text that means none touches nothing.
+-- Accepting a text touches only the log, and the secondary slots and trailers of the images that
+-- its manifest names. A text that isn't a manifest for this identity touches nothing.
 pub data TouchesNamed (map : SectorMap) (identity : Identity) (text : List ℕ) (old new : Chip)
     : Type 0 where
   Named : (manifest : given.Manifest) → IsManifest identity text manifest
@@ -119,27 +120,28 @@ pub data TouchesNamed (map : SectorMap) (identity : Identity) (text : List ℕ) 
       → TouchesNamed map identity text old new
   Untouched : new ≡ old → TouchesNamed map identity text old new
 
--- A call takes a manifest of a device that has this map and this identity.
+-- A call accepts a manifest on a device with this map and this identity.
 pub record AcceptsHere (map : SectorMap) (identity : Identity) (text : Bor (List ℕ))
     (old new : DeviceView) (result : Result Unit Fault) : Type 0 where
-  -- The map is still laid out on the flash,
+  -- The map is still laid out on the flash.
   pub laid : IsLaidOut map new.flash
-  -- and the open uploads stand on it.
+  -- The open uploads match the flash.
   pub opens : AllOpenAt (view map new.flash) new.sessions
-  -- On a flash with power it is a step of the machine, however many boots its trials have.
+  -- On a flash with power the call is a step of the machine, however many boots a trial has.
   pub steps : (boots : ℕ) → old.flash.is_on ≡ true
       → StepsTo (made map identity boots) old new (event.Accept text) (reply_of_result result)
-  -- Only parts of the map are touched,
+  -- Only parts of the map are touched.
   pub outside : Keeps map any_part old.flash new.flash
-  -- and of these only what comes in for the images that are named, and the log:
+  -- Of these it touches only the log, and the secondary slots and trailers of the images that are
+  -- named.
   pub named : TouchesNamed map identity text.now old.flash new.flash
-  -- nothing where the device isn't up,
+  -- If the device isn't booted, nothing is touched, and that is the result.
   pub down : old.up ≡ false → IsNotBooted result old new
-  -- and nothing of the flash where a refusal is not of the flash.
+  -- A refusal that isn't the flash's leaves the flash as it was.
   pub refused : IfErr result (λ fault. is_stop fault ≡ false → new.flash ≡ old.flash)
-  -- Such a refusal leaves the uploads too, and whether the device is up.
+  -- Such a refusal leaves the uploads too, and whether the device is booted.
   pub kept : IfErr result (λ fault. is_stop fault ≡ false → new ≡ old)
-  -- Where the flash is off that is the answer of a device that is up, and nothing is written.
+  -- If the device is booted and the flash is off, that is the result, and nothing is written.
   pub off : old.up ≡ true → old.flash.is_on ≡ false → IsOff result old.flash new.flash
   pub ends : EndsCall (reply_of_result result) old new
 
@@ -156,79 +158,78 @@ pub record CanOpen (map : SectorMap) (identity : Identity) (manifest : given.Man
 -- A call opens the uploads of a manifest.
 pub record OpensUploads (map : SectorMap) (identity : Identity) (manifest : given.Manifest)
     (old new : DeviceView) (result : Result Unit Fault) : Type 0 where
-  -- The map is still laid out on the flash,
+  -- The map is still laid out on the flash.
   pub laid : IsLaidOut map new.flash
-  -- and the open uploads stand on it.
+  -- The open uploads match the flash.
   pub opens : AllOpenAt (view map new.flash) new.sessions
-  -- On a flash with power it is the step of the machine that takes any text which means the
-  -- manifest, however many boots its trials have.
+  -- On a flash with power, for any text that means the manifest, the call is the step of the
+  -- machine that takes the text. That holds however many boots a trial has.
   pub steps : (boots : ℕ) (text : Bor (List ℕ)) → old.flash.is_on ≡ true
       → IsManifest identity text.now manifest
       → StepsTo (made map identity boots) old new (event.Accept text) (reply_of_result result)
-  -- Whatever the manifest asks for, a state is held then if one was.
+  -- Whatever the manifest asks for, the device holds a state afterwards if it held one.
   pub holds : old.flash.is_on ≡ true → StaysHeld map old new
-  -- Only what comes in for its images is touched, and the log,
+  -- Only the log is touched, and the secondary slots and trailers of its images.
   pub outside : Keeps map (accepted_parts manifest.components.items) old.flash new.flash
-  -- and nothing of the flash where a refusal is not of the flash.
+  -- A refusal that isn't the flash's leaves the flash as it was.
   pub refused : IfErr result (λ fault. is_stop fault ≡ false → new.flash ≡ old.flash)
-  -- Such a refusal leaves the uploads too, and whether the device is up.
+  -- Such a refusal leaves the uploads too, and whether the device is booted.
   pub kept : IfErr result (λ fault. is_stop fault ≡ false → new ≡ old)
-  -- It isn't refused as no manifest.
+  -- Of the refusals of a manifest only NoComponent can come.
   pub told : IfErr result (RefusesManifest identity manifest)
   pub ends : EndsCall (reply_of_result result) old new
 
--- A call takes a manifest that was read already, of a device that has this map and this identity.
+-- A call accepts a manifest that was parsed before, on a device with this map and this identity.
 pub record TakesManifestHere (map : SectorMap) (identity : Identity) (manifest : given.Manifest)
     (old new : DeviceView) (result : Result Unit Fault) : Type 0 where
-  -- It opens the uploads of the manifest,
+  -- All that opening the uploads of the manifest promises holds.
   pub taken : OpensUploads map identity manifest old new result
   pub open taken use *
-  -- or touches nothing where the device isn't up,
+  -- If the device isn't booted, nothing is touched, and that is the result.
   pub down : old.up ≡ false → IsNotBooted result old new
-  -- or where uploads are taken and the manifest names an image that the device lacks, which is the
-  -- answer then.
+  -- If uploads are taken and the manifest names an image that the device lacks, that is the result,
+  -- and nothing is touched.
   pub lacks : old.flash.is_on ≡ true → old.up ≡ true → LogsNoTrial (state_of map old.flash)
       → (NamesImages identity manifest → ⊥)
       → (result ≡ Err (no.Manifest NoComponent)) × (new ≡ old)
-  -- Where the flash is off that is the answer of a device that is up, and nothing is written.
+  -- If the device is booted and the flash is off, that is the result, and nothing is written.
   pub off : old.up ≡ true → old.flash.is_on ≡ false → IsOff result old.flash new.flash
 
--- A call finishes an upload of a device that has this map: only the secondary slot of the image and
--- its trailer are touched.
+-- A call finishes an upload on a device with this map. Only the secondary slot of the image and its
+-- trailer are touched.
 pub record FinishesHere (map : SectorMap) (image : ℕ) (old new : DeviceView)
     (result : Result Unit Fault) : Type 0 where
   pub call : TakesCall map (event.Finish image) (incoming_of image) old new result
   pub open call use *
-  -- Where too few bytes came the flash is as it was,
+  -- If too few bytes came, the flash is as it was.
   pub size : result ≡ Err (no.Upload SizeWrong) → new.flash ≡ old.flash
-  -- and else a refusal that is not of the flash writes nothing but the image's secondary slot: not
-  -- its trailer,
+  -- A refusal that isn't the flash's writes nothing but the secondary slot of the image.
   pub slot : IfErr result (λ fault. is_stop fault ≡ false
       → Keeps map (only (Slot image Secondary)) old.flash new.flash)
-  -- of the slot no more than the last unit of the upload,
+  -- Of the slot it writes at most the last unit of the upload.
   pub unit : IfErr result (λ fault. is_stop fault ≡ false → (u : Upload)
       → upload_at old.sessions image ≡ Some u → WritesLastUnit map image u old.flash new.flash)
-  -- and no sector is erased.
+  -- It erases no sector.
   pub erases : IfErr result (λ fault. is_stop fault ≡ false
       → new.flash.erases ≡ old.flash.erases)
 
--- A call confirms an image of a device that has this map: only the trailer of what the image runs is
+-- A call confirms an image on a device with this map. Only the primary trailer of the image is
 -- touched.
 pub record ConfirmsHere (map : SectorMap) (image : ℕ) (old new : DeviceView)
     (result : Result Unit Fault) : Type 0 where
   pub here : StepsHere map (event.Confirm image) (only (TrailerOf image Primary)) old new result
   pub open here use *
-  -- A refusal that is not of the flash leaves the flash as it was,
+  -- A refusal that isn't the flash's leaves the flash as it was.
   pub refused : IfErr result (λ fault. is_stop fault ≡ false → new.flash ≡ old.flash)
-  -- the uploads too, and whether the device is up.
+  -- Such a refusal leaves the uploads too, and whether the device is booted.
   pub kept : IfErr result (λ fault. is_stop fault ≡ false → new ≡ old)
-  -- Where the call ends the log says that the image is on trial, and it is confirmed then.
+  -- If the call succeeds, the log said that the image is on trial, and the image is confirmed.
   pub ok : OnOk result (LogsTrialOf map.images image (state_of map old.flash)
       × IsOkSet map image new.flash)
-  -- That it isn't on trial is told where the log doesn't say so, and nothing changes then,
+  -- If the log doesn't say that the image is on trial, that is the result, and nothing changes.
   pub untried : old.up ≡ true → old.flash.is_on ≡ true
       → (LogsTrialOf map.images image (state_of map old.flash) → ⊥)
       → (result ≡ Err no.NotOnTrial) × (new ≡ old)
-  -- and nowhere else.
+  -- NotOnTrial is returned in no other case.
   pub tried : LogsTrialOf map.images image (state_of map old.flash)
       → result ≡ Err no.NotOnTrial → ⊥

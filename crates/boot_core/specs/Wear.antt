@@ -1,4 +1,4 @@
--- How many erases a boot makes, by the images that its set has in its slots.
+-- How many erases a boot makes, by the images in the slots of its set.
 use Rattle.std.specs.Prelude.{◌≡◌, ℕ, ◌+◌, ◌*◌, ◌<◌, ◌≤◌, true, Some}
 use Rattle.flash_model.specs.Chip.{Chip}
 use Rattle.sector_map.specs.declared.layout.SectorMap.{SectorMap}
@@ -17,7 +17,7 @@ use Rattle.machine.specs.declared.reply.Reply.{Reply}
 use Rattle.machine.specs.declared.reply.Reply.TheVariants.{Done, Booted, Reverted, TrialAgain, Refused, Cut}
 use Rattle.boot_core.specs.SwapSize.{IsSwapSize}
 
--- How many sectors of each slot of an image a swap moves, by the bytes that it moves.
+-- How many sectors of each slot of an image a swap moves, by how many bytes it moves.
 abbrev pub sectors_moved : SectorMap → (ℕ → ℕ) → ℕ → ℕ
 sectors_moved map sizes i = sectors_for (slot_sectors map i) map.sector_size (Some (sizes i))
 
@@ -26,15 +26,16 @@ abbrev pub AreMeasured : View → View → Side → ℕ → Type 0
 AreMeasured old new side mask = (i : ℕ) → i < old.images → is_member mask i ≡ true
     → (size : ℕ) × ((new.trailer i side).size ≡ Some size) × IsSwapSize old i size
 
--- A swap of a set that is begun: three erases for each sector that it moves, three for each image,
--- and some more.
+-- Erases if a swap of a set begins: at most three for each sector that it moves, three for each
+-- image, and `more`.
 abbrev pub IsFreshWear : SectorMap → Chip → Chip → ℕ → ℕ → Type 0
 IsFreshWear map old new mask more = (sizes : ℕ → ℕ)
     → ((i : ℕ) → is_member mask i ≡ true → IsSwapSize (view map old) i (sizes i))
     → new.erases ≤ old.erases + 3 * sum_over mask (sectors_moved map sizes) map.images
     + 3 * members map mask + more
 
--- A mask is the set that was moved for a reply: for a refusal none was.
+-- The mask is the set that a boot with this reply moved. A boot that is refused, or tries a set
+-- again, moved none.
 abbrev pub IsSetMoved : ℕ → Reply → Type 0
 IsSetMoved mask (Booted table report permanent) = IsSetIn mask report
 IsSetMoved mask (Reverted set) = mask ≡ set
@@ -43,7 +44,7 @@ IsSetMoved mask (Refused fault) = mask ≡ 0
 IsSetMoved mask Done = mask ≡ 0
 IsSetMoved mask Cut = mask ≡ 0
 
--- A swap of the set of a reply that is begun.
+-- Erases if a swap of the reply's set begins.
 abbrev pub IsAfresh : SectorMap → Chip → Chip → ℕ → Reply → Type 0
 IsAfresh map old new more reply =
     (mask : ℕ) × IsSetMoved mask reply × IsFreshWear map old new mask more
@@ -54,7 +55,7 @@ DoesNothing (Booted table report permanent) = TakesNone report
 DoesNothing (Refused fault) = Unit {0}
 DoesNothing other = ⊥
 
--- The wear of a boot that isn't cut, by the record that stood.
+-- The wear of a boot that isn't cut, by the kind of the record that it found.
 abbrev pub IsWorn : SectorMap → RecordKind → ℕ → Chip → Chip → Reply → Type 0
 IsWorn map log.Steady mask old new reply = IsAfresh map old new 3 reply
 IsWorn map log.Swap mask old new reply =
