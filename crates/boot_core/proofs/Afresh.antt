@@ -1,4 +1,4 @@
--- A flash that is made a device's.
+-- Lemmas for provisioning: what its result says of the flash before and after.
 use Rattle.std.proofs.Common.{◌≡◌, ◌⊎◌, ℕ, ◌+◌, ◌<◌, ◌≤◌, ◌==◌, max, Bool, true, false, List, [], ◌∷◌, ◌++◌, length, Option, Some, None, Result, Ok, Err}
 use Rattle.std.proofs.Common.{refl, sym, ◌∙◌, ap, subst, arith, slice_get, slice_index, get_or, ⊎_elim, inl, inr, zero, suc, replicate, length-append}
 use Rattle.std.proofs.Math.Bool.{and-false}
@@ -78,7 +78,7 @@ rows_more map chip n rows row before next = record {
       (push_cases rows row k found e);
 }
 
--- the row of an image that was read
+-- Each image below n has a row.
 pub row_there : (map : SectorMap) (chip : Chip) (n : ℕ) (rows : List Image) (i : ℕ)
     → AreRunningRows map chip n rows → i < n
     → (row : Image) × (slice_get rows i ≡ Some row) × IsRunningRow (running_bytes map chip i) row
@@ -110,7 +110,7 @@ zeros_at i = zeros 8 i where
   zeros (suc n) zero = refl
   zeros (suc n) (suc i) = zeros n i
 
--- the counters are raised from 0
+-- Floors that are raised from 0 are the counters.
 pub counters_of : (rows : List Image) (zeros floors : List ℕ) → ((i : ℕ) → slice_index zeros i ≡ 0)
     → AreRaisedBy rows 0 (length rows) zeros floors → AreCounters rows floors
 counters_of rows zeros floors none raised = record {
@@ -126,7 +126,7 @@ counters_of rows zeros floors none raised = record {
 
 -- ---- trailers are erased
 
--- an erased trailer stays so where it isn't touched
+-- An erased trailer stays erased if it isn't touched.
 erased_kept : (map : SectorMap) (touched : Part → Bool) (mid new : Chip) (i : ℕ) (side : Side)
     → touched (TrailerOf i side) ≡ false → Keeps map touched mid new → IsTrailerErased map mid i side
     → IsTrailerErased map new i side
@@ -175,7 +175,7 @@ provided_log map old mid new first second =
     keeps_trans map provided old mid new (provided_trailers map old mid first)
     (keeps_wider map (only Log) provided mid new log_provided second)
 
--- the trailers stay erased while the log is begun
+-- The trailers stay erased while the log is begun.
 pub cleared_kept : (map : SectorMap) (mid new : Chip) → AreCleared map mid map.images
     → Keeps map (only Log) mid new → AreCleared map new map.images
 cleared_kept map mid new cleared keeps i lt side =
@@ -212,7 +212,7 @@ begun_afresh map floors mid new cleared keeps log = record {
 
 -- ---- the state that is left
 
--- What a row says of the bytes that are held.
+-- What a row says of the bytes of its image.
 record IsHeld (whole : List ℕ) (held : Option (List ℕ)) (row : Image) : Type 0 where
   bytes : List ℕ
   description : Desc
@@ -385,7 +385,7 @@ one_first map chip i j first second = ⊎_elim
     both : j ≤ i → i ≤ j → i ≡ j
     both a b = omega (arith, a, b)
 
--- what holds of each answer holds of the one that is given
+-- What holds of each possible result holds of the given one.
 by_answer : (map : SectorMap) (old new : Chip) (P : Result Unit Fault → Type 0)
     → (IsValidThere map old → P (Ok tt))
     → ((j : ℕ) → IsFirstDamaged map old j × (new ≡ old) → P (Err (no.RunningDamaged j)))

@@ -1,5 +1,4 @@
--- The record of a trial that goes on keeps the table of records, since the one that stands keeps
--- it.
+-- The record of a trial that goes on keeps the table of records, as the old record does.
 use Rattle.std.proofs.Common.{◌≡◌, ℕ, ◌<◌, ◌≤◌, ◌==◌, true, false, not, nat_le, Some, arith, sym, ◌∙◌, subst, ⊎_elim}
 use Rattle.std.proofs.lemmas.Bool.{and_from, and_parts}
 use Rattle.std.proofs.lemmas.Bool.Decides.{leb_tells}

@@ -1,4 +1,4 @@
--- How a boot ends, from one passage to the next.
+-- Lemmas for how a boot ends, from one passage to the next.
 use Rattle.std.proofs.Common.{◌≡◌, ◌∙◌, ℕ, ◌+◌, Bool, List, Some, Result, Ok, Err, IfOk, sym, subst}
 use Rattle.std.proofs.lemmas.Result.{IfOk-weaker}
 use Rattle.flash_model.specs.Chip.{Chip, Ends}
@@ -29,14 +29,14 @@ use Rattle.boot_core.specs.Wear.{DoesNothing, IsAfresh, IsWorn}
 use Rattle.boot_core.proofs.OnMap.{layout_then}
 use Rattle.boot_core.proofs.Passed.{err_ends, ok_ends, then_ends}
 
--- a passage that the flash stops
+-- The flash stops a passage.
 pub boot_fails : {T : Type 0} {map : SectorMap} {boots : ℕ} {was : DeviceState → Type 0} {worn : Reply → Type 0}
     {error : FlashError} {old new : Chip} → KeepsLayout map old new
     → ((s : DeviceState) → was s → CutsBoot map boots new s) → Ends {T = T} (Err error) old new
     → BootEnds map boots was worn old new (Err error)
 boot_fails layout stands ends = record { layout = layout; stands = stands; done = tt; ends = err_ends ends }
 
--- .. one that comes to its end
+-- A passage succeeds with a reply.
 pub boot_gives : {T : Type 0} {map : SectorMap} {boots : ℕ} {was : DeviceState → Type 0} {worn : Reply → Type 0}
     {value : T} {reply : Reply} {old new : Chip} → KeepsLayout map old new
     → ((s : DeviceState) → was s → CutsBoot map boots new s)
@@ -49,7 +49,7 @@ boot_gives layout stands comes worn told ends = record {
   ends = ok_ends ends;
 }
 
--- .. and replies with what was found
+-- A passage succeeds, and replies what was found.
 pub boot_replies : {map : SectorMap} {boots : ℕ} {was : DeviceState → Type 0} {worn : Reply → Type 0}
     {finding : Finding} {permanent : Bool} {reply : Reply} {old new : Chip}
     → AnswersFinding finding permanent reply → KeepsLayout map old new
@@ -60,7 +60,7 @@ boot_replies {map} {boots} {was} {worn} {finding} {permanent} {reply} {old} {new
     boot_gives layout stands
     (λ s was. subst (λ given. EndsBoot map boots new s given) (sym answers.is) (comes s was)) wear answers.told ends
 
--- one that is known of other states, or has worn something else ..
+-- The same end, for fewer states and a weaker bound on wear.
 pub boot_as : {map : SectorMap} {boots : ℕ} {was given : DeviceState → Type 0} {worn known : Reply → Type 0}
     {old new : Chip} {result : Result Reply FlashError} → ((s : DeviceState) → given s → was s)
     → ((reply : Reply) → worn reply → known reply) → BootEnds map boots was worn old new result
@@ -76,7 +76,7 @@ boot_as {map} {boots} {was} {given} {worn} {known} {old} {new} {result} so more 
   ends = boot.ends;
 }
 
--- .. or comes after a call that came to its end
+-- The same end, after a call that succeeded.
 pub boot_after : {T : Type 0} {map : SectorMap} {boots : ℕ} {was given : DeviceState → Type 0}
     {worn known : Reply → Type 0} {value : T} {old mid new : Chip} {result : Result Reply FlashError}
     → KeepsLayout map old mid → Ends (Ok value) old mid → ((s : DeviceState) → given s → was s)
@@ -93,7 +93,7 @@ boot_after first before so more boot =
 
 -- ---- a boot from a record, by its kind
 
--- why it stops in an upgrade
+-- Why a boot stops in an upgrade.
 abbrev pub StopsAs : SectorMap → RecordKind → ℕ → List ℕ → Chip → Chip → Finding → Type 0
 StopsAs map log.Swap mask floors old new finding =
     IsToldAgain (view map new) mask floors finding × IsSwapAloneFor map mask old new finding
@@ -101,7 +101,7 @@ StopsAs map log.Settle mask floors old new finding =
     IsToldAgain (view map new) mask floors finding × IsKeptFor old new finding
 StopsAs map other mask floors old new finding = Unit {0}
 
--- .. and what it writes where it takes nothing
+-- What a boot writes that takes nothing.
 abbrev pub IdlesAs : SectorMap → RecordKind → State → Chip → Chip → Type 0
 IdlesAs map log.Steady state old new = new ≡ old
 IdlesAs map log.Trial state old new = IsOverAlone map state old new
@@ -134,26 +134,26 @@ module _ (map : SectorMap) (state : State) (left : ℕ) (old new : Chip) (result
         subst (λ k. IdlesAs map k state old new) (sym is ∙ e) (idle nothing)) idles;
   }
 
-  -- in the midst of an upgrade
+  -- A boot from a record of an upgrade.
   pub boots_stop : IfOk result (λ reply. (finding : Finding) (permanent : Bool) → reply ≡ reply_of finding permanent
       → StopsAs map kind state.mask state.floors old new finding)
       → IdlesAs map kind state old new → BootsFrom map state left old new result
   boots_stop stops idle = boots_from stops (all_replies _ result (λ reply nothing. idle))
 
-  -- at rest or on trial
+  -- A boot from a record Steady or Trial.
   pub boots_idle : ((finding : Finding) → StopsAs map kind state.mask state.floors old new finding)
       → IfOk result (λ reply. DoesNothing reply → IdlesAs map kind state old new)
       → BootsFrom map state left old new result
   boots_idle stops idles = boots_from (all_replies _ result (λ reply finding permanent told. stops finding)) idles
 
-  -- on the way back
+  -- A boot from a record Back or BackSettle.
   pub boots_back : ((finding : Finding) → StopsAs map kind state.mask state.floors old new finding)
       → IdlesAs map kind state old new → BootsFrom map state left old new result
   boots_back stops idle = boots_idle stops (all_replies _ result (λ reply nothing. idle))
 
 -- ---- a boot from a trial
 
--- the trial that stands, by its passage
+-- The trial of the record continues by the passage that was decided.
 pub trial_here : (map : SectorMap) (old : Chip) (state : State) (found passage : Passage)
     → state_of map old ≡ Some state → state.kind ≡ log.Trial
     → ((s : DeviceState) (trial : Trial) → IsTrialOpen (view map old) s trial → IsPassage s trial found)
@@ -163,7 +163,7 @@ trial_here map old state found passage read kind decides is s stands =
     let at = stands_trial map old s state read kind stands in
     (at.0, subst (λ p. IsPassage s at.0 p) is (decides s at.0 (open_of map old s at.0 at.2)), at.2)
 
--- .. which goes back or on, for any number of boots
+-- A boot from a trial in which no trial begins ends so for any number of boots.
 pub from_passage : {map : SectorMap} {was : DeviceState → Type 0} {worn : Reply → Type 0} {old new : Chip}
     {result : Result Reply FlashError} (state : State) (left : ℕ) → ((s : DeviceState) → Stands map old s → was s)
     → ((reply : Reply) → worn reply → (s : DeviceState) → Stands map old s → IsAfresh map old new 4 reply)

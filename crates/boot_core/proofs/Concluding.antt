@@ -1,4 +1,4 @@
--- A set is settled as what its record says.
+-- Lemmas for a set that is settled as its record says.
 use Rattle.std.proofs.Common.{◌≡◌, ℕ, ◌+◌, ◌*◌, ◌≤◌, Bool, List, Result, Ok, arith, subst}
 use Rattle.std.proofs.lemmas.Result.{IfOk-weaker}
 use Rattle.flash_model.specs.Chip.{Chip, Ends}
@@ -18,12 +18,12 @@ use Rattle.boot_core.specs.FromSettle.{RecordsTaken, SettlesAndRecords}
 use Rattle.boot_core.proofs.OnMap.{layout_kept, layout_more}
 use Rattle.boot_core.proofs.Passed.{ok_both, then_ends}
 
--- settled as what the trailers were asked for
+-- The set is settled as what its trailers were asked for.
 pub settled_as : (map : SectorMap) (chip : Chip) (mask : ℕ) (asked permanent : Bool) → asked ≡ permanent
     → AreSettled (view map chip) mask asked → AreSettled (view map chip) mask permanent
 settled_as map chip mask asked permanent is settled = subst (λ b. AreSettled (view map chip) mask b) is settled
 
--- a set that is settled, and then recorded as taken
+-- A set is settled, and then recorded as taken.
 pub settles_taken : {value : Unit {0}} (map : SectorMap) (old mid new : Chip) (state : State) (left : ℕ) (floors : List ℕ)
     (result : Result Unit FlashError) → IsLaidOut map old → Keeps map (trailers_in state.mask) old mid
     → AreSettled (view map mid) state.mask state.permanent

@@ -1,4 +1,4 @@
--- Which events of a run were cut: counts of armed writes, and runs that go on.
+-- Lemmas on which events of a run were cut: counts of armed writes, and runs that are extended.
 use Rattle.std.proofs.Common.{◌≡◌, ◌⊎◌, ℕ, zero, suc, ◌+◌, ◌<◌, ◌≤◌, ◌==◌, Bool, true, false, if◌then◌else◌, List, [], ◌∷◌, ◌++◌, ap, arith, inl, inr, refl, subst, sym, ⊎_elim, ◌∙◌}
 use Rattle.std.specs.List.{list_any}
 use Rattle.std.proofs.lemmas.Bool.{cases_lt}
@@ -33,7 +33,7 @@ reached-next numbers n = ⊎_elim
     (λ (no : is_among numbers (suc n) ≡ false). let same = reached-unarmed numbers n no in omega (arith, same))
     (either (is_among numbers (suc n)))
 
--- more writes reach no fewer of the armed ones
+-- The number of armed writes that were reached never falls.
 reached-more : (numbers : List ℕ) (before after : ℕ) → before ≤ after → reached numbers before ≤ reached numbers after
 reached-more numbers before zero less =
     let none : before ≡ 0 = omega (arith, less) in
@@ -51,7 +51,7 @@ reached-below numbers before after one = ⊎_elim
     (λ (over : after ≤ before). let less = reached-more numbers after before over in absurd (omega (arith, one, less)))
     (cases_lt before after)
 
--- one armed write more was reached: it is one of those between
+-- If one more armed write was reached, it lies between the two counts of writes.
 one_more : (numbers : List ℕ) (before after : ℕ) → reached numbers after ≡ reached numbers before + 1
     → (n : ℕ) × (before < n) × (n ≤ after) × (is_among numbers n ≡ true)
 one_more numbers before zero one = absurd (omega (arith, one))
@@ -62,7 +62,7 @@ one_more numbers before (suc m) one = ⊎_elim
     (rest.0, rest.1, omega (arith, rest.2), rest.3))
     (either (is_among numbers (suc m)))
 
--- none was reached: none lies between
+-- If no armed write was reached, none lies between the two counts of writes.
 no_more : (numbers : List ℕ) (before after : ℕ) → reached numbers after ≡ reached numbers before
     → (n : ℕ) → before < n → n ≤ after → is_among numbers n ≡ false
 no_more numbers before after same zero low high = absurd (omega (arith, low))
@@ -77,7 +77,7 @@ no_more numbers before after same (suc m) low high = ⊎_elim
 
 -- ---- one event
 
--- a flash without faults that is cut as it is due
+-- On a flash without faults, a cut as due is a cut by an armed write.
 pub cut_by_due : (old new : Chip) (reply : Reply) → old.faults ≡ 0 → new.faults ≡ 0 → IsCutAsDue old reply new
     → IsCutByWrite old reply new
 cut_by_due old new reply sound still due =
@@ -93,7 +93,7 @@ cut_by_due old new reply sound still due =
       fixed = due.fixed;
     }
 
--- by the law of a flash at both ends
+-- The law of a flash before and after an event gives that it was cut as due.
 pub cut_as_due : (old new : Chip) (reply : Reply) → IsCutAsArmed old → IsCutAsArmed new
     → new.cuts ≡ old.cuts + cut_of reply → new.fixed ≡ old.fixed → IsCutAsDue old reply new
 cut_as_due old new reply before after counted fixed = record {
@@ -101,7 +101,7 @@ cut_as_due old new reply before after counted fixed = record {
   fixed = fixed;
 }
 
--- .. also once the flash has power again
+-- Power that is restored afterwards changes none of this.
 pub due_powered : (old mid new : Chip) (reply : Reply) → new ≡ record mid { is_on = true }
     → IsCutAsDue old reply mid → IsCutAsDue old reply new
 due_powered old mid new reply is due = subst (λ chip. IsCutAsDue old reply chip) (sym is) (record {
@@ -133,7 +133,7 @@ pub steps_more : (Holds : Chip → Reply → Chip → Type 0) (setup : Setup) (o
 steps_more Holds setup old mid new events replies event reply first step holds =
     steps_join Holds setup old mid new events (event ∷ []) replies (reply ∷ []) first (new, step, holds, refl)
 
--- as a loop over events has it
+-- A loop extends its run by one event.
 pub due_on : (setup here : Setup) (old mid new : DeviceView) (events more : List DeviceEvent)
     (replies answered : List Reply) (event : DeviceEvent) (reply : Reply) → here ≡ setup
     → more ≡ events ++ event ∷ [] → answered ≡ replies ++ reply ∷ [] → DueEach setup old events replies mid
@@ -144,7 +144,7 @@ due_on setup here old mid new events more replies answered event reply same is a
     (steps_more IsCutAsDue setup old mid new events replies event reply first
     (subst (λ s. StepsTo s mid new event reply) same step) due))
 
--- as many replies are Cut as armed writes were taken
+-- The number of Cut replies is the number of armed writes that the flash took.
 pub cuts_total : (setup : Setup) (old new : DeviceView) (events : List DeviceEvent) (replies : List Reply)
     → CutsEach setup old events replies new
     → reached old.flash.fixed.numbers new.flash.writes

@@ -1,4 +1,4 @@
--- How much of a slot is used, by what is described of it.
+-- How much of a slot is used, by the description of its image.
 use Rattle.std.proofs.Common.{◌≡◌, ℕ, ◌+◌, ◌*◌, ◌<◌, ◌≤◌, ◌^◌, List, length, sym, ◌∙◌, ap, arith, length-append}
 use Rattle.flash_model.specs.Chip.{Chip}
 use Rattle.flash_model.proofs.Frame.{mul_le}
@@ -16,7 +16,7 @@ use Rattle.image_reading.proofs.Descriptions.{front-unique, front_has_no_fault}
 use Rattle.boot_core.specs.SwapSize.{IsUsed}
 use Rattle.decision.proofs.Described.{described_front}
 
--- what is described is no longer than what begins with it
+-- An image is no longer than the bytes that begin with it.
 pub described_short : (whole : List ℕ) (d : Desc) → BeginsIntact whole d → d.length ≤ length whole
 described_short whole d begins =
     let found = described_front whole d begins in
@@ -25,12 +25,12 @@ described_short whole d begins =
     let same : length found.0 ≡ d.length = found.3 in
     omega (arith, long, same)
 
--- how long a slot is
+-- The length of a slot.
 pub slot_long : (map : SectorMap) (chip : Chip) (image : ℕ) (side : Side) → IsLaidOut map chip
     → length (slot_bytes map chip image side) ≡ slot_sectors map image * map.sector_size
 slot_long map chip image side laid = length_part map chip (Slot image side) laid
 
--- .. and that what is described there is no longer
+-- An image is no longer than its slot.
 pub described_fits : (map : SectorMap) (chip : Chip) (image : ℕ) (side : Side) (d : Desc) → IsLaidOut map chip
     → BeginsIntact (slot_bytes map chip image side) d → d.length ≤ slot_sectors map image * map.sector_size
 described_fits map chip image side d laid begins = omega (
@@ -39,7 +39,7 @@ described_fits map chip image side d laid begins = omega (
   slot_long map chip image side laid,
 )
 
--- a slot has fewer than 2 ^ 32 bytes
+-- A slot has fewer than 2 ^ 32 bytes.
 pub slot_small : (map : SectorMap) (image : ℕ) → IsMap map → slot_sectors map image * map.sector_size < 2 ^ 32
 slot_small map image fits =
     let few : slot_sectors map image ≤ 5459 = omega (arith, fits.trailers image, fits.sector.most) in
@@ -47,14 +47,14 @@ slot_small map image fits =
     mul_le (slot_sectors map image) 5459 map.sector_size few in
     omega (arith, all, fits.sector.most)
 
--- a slot that begins with an intact image is used as far as that ..
+-- A slot that begins with an intact image uses the length of that image.
 pub described_used : (slot : List ℕ) (d : Desc) → BeginsIntact slot d → IsUsed slot d.length
 described_used slot d begins = record {
   intact = λ other also. ap (λ (e : Desc). e.length) (front-unique slot d other begins also);
   damaged = λ none. absurd (none d begins);
 }
 
--- .. and one that doesn't to its end
+-- A slot that begins with no intact image uses all its bytes.
 pub fault_used : (slot : List ℕ) (fault : ImageError) (n : ℕ) → IsFrontFault slot fault → length slot ≡ n
     → IsUsed slot n
 fault_used slot fault n failed long = record {

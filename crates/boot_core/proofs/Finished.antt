@@ -1,4 +1,4 @@
--- An upload that is finished: what a refusal leaves of the flash.
+-- What a refusal to finish an upload leaves of the flash.
 use Rattle.std.proofs.Common.{◌≡◌, ℕ, Bool, List, Option, Result, Ok, Err, IfErr, ap, refl, subst, sym}
 use Rattle.flash_model.proofs.Ending.{no_error}
 use Rattle.flash_model.specs.Chip.{Chip}
@@ -35,7 +35,7 @@ finish_declined map image old new result same declined = record {
   erases = if_any_err result _ (λ fault own. ap (λ (chip : Chip). chip.erases) same);
 }
 
--- A call that was passed on left what the table of uploads left.
+-- A call that was passed on left what `Uploads` left.
 pub finish_passed : (map : SectorMap) (image : ℕ) (before : DeviceView) (old new : Chip)
     (told tmid tnew : List (Option Upload)) (up upn : Bool) (taken : Result Unit UploadError)
     (result : Result Unit Fault) → AsksReady map before (seen old told up) (Ok tt)

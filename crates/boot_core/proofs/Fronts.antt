@@ -1,4 +1,4 @@
--- What runs, where the flash was only read.
+-- If the flash was only read, its primary slots begin with the running images.
 use Rattle.std.proofs.Common.{◌≡◌, ℕ, ◌<◌, sym, subst}
 use Rattle.flash_model.specs.Chip.{Chip}
 use Rattle.sector_map.specs.declared.layout.SectorMap.{SectorMap}

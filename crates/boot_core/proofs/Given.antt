@@ -1,4 +1,5 @@
--- Manifests that were read already: what is held after one is taken, and what isn't refused of it.
+-- Lemmas for manifests that were parsed before: which state is held afterwards, and which refusals
+-- can't come.
 use Rattle.std.proofs.Common.{◌≡◌, Bool, true, false, List, Option, Some, None, Result, Err, IsErrOf, refl, sym, ◌∙◌, ap, subst, inl}
 use Rattle.std.proofs.Common.{true≢false}
 use Rattle.flash_model.specs.Chip.{Chip}
@@ -59,7 +60,7 @@ module _ (map : SectorMap) (old new : Chip) (told tmid : List (Option Upload)) (
       let after = taken m holds in
       (asleep after.0.kept, holds_down map new tnew after.0.kept none (Rests after.1.rest))
 
--- after an upload that is refused
+-- After a refused upload.
 pub held_failed : (map : SectorMap) (was : DeviceView) (old new : Chip) (tmid tnew : List (Option Upload))
     (up upn : Bool) (error : UploadError) → old.is_on ≡ true → EndsUpload {T = Unit} (Err error) old new
     → IsStopped (no.Upload error) tmid tnew up upn
@@ -79,7 +80,7 @@ held_failed map was old new tmid tnew up upn error on ends stopped down kept =
 
 -- ---- what is refused
 
--- a device that takes no uploads says nothing of a manifest
+-- A refusal of a device that takes no uploads isn't one of a manifest.
 pub not_ready_told : (identity : Identity) (manifest : given.Manifest) (up : Bool) (recorded : Option State) (on : Bool)
     (fault : Fault) → IsReadiness (Err fault) up recorded on → RefusesManifest identity manifest fault
 not_ready_told identity manifest up recorded on no.NotBooted is = tt
@@ -93,7 +94,7 @@ not_ready_told identity manifest up recorded on no.NoMemory is = absurd is
 not_ready_told identity manifest up recorded on (no.Manifest error) is = absurd is
 not_ready_told identity manifest up recorded on (no.Upload error) is = tt
 
--- and one that takes them isn't refused for it
+-- A device that takes uploads isn't refused for its state.
 pub ready_not : (up : Bool) (recorded : Option State) (on : Bool) (fault : Fault)
     → IsReadiness (Err fault) up recorded on → on ≡ true → up ≡ true → LogsNoTrial recorded → ⊥
 ready_not up recorded on no.NotBooted is powered here rests = true≢false (sym here ∙ is)

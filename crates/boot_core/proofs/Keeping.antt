@@ -19,7 +19,7 @@ pub if_err_as : {T E : Type 0} {P Q : E → Type 0} (r : Result T E) → ((e : E
 if_err_as (Ok x) more p = tt
 if_err_as (Err e) more p = more e p
 
--- a refusal that none is open
+-- The refusal is that no upload is open.
 pub no_session : (error : UploadError) → is_no_session error ≡ true → error ≡ upload.NoSession
 no_session upload.NoSession is = refl
 no_session upload.OldSequence is = absurd (true≢false (sym is))
@@ -37,7 +37,7 @@ not_true : (b : Bool) → not b ≡ true → b ≡ false
 not_true true is = cc
 not_true false is = refl
 
--- .. and one that leaves all is not of the flash
+-- A refusal that leaves everything isn't the flash's.
 pub keeps_unstopped : (closing : Bool) (fault : Fault) → keeps_all closing fault ≡ true → is_stop fault ≡ false
 keeps_unstopped closing no.NotBooted is = refl
 keeps_unstopped closing no.OnTrial is = refl
@@ -51,7 +51,7 @@ keeps_unstopped closing (no.Manifest error) is = refl
 keeps_unstopped true (no.Upload error) is = ap (λ e. is_stop (no.Upload e)) (no_session error is)
 keeps_unstopped false (no.Upload error) is = not_true (is_flash {T = Unit} (Err error)) is
 
--- what passing a refusal on leaves, after a call that left this
+-- What a refusal that is passed on leaves, after a call that left this.
 module _ (old mid new : Chip) (told tmid tnew : List (Option Upload)) (up upn : Bool) (fault given : Fault)
     (passed : given ≡ fault) (stopped : IsStopped fault tmid tnew up upn) where
   pub up_stays : is_stop given ≡ false → upn ≡ up
@@ -63,12 +63,13 @@ module _ (old mid new : Chip) (told tmid tnew : List (Option Upload)) (up upn : 
       let awake : upn ≡ up = up_stays own in
       cc
 
--- a refusal of an upload, as passed on
+-- A refusal of an upload that is passed on.
 pub own_error : (error : UploadError) (given : Fault) → given ≡ no.Upload error → is_stop given ≡ false
     → is_flash {T = Unit} (Err error) ≡ false
 own_error error given passed own = sym (ap is_stop passed) ∙ own
 
--- What stays of the flash and of the table at a refusal that leaves all: of a call that may close an upload,
+-- A call that may close an upload, and refuses before it writes: if the refusal leaves everything,
+-- flash and uploads are as they were.
 pub kept_by_piece : (old new : Chip) (told tnew : List (Option Upload)) (taken : Result Unit UploadError)
     → IfErr taken (λ error. is_flash {T = Unit} (Err error) ≡ false → new ≡ old)
     → (IsErrOf taken upload.NoSession → tnew ≡ told)
@@ -79,7 +80,7 @@ kept_by_piece old new told tnew (Err error) nothing stays = λ keeps. (
   stays (ap (λ e. Err e) (no_session error keeps)),
 )
 
--- of one that may, and writes before it is refused,
+-- The same of a call that may close an upload, and writes before it refuses.
 pub kept_by_finish : (old new : Chip) (told tnew : List (Option Upload)) (taken : Result Unit UploadError)
     → (IsErrOf taken upload.NoSession → new ≡ old) → (IsErrOf taken upload.NoSession → tnew ≡ told)
     → IfErr taken (λ error. keeps_all true (no.Upload error) ≡ true → (new ≡ old) × (tnew ≡ told))
@@ -88,7 +89,7 @@ kept_by_finish old new told tnew (Err error) same stays = λ keeps.
     let none = ap (λ e. Err e) (no_session error keeps) in
     (same none, stays none)
 
--- and of one that may not.
+-- The same of a call that closes no upload.
 pub kept_by_withdraw : (old new : Chip) (told tnew : List (Option Upload)) (taken : Result Unit UploadError)
     → IfErr taken (λ error. is_flash {T = Unit} (Err error) ≡ false → new ≡ old) → IsClosedAfter taken told tnew
     → IfErr taken (λ error. keeps_all false (no.Upload error) ≡ true → (new ≡ old) × (tnew ≡ told))
@@ -109,7 +110,7 @@ given_size error given result passed is wrong =
     ap (λ e. Err e) (upload_same error upload.SizeWrong
     (sym passed ∙ err_same given (no.Upload upload.SizeWrong) result result is wrong refl))
 
--- nothing is written
+-- Nothing is written.
 pub last_same : (map : SectorMap) (image : ℕ) (u : Upload) (old mid : Chip) → mid ≡ old
     → WritesLastUnit map image u old mid
 last_same map image u old mid same = subst (λ chip. WritesLastUnit map image u old chip) (sym same) (record {

@@ -1,4 +1,4 @@
--- Masks of images: those of reports, and facts of their members.
+-- Lemmas on masks of images: the mask of a report, and facts about members.
 use Rattle.std.proofs.Common.{◌≡◌, ◌≢◌, ℕ, ◌+◌, ◌<◌, ◌≤◌, Bool, true, false, Option, Some, None, List, length, map, take, take_all, option_map, unwrap_or, sym, ◌∙◌, ap, subst, refl, arith, slice_get, get_or, ⊎_elim}
 use Rattle.std.specs.Option.{option_map_or}
 use Rattle.std.proofs.lemmas.Bool.{cases_eq}
@@ -17,7 +17,7 @@ use Rattle.machine.specs.Boots.{AsksForGood}
 use Rattle.machine.specs.Reading.{IsAsking}
 use Rattle.machine.specs.Wear.{IsSetIn}
 
--- a mask that is that of a report is its set
+-- A mask that has the images of a report is its set.
 pub set_found : (mask given : ℕ) (report : Report) → given ≡ mask
     → ((i : ℕ) → is_member given i ≡ taken_in report i) → IsSetIn mask report
 set_found mask given report same each = record { each = λ i. ap (λ m. is_member m i) (sym same) ∙ each i }
@@ -30,7 +30,7 @@ of_option : (found : Option ReportedImage)
 of_option None = refl
 of_option (Some image) = refl
 
--- a list that says of each image of a report whether it is taken says what the report takes
+-- A list of what a report says of each image gives the images that the report takes.
 pub taken_of : (report : Report) (n : ℕ) (bits : List Bool) → length report.images.items ≤ n
     → bits ≡ map (λ (image : ReportedImage). image.is_taken) (take n report.images.items)
     → (i : ℕ) → get_or bits i false ≡ taken_in report i
@@ -43,7 +43,7 @@ taken_of report n bits all is i =
     ∙ ap (λ o. unwrap_or o false) (slice_get-map is_taken images i)
     ∙ of_option (slice_get images i)
 
--- a fact of the members below a number holds of those below the next one
+-- A fact about the members below n extends to n + 1.
 pub members_more : (P : ℕ → Type 0) (mask n : ℕ) → ((i : ℕ) → i < n → is_member mask i ≡ true → P i)
     → (is_member mask n ≡ true → P n) → (i : ℕ) → i < n + 1 → is_member mask i ≡ true → P i
 members_more P mask n before here i lt member = ⊎_elim
@@ -51,7 +51,7 @@ members_more P mask n before here i lt member = ⊎_elim
     (λ (other : i ≢ n). before i (omega arith) member)
     (cases_eq i n)
 
--- where each image of a set asks to be permanent, so does the request that stands for one of them
+-- If each image of a set asks to be permanent, the pending request of each is permanent.
 pub asked_for_good : (map : SectorMap) (chip : Chip) (s : DeviceState) (mask i : ℕ) → i < map.images
     → is_member mask i ≡ true → IsAsking (view map chip) s mask → AsksForGood s mask
     → standing_of map chip i ≡ Some Permanent

@@ -1,4 +1,4 @@
--- The wear of a swap that is begun, by the sizes that the trailers of its set say.
+-- Lemmas for the wear of a swap that begins, by the sizes in the trailers of its set.
 use Rattle.std.proofs.Common.{◌≡◌, ◌≢◌, ℕ, zero, suc, ◌+◌, ◌*◌, ◌<◌, ◌≤◌, Bool, List, max, true, false, Some}
 use Rattle.std.proofs.Common.{◌==◌, arith, if◌then◌else◌, refl, sym, ◌∙◌, ap, subst}
 use Rattle.std.proofs.lemmas.Bool.Decides.{nat_tests}
@@ -22,8 +22,8 @@ use Rattle.boot_core.proofs.SwapSizes.{moves_kept}
 
 -- ---- there is one size
 
--- one number is used of a slot: were there two, the slot would begin with no image, and all of it
--- be used
+-- One number of bytes of a slot is used. If there were two, the slot would begin with no image, and
+-- all of it would be used.
 used_cases : (slot : List ℕ) (n m : ℕ) → IsUsed slot n → IsUsed slot m → (same : Bool) → (n == m) ≡ same → n ≡ m
 used_cases slot n m one other true is = grind (arith, nat_tests, is)
 used_cases slot n m one other false is =
@@ -97,7 +97,7 @@ moved_steps map old new side mask sizes says moves =
 
 -- ---- the wear of a swap that is begun
 
--- the trailers are prepared and the swap is recorded; then it is carried out
+-- The trailers are prepared, the swap is recorded, and then carried out.
 pub fresh_wear : (map : SectorMap) (old first mid new : Chip) (side : Side) (mask : ℕ) → first ≡ old
     → mid.erases ≤ first.erases + members map mask + 1
     → AreMeasured (view map first) (view map mid) side mask → IsResumed map mid new side mask
@@ -120,7 +120,7 @@ pub fresh_same : (map : SectorMap) (old first new : Chip) (more : ℕ) (reply : 
     → IsAfresh map first new more reply → IsAfresh map old new more reply
 fresh_same map old first new more reply same wear = subst (λ chip. IsAfresh map chip new more reply) same wear
 
--- nothing was erased
+-- Nothing was erased.
 pub fresh_none : (map : SectorMap) (old new : Chip) (mask : ℕ) (reply : Reply) → new ≡ old
     → IsSetMoved mask reply → IsAfresh map old new 3 reply
 fresh_none map old new mask reply same is = (
@@ -129,7 +129,7 @@ fresh_none map old new mask reply same is = (
   λ sizes moves. let erases : new.erases ≡ old.erases = ap (λ (chip : Chip). chip.erases) same in omega arith,
 )
 
--- a record is written first, which moves no image
+-- A record is written first. It moves no image.
 pub fresh_after : (map : SectorMap) (old first mid new : Chip) (reply : Reply) → first ≡ old
     → mid.erases ≤ first.erases + 1 → Keeps map (only Log) first mid → IsAfresh map mid new 3 reply
     → IsAfresh map old new 4 reply

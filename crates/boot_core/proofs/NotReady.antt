@@ -1,4 +1,5 @@
--- What a call of uploads leaves of a device: one that takes none now, and one that takes them.
+-- Lemmas for calls of uploads on a device: what each leaves if the device takes no uploads, and if
+-- it does.
 use Rattle.std.proofs.Common.{◌≡◌, Bool, true, false, List, Option, Result, Ok, Err, refl, sym, ◌∙◌, ap, subst}
 use Rattle.std.proofs.Common.{true≢false}
 use Rattle.std.specs.Prelude.{IsErrAnd}
@@ -27,7 +28,7 @@ use Rattle.boot_core.specs.Ready.{IsReadiness}
 use Rattle.boot_core.specs.Taking.{AsksReady, ChecksReady, Stops, TakesHere}
 use Rattle.boot_core.proofs.Stopping.{IsStopped, not_ready, not_ready_ends, opens_stopped}
 
--- a device that isn't up says so
+-- A device that isn't booted answers that.
 not_up : (fault : Fault) (up : Bool) (recorded : Option State) (on : Bool) → IsReadiness (Err fault) up recorded on
     → up ≡ false → fault ≡ no.NotBooted
 not_up no.NotBooted up recorded on is down = refl
@@ -42,7 +43,7 @@ not_up no.NoMemory up recorded on is down = absurd is
 not_up (no.Manifest error) up recorded on is down = absurd is
 not_up (no.Upload error) up recorded on is down = absurd is
 
--- what passing a refusal on leaves
+-- What a refusal that is passed on leaves.
 pub stops : (fault given : Fault) (told tnew : List (Option Upload)) (up upn : Bool)
     → Stops fault told up tnew upn given → IsStopped fault told tnew up upn
 stops fault given told tnew up upn a = record { down = a.down; closed = a.closed; stays = a.up; kept = a.kept }
@@ -57,12 +58,12 @@ module _ (map : SectorMap) (old mid : Chip) (told tnew : List (Option Upload)) (
       let awake : upn ≡ up = (subst (λ f. Stops f told up tnew upn given) is after).up refl in
       cc
 
-  -- unless the flash is off nothing changes
+  -- Unless the flash is off, nothing changes.
   pub declined_all : is_stop given ≡ false → seen mid tnew upn ≡ seen old told up
   declined_all own = all_stays old mid mid told told tnew up upn fault given after.is
       (stops fault given told tnew up upn after) asked.same refl own
 
-  -- a call that is declined since no uploads are taken now
+  -- A call is declined because the device takes no uploads.
   pub declines : (touched : Part → Bool) (happened : DeviceEvent) → needs_up happened ≡ true
       → needs_rest happened ≡ true
       → IsLaidOut map old → AllOpenAt (view map old) told
@@ -94,7 +95,7 @@ module _ (map : SectorMap) (old mid : Chip) (told tnew : List (Option Upload)) (
     refused = λ own. asked.same;
   }
 
--- .. by a refusal that is passed on
+-- A call is declined by a refusal that is passed on.
 pub declined : (map : SectorMap) (old new : DeviceView) (fault : Fault) (result : Result Unit Fault)
     → AsksReady map old new (Err fault) → IsErrAnd result (λ passed. passed ≡ fault)
     → (touched : Part → Bool) (happened : DeviceEvent) → needs_up happened ≡ true → needs_rest happened ≡ true
@@ -106,12 +107,12 @@ declined map old new fault (Err given) asks passed touched happened up rest laid
     (declines map old.flash new.flash old.sessions new.sessions old.up new.up fault fault asks.asked asks.stops touched
     happened up rest laid opens)
 
--- nothing is asked of a device that is up
+-- A device can't be both booted and not.
 pub not_down : (result : Result Unit Fault) (old new : DeviceView) → old.up ≡ true → old.up ≡ false
     → IsNotBooted result old new
 not_down result old new up down = absurd (true≢false (sym up ∙ down))
 
--- a call after one that left the flash as it was, which is refused, and not by the flash
+-- A call after one that left the flash as it was. The call is refused, and not by the flash.
 pub refused_after : (old mid new : Chip) (error : UploadError) (given : Fault) → given ≡ no.Upload error → mid ≡ old
     → (is_flash {T = Unit} (Err error) ≡ false → new ≡ mid) → is_stop given ≡ false → new ≡ old
 refused_after old mid new error given is same nothing own = nothing (sym (ap is_stop is) ∙ own) ∙ same

@@ -1,4 +1,4 @@
--- A manifest that is taken, or declined: what is left of the device, from what the calls below left.
+-- Lemmas for a manifest that is accepted or declined: what the calls below left, of the device.
 use Rattle.std.proofs.Common.{◌≡◌, ℕ, Bool, false, true, List, Option, Result, Ok, Err, ap, refl, subst, sym}
 use Rattle.std.specs.Borrow.{Bor}
 use Rattle.std.specs.Prelude.{IsErrAnd}
@@ -112,7 +112,7 @@ module _ (map : SectorMap) (identity : Identity) (before after : DeviceView)
       → IsOff result before.flash new.flash
   never_off result new up off = absurd (no_error tt _ (asks.asked.off up off))
 
-  -- an image is named that the device lacks
+  -- The manifest names an image that the device lacks.
   pub manifest_lacks : (manifest : given.Manifest) → (NamesImages identity manifest → ⊥) → IsLaidOut map before.flash
       → AllOpenAt (view map before.flash) before.sessions
       → TakesManifestHere map identity manifest before after (Err (no.Manifest NoComponent))
@@ -203,7 +203,7 @@ module _ (map : SectorMap) (identity : Identity) (before after : DeviceView)
         ends = text_ends identity text.now before.flash before.flash before.sessions before.up refl fault refuses;
       }
 
-  -- a text that means no manifest for the device
+  -- A text that isn't a manifest for the device.
   pub text_refused_here : (text : Bor (List ℕ)) (fault : Fault) (result : Result Unit Fault)
       → RefusesText identity text.now fault → IsErrAnd result (λ passed. passed ≡ fault) → IsLaidOut map before.flash
       → AllOpenAt (view map before.flash) before.sessions → AcceptsHere map identity text before after result

@@ -1,4 +1,4 @@
--- How a call ends that passes the error of another on, or comes after others.
+-- How a call ends that passes on an error of another call, or comes after other calls.
 use Rattle.std.proofs.Common.{◌≡◌, Result, Ok, Err, IfOk, IsErrOf, OnOk, ap, refl}
 use Rattle.flash_model.specs.declared.error.FlashError.{FlashError}
 use Rattle.flash_model.specs.Chip.{Chip, Ends}
@@ -10,7 +10,7 @@ err_as : {T U : Type 0} (error other : FlashError) → IsErrOf {T = T} (Err erro
     → IsErrOf {T = U} (Err error) other
 err_as error other is = let same : error ≡ other = cc in ap (λ e. Err e) same
 
--- an error that is passed on
+-- An error is passed on.
 pub err_ends : {T U : Type 0} {error : FlashError} {old new : Chip} → Ends {T = T} (Err error) old new
     → Ends {T = U} (Err error) old new
 err_ends {T} {U} {error} last = record {
@@ -20,7 +20,7 @@ err_ends {T} {U} {error} last = record {
   off = λ is. last.off (err_as {T = U} {U = T} error _ is);
 }
 
--- .. and a value that another is made of
+-- The value is made from that of another call.
 pub ok_ends : {T U : Type 0} {value : T} {other : U} {old new : Chip} → Ends (Ok value) old new
     → Ends (Ok other) old new
 ok_ends {T} {U} {value} {other} last = record {
@@ -30,7 +30,7 @@ ok_ends {T} {U} {value} {other} last = record {
   off = λ is. absurd (no_error other _ is);
 }
 
--- no call at all
+-- No call was made.
 pub here_ends : {T : Type 0} {value : T} {chip : Chip} → Ends (Ok value) chip chip
 here_ends {T} {value} {chip} = record {
   asleep = λ off. refl;
@@ -39,7 +39,7 @@ here_ends {T} {value} {chip} = record {
   off = λ is. absurd (no_error value _ is);
 }
 
--- the same after a call that came to its end
+-- The same after a call that succeeded.
 pub then_ends : {S T : Type 0} {value : S} {result : Result T FlashError} {old mid new : Chip}
     → Ends (Ok value) old mid → Ends result mid new → Ends result old new
 then_ends {S} {T} {value} {result} {old} {mid} {new} first last =
@@ -53,13 +53,13 @@ pub then_ok : {S T U : Type 0} {value : S} {next : T} {other : U} {old mid new :
     → Ends (Ok next) mid new → Ends (Ok other) old new
 then_ok first last = ok_ends (then_ends first last)
 
--- a passage that the flash stops
+-- The flash stops a passage.
 pub passes_err : {S T : Type 0} {map : SectorMap} {old new : Chip} {whatever : Type 0} {at_end : T → Type 0}
     {error : FlashError} → KeepsLayout map old new → whatever → Ends {T = S} (Err error) old new
     → Passes map old new whatever at_end (Err error)
 passes_err layout stands ends = record { layout = layout; stands = stands; done = tt; ends = err_ends ends }
 
--- what holds of two facts where a call ends
+-- What holds of the value if both facts hold of a call that succeeds.
 pub ok_both : {T : Type 0} (A B : Type 0) (result : Result T FlashError) → OnOk result A → OnOk result B
     → IfOk result (λ value. A × B)
 ok_both A B (Ok value) a b = (a, b)

@@ -1,4 +1,4 @@
--- Floors raised to the counters of a combination, one by one.
+-- Floors raised one by one to the counters of a combination.
 use Rattle.std.proofs.Common.{◌≡◌, ◌≢◌, ℕ, ◌+◌, ◌<◌, List, length, Some, max, set, get_or, slice_get, slice_index}
 use Rattle.std.proofs.Common.{sym, ◌∙◌, ap, arith, ⊎_elim}
 use Rattle.std.proofs.Common.{length-set, get_or-set_same, get_or-set_other, unwrap_or}
@@ -13,7 +13,7 @@ module _ (images : List Image) (mask n v : ℕ) (image : Image) (old before : Li
     (at : image ≡ get_or images n image)
     (is : v ≡ max (slice_index old n) (entry_in image (is_member mask n)).counter)
     (was : AreRaisedBy images mask n old before) where
-  -- the place that is written
+  -- The place that is written.
   here_is : (i : ℕ) (row : Image) → i ≡ n → slice_get images i ≡ Some row
       → slice_index (set before n v) i ≡ max (slice_index old i) (entry_in row (is_member mask i)).counter
   here_is i row here found =

@@ -1,4 +1,5 @@
--- A record in the log changes nothing of what can be read, and nothing is told of what was decided.
+-- A new record in the log doesn't change what can be read. If a decision is found, nothing has to
+-- be said of why.
 use Rattle.std.proofs.Common.{rules, ◌≡◌, ℕ, Bool, true, false, List, refl, sym, subst}
 use Rattle.flash_model.specs.Chip.{Chip}
 use Rattle.sector_map.specs.declared.layout.SectorMap.{SectorMap}
@@ -34,7 +35,7 @@ read_before map old new s false i keeps was = record {
       ((view_kept map _ _ _ keeps).slots i Secondary refl) was.request);
 }
 
--- what can be read behind a new record could be read before it
+-- What can be read after a new record could be read before it.
 pub can_read_before : (map : SectorMap) (old new : Chip) (s : DeviceState) (mask : ℕ) (floors : List ℕ)
     → Keeps map (only Log) old new → CanRead (view map new) s mask floors → CanRead (view map old) s mask floors
 can_read_before map old new s mask floors keeps can = record {
@@ -43,7 +44,7 @@ can_read_before map old new s mask floors keeps can = record {
   each = λ i lt. read_before map old new s (is_member mask i) i keeps (can.each i lt);
 }
 
--- nothing is told of what was decided
+-- If a decision is found, nothing has to be said of why.
 pub decided_told : (map : SectorMap) (w : Chip) (state : State) (answer : Finding) (table : Table) (report : Report)
     → answer ≡ Decided table report → IsToldAgain (view map w) state.mask state.floors answer
 decided_told map w state answer table report is =

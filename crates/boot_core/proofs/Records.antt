@@ -1,4 +1,4 @@
--- The next record keeps the table of records, since the one that stands keeps it.
+-- Each next record keeps the table of records, as the old record does.
 use Rattle.std.proofs.Common.{◌≡◌, ◌≢◌, ℕ, ◌+◌, if◌then◌else◌, ◌^◌, ◌<◌, ◌≤◌, ◌==◌, ◌&&◌, Bool, true, false, not, nat_le, nat_lt, List, Option, Some, None, IsSome, slice_index, arith, refl, sym, ◌∙◌, subst, ⊎_elim}
 use Rattle.std.proofs.lemmas.Bool.{and_from, and_parts}
 use Rattle.std.proofs.lemmas.Bool.Decides.{leb_tells}
@@ -24,18 +24,18 @@ said_fits : (images : ℕ) (found : Option (List ℕ)) (s : State) → state_sai
 said_fits images None s is = absurd (none-some s is)
 said_fits images (Some body) s is = (spells_of images body s is).kept
 
--- a state that stands keeps the table ..
+-- The state of the log keeps the table.
 pub stands_fits : (map : SectorMap) (chip : Chip) (s : State) → state_of map chip ≡ Some s
     → fits map.images s ≡ true
 unfolding state_of
 stands_fits map chip s read = said_fits map.images (record_of map chip) s read
 
--- .. so its set is of images of the map
+-- Its set has only images of the map.
 pub stands_within : (map : SectorMap) (chip : Chip) (s : State) → state_of map chip ≡ Some s
     → IsWithin map s.mask
 stands_within map chip s read = fits_within map s (stands_fits map chip s read)
 
--- a state stands on where the log isn't touched
+-- The state of the log stays if the log isn't touched.
 pub read_kept : (map : SectorMap) (touched : Part → Bool) (old new : Chip) (s : State)
     → Keeps map touched old new → touched Log ≡ false → state_of map old ≡ Some s → state_of map new ≡ Some s
 read_kept map touched old new s keeps off read = (view_kept map touched old new keeps).log off ∙ read
@@ -44,7 +44,7 @@ pub has_state : (map : SectorMap) (chip : Chip) (s : State) → state_of map chi
     → IsSome (state_of map chip)
 has_state map chip s read = subst (λ state. IsSome state) (sym read) refl
 
--- the same set and floors, in the midst of something else
+-- The same set and floors, of another kind.
 pub fits_next : (map : SectorMap) (chip : Chip) (s : State) (kind : RecordKind) (left : ℕ)
     → state_of map chip ≡ Some s → kind_fits kind s.mask s.permanent left ≡ true
     → fits map.images (record s { kind = kind; left = left }) ≡ true
@@ -54,7 +54,7 @@ fits_next map chip s kind left read asked =
     and_from (nat_lt s.mask (2 ^ map.images)) _ was.0
     (and_from (kind_fits kind s.mask s.permanent left) _ asked floors)
 
--- what the kind that stands asks for
+-- What the kind of the record asks for.
 pub kind_of_read : (map : SectorMap) (chip : Chip) (s : State) (kind : RecordKind) → state_of map chip ≡ Some s
     → s.kind ≡ kind → kind_fits kind s.mask s.permanent s.left ≡ true
 kind_of_read map chip s kind read is =
@@ -65,7 +65,7 @@ kind_of_read map chip s kind read is =
 pub none_within : (map : SectorMap) → IsWithin map 0
 none_within map i member = below_shift 0 map.images i (omega (arith, div-le_self 0 (2 ^ map.images))) member
 
--- at rest, with floors that are the same past the last image
+-- The record Steady, with floors that are the same past the last image.
 pub fits_steady : (map : SectorMap) (chip : Chip) (s : State) (floors : List ℕ) → state_of map chip ≡ Some s
     → ((i : ℕ) → map.images ≤ i → slice_index floors i ≡ slice_index s.floors i)
     → fits map.images
@@ -78,7 +78,7 @@ fits_steady map chip s floors read rest = fits_of map
 some_asked : (mask : ℕ) → mask ≢ 0 → kind_fits Swap mask false 0 ≡ true
 some_asked mask some = subst (λ b. (not b && true) ≡ true) (sym (eqb_no mask 0 (mask == 0) refl some)) refl
 
--- a swap of a set of images of the map
+-- The record Swap of a set of images of the map.
 pub fits_swap : (map : SectorMap) (chip : Chip) (s : State) (mask : ℕ) (permanent : Bool)
     → state_of map chip ≡ Some s → mask < 2 ^ 8 → mask ≢ 0 → IsWithin map mask
     → fits map.images (record s { kind = Swap; mask = mask; permanent = permanent; left = 0 }) ≡ true
@@ -90,7 +90,7 @@ nat_le_of : (a b : ℕ) → a ≤ b → nat_le a b ≡ true
 nat_le_of a b le = ⊎_elim (λ (h : (nat_le a b ≡ true) × (a ≤ b)). h.0)
     (λ (h : (nat_le a b ≡ false) × (b < a)). absurd (omega (arith, h.1, le))) (leb_tells a b)
 
--- a trial of 6 boots more at most, once its set is settled
+-- The record Trial with at most 6 more boots, after Settle.
 pub fits_trial : (map : SectorMap) (chip : Chip) (s : State) (left : ℕ) → state_of map chip ≡ Some s
     → s.kind ≡ Settle → left ≤ 6 → fits map.images (record s { kind = Trial; left = left }) ≡ true
 fits_trial map chip s left read is few =
@@ -98,7 +98,7 @@ fits_trial map chip s left read is few =
     fits_next map chip s Trial left read
     (and_from (not (s.mask == 0)) _ (and_parts (not (s.mask == 0)) (s.left == 0) asked).0 (nat_le_of left 6 few))
 
--- a way back, from a trial
+-- The record Back, after Trial.
 pub fits_back : (map : SectorMap) (chip : Chip) (s : State) → state_of map chip ≡ Some s → s.kind ≡ Trial
     → fits map.images (record s { kind = Back; left = 0 }) ≡ true
 fits_back map chip s read is =
@@ -106,7 +106,7 @@ fits_back map chip s read is =
     fits_next map chip s Back 0 read
     (and_from (not (s.mask == 0)) _ (and_parts (not (s.mask == 0)) (nat_le s.left 6) asked).0 refl)
 
--- one sector is erased at most, where no place is free
+-- At most one sector is erased, if no place is free.
 pub one_erase : (free : Bool) (old new : ℕ) → new ≡ old + (if free then 0 else 1) → new ≤ old + 1
 one_erase true old new erased = omega (arith, erased)
 one_erase false old new erased = omega (arith, erased)

@@ -1,5 +1,4 @@
--- Whatever a flash holds, where its log says that the device rests it can't be that it rests at no
--- state.
+-- On any flash whose log has a record Steady, it can't be that the device is at rest in no state.
 use Rattle.std.proofs.Common.{◌≡◌, ◌≢◌, ℕ, zero, suc, ◌<◌, ◌==◌, ◌&&◌, Bool, true, false, not, List, Option, Some, None, if◌then◌else◌, arith, refl, sym, ap, subst, ◌∙◌}
 use Rattle.std.proofs.lemmas.Bool.{and_parts, eqb-true}
 use Rattle.std.proofs.lemmas.Bool.Decides.{Decides-eqb}
@@ -26,7 +25,7 @@ use Rattle.boot_core.proofs.Records.{kind_of_read}
 some_same : {X : Type 0} (x y : X) → Some x ≡ Some y → x ≡ y
 some_same x y e = cc
 
--- bytes begin with an intact image, or with none
+-- Bytes begin with an intact image, or with none.
 front_somehow : (whole : List ℕ) → ((held : Option (List ℕ)) → IsFront whole held → ⊥) → ⊥
 front_somehow whole never = never None (record {
   image = λ bytes e. absurd (none-some bytes e);
@@ -37,7 +36,7 @@ front_somehow whole never = never None (record {
   });
 })
 
--- something is requested, or nothing
+-- Something is requested, or nothing is.
 request_told : (fields : Fields) (slot : List ℕ) (told : Option request.Kind) → told_by fields slot ≡ told
     → ((wanted : Option Wanted) → IsRequested fields slot wanted → ⊥) → ⊥
 request_told fields slot None is never = never None (record {
@@ -55,7 +54,7 @@ request_somehow : (fields : Fields) (slot : List ℕ)
     → ((wanted : Option Wanted) → IsRequested fields slot wanted → ⊥) → ⊥
 request_somehow fields slot = request_told fields slot (told_by fields slot) refl
 
--- one number more has a value
+-- A choice of values extends to one more number.
 more : {X : Type 0} (P : ℕ → X → Type 0) (f : ℕ → X) (x : X) (n i : ℕ) (b : Bool) → (i == n) ≡ b → P n x
     → ((j : ℕ) → j < n → P j (f j)) → i < suc n → P i (if b then x else f i)
 more P f x n i true e at below lt = subst (λ k. P k x) (sym (eqb-true i n e)) at
@@ -63,7 +62,7 @@ more P f x n i false e at below lt =
     let away : i ≢ n = λ is. true≢false (sym ((Decides-eqb i n).1 is) ∙ e) in
     below i (omega (arith, lt, away))
 
--- if none lacks a value, not all lack a choice of values
+-- If no number lacks a value, a choice of values for all can't be lacking.
 choose_below : {X : Type 0} (P : ℕ → X → Type 0) (any : X) → ((i : ℕ) → ((x : X) → P i x → ⊥) → ⊥)
     → (n : ℕ) → ((f : ℕ → X) → ((i : ℕ) → i < n → P i (f i)) → ⊥) → ⊥
 choose_below P any each zero never = never (λ i. any) (λ i lt. absurd (omega (arith, lt)))

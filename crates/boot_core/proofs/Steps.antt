@@ -1,4 +1,4 @@
--- Steps as a run takes them: after a cut the device is reset.
+-- Lemmas for steps of a run: after a power cut the device is reset.
 use Rattle.std.proofs.Common.{◌≡◌, refl, sym, subst, ⊎_elim}
 use Rattle.common.specs.declared.event.Event.TheVariants as event
 use Rattle.upload.specs.Device.{Machine}
@@ -12,7 +12,7 @@ use Rattle.machine.specs.declared.reply.Reply.TheVariants.{Cut}
 of_kept : (next : Machine) (m : Machine) → next ≡ asleep m.kept → asleep next.kept ≡ next
 of_kept next m is = subst (λ (k : Machine). asleep k.kept ≡ k) (sym is) refl
 
--- after a cut no session is open, and the device isn't up
+-- After a power cut no session is open, and the device isn't booted.
 cut_asleep : (setup : Setup) (m next : Machine) (happened : DeviceEvent) → IsCutTo setup m happened next
     → asleep next.kept ≡ next
 cut_asleep setup m next (event.Accept text) cut = of_kept next cut.1.0 cut.1.2
@@ -27,7 +27,7 @@ cut_asleep setup m next (event.Confirm i) cut = ⊎_elim
 cut_asleep setup m next event.Boot cut = sym cut.1
 cut_asleep setup m next event.Reset cut = absurd cut
 
--- .. so that a reset leaves it as it is
+-- So a reset leaves the machine as it is.
 pub cut_step : (setup other : Setup) (old mid new : DeviceView) (happened : DeviceEvent) → other ≡ setup
     → StepsTo setup old mid happened Cut
     → ((m : Machine) → Holds other.map mid m → Holds other.map new (asleep m.kept))

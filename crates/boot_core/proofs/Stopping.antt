@@ -1,5 +1,4 @@
--- A device that the flash stopped: it isn't up and has no uploads, and its flash is off as the cut
--- left it.
+-- Lemmas for a device that the flash stopped: it isn't booted, and no upload is open.
 use Rattle.std.proofs.Common.{rules, ◌≡◌, ℕ, ◌+◌, Bool, true, false, List, Option, Some, Result, Ok, Err, IfOk, IsErrOf, arith, refl, sym, ◌∙◌, ap, subst, ⊎_elim, inl, inr}
 use Rattle.std.specs.Borrow.{Bor}
 use Rattle.std.proofs.Common.{true≢false}
@@ -44,7 +43,7 @@ use Rattle.boot_core.specs.Device.{seen}
 use Rattle.boot_core.specs.Ready.{IsReadiness}
 use Rattle.boot_core.specs.Wear.{IsWorn}
 
--- what stands is held by a device that isn't up
+-- A device that isn't booted holds the state on its flash.
 pub holds_down : (map : SectorMap) (chip : Chip) (told : List (Option Upload)) (s : DeviceState) → AllClosed told
     → Stands map chip s → Holds map (seen chip told false) (asleep s)
 holds_down map chip told s none stands = record {
@@ -130,7 +129,7 @@ pub boot_stopped : (setup : Setup) (old new : Chip) (told tnew : List (Option Up
 boot_stopped setup old new told tnew up none cuts flash.Cut ends on = boot_down setup old new told tnew up none cuts
 boot_stopped setup old new told tnew up none cuts flash.Off ends on = absurd (true≢false (sym on ∙ ends.off refl))
 
--- .. and where the flash was on it was cut, and something was written
+-- If the flash had power, it stopped the call only by a power cut.
 pub not_uncut : (old new : Chip) (error : FlashError) → Ends {T = Reply} (Err error) old new → old.is_on ≡ true
     → cut_of (fault_reply (no.Flash error)) ≡ 0 → ⊥
 not_uncut old new flash.Cut ends on uncut = omega (arith, uncut)
@@ -146,7 +145,7 @@ not_idle : (old new : Chip) (error : FlashError) → Ends {T = Reply} (Err error
 not_idle old new flash.Cut ends on same = omega (arith, (ends.cut refl).cuts, ap (λ (chip : Chip). chip.cuts) same)
 not_idle old new flash.Off ends on same = true≢false (sym on ∙ ends.off refl)
 
--- so that there was a record
+-- So the log had a record.
 pub not_empty : (old new : Chip) (error : FlashError) → Ends {T = Reply} (Err error) old new → old.is_on ≡ true
     → new ≡ old → (result : Result Reply Fault) → result ≡ Err no.NotProvisioned
 not_empty old new error ends on same result = absurd (not_idle old new error ends on same)
@@ -174,7 +173,7 @@ stopped_ends old new told tnew up upn none down flash.Off ends =
       closed = λ e. none;
     }
 
--- a call that ended by a reply of its own
+-- A call that the flash didn't stop ends with its own reply.
 pub ended : (old new : Chip) (told tnew : List (Option Upload)) (up upn : Bool) (reply : Reply) → cut_of reply ≡ 0
     → is_stopped reply ≡ false → IsUncut old new → EndsCall reply (seen old told up) (seen new tnew upn)
 ended old new told tnew up upn reply none unstopped uncut = record {
@@ -186,7 +185,7 @@ ended old new told tnew up upn reply none unstopped uncut = record {
   closed = λ e. absurd (true≢false (sym e ∙ unstopped));
 }
 
--- .. as a boot does
+-- So does a boot.
 boot_ended : (reply : Reply) → IsBootReply reply → (cut_of reply ≡ 0) × (is_stopped reply ≡ false)
 boot_ended reply told = search rules
 
@@ -202,11 +201,11 @@ pub unprovisioned : (result : Result Reply Fault) → IfOk result (λ reply. is_
     → reply_of_boot result ≡ Refused no.NotProvisioned → result ≡ Err no.NotProvisioned
 unprovisioned result answers is = search rules
 
--- a fault of the flash is passed on as one
+-- A fault of the flash is passed on as one.
 pub no_own : (error : FlashError) (given : Fault) → given ≡ no.Flash error → is_stop given ≡ false → ⊥
 no_own error given is own = true≢false (sym (ap is_stop is) ∙ own)
 
--- a confirmation that the flash stopped
+-- The flash stopped a confirmation.
 pub confirm_stopped : (setup : Setup) (old new : Chip) (told tnew : List (Option Upload)) (up upn : Bool) (i : ℕ)
     → up ≡ true → (error : FlashError) → Ends {T = Bool} (Err error) old new → old.is_on ≡ true → AllClosed tnew
     → upn ≡ false
@@ -221,7 +220,7 @@ confirm_stopped setup old new told tnew up upn i is_booted flash.Off ends on non
 
 -- ---- how calls of uploads end
 
--- an error is a cut, or that the flash was off, or the upload's own
+-- An error of an upload is a power cut, a flash that is off, or the upload's own.
 pub error_is : {X : Type 0} (error : UploadError) → (error ≡ upload.Flash flash.Cut → X)
     → (error ≡ upload.Flash flash.Off → X) → (is_flash {T = Unit} (Err error) ≡ false → X) → X
 error_is upload.OldSequence cut off own = own refl
@@ -251,14 +250,14 @@ error_says upload.NothingRequested own = refl
 error_says (upload.Flash error) own = absurd (true≢false own)
 error_says upload.NoMemory own = refl
 
--- what passing a refusal on leaves
+-- What a refusal that is passed on leaves.
 pub record IsStopped (fault : Fault) (told tnew : List (Option Upload)) (up upn : Bool) : Type 0 where
   pub down : is_stop fault ≡ true → upn ≡ false
   pub closed : is_stop fault ≡ true → AllClosed tnew
   pub stays : is_stop fault ≡ false → upn ≡ up
   pub kept : is_stop fault ≡ false → tnew ≡ told
 
--- a refused upload, as a step
+-- A refused call of uploads is a step.
 pub failed : (setup : Setup) (old new : Chip) (told tmid tnew : List (Option Upload)) (up upn : Bool)
     (happened : DeviceEvent) (error : UploadError) → old.is_on ≡ true → EndsUpload {T = Unit} (Err error) old new
     → IsStopped (no.Upload error) tmid tnew up upn
@@ -286,7 +285,7 @@ failed setup old new told tmid tnew up upn happened error on ends stopped down k
     (subst (λ l. StepsTo setup (seen old told up) (seen new l up) happened (Refused (no.Upload error)))
     (sym (stopped.kept own)) (kept own)))))
 
--- .. and how it ends
+-- How a refused call of uploads ends.
 pub failed_ends : (old mid new : Chip) (told tmid tnew : List (Option Upload)) (up upn : Bool) (error : UploadError)
     → mid ≡ old → EndsUpload {T = Unit} (Err error) mid new → IsStopped (no.Upload error) tmid tnew up upn
     → (fault : Fault) → fault ≡ no.Upload error → EndsCall (fault_reply fault) (seen old told up) (seen new tnew upn)
@@ -334,7 +333,7 @@ failed_ends old mid new told tmid tnew up upn error same ends stopped fault is =
       closed = λ e. absurd (true≢false (sym e ∙ own));
     })))
 
--- an upload that is done
+-- How a call of uploads that succeeds ends.
 pub done_ends : (old mid new : Chip) (told tnew : List (Option Upload)) (up : Bool) → mid ≡ old
     → EndsUpload {T = Unit} (Ok tt) mid new → EndsCall Done (seen old told up) (seen new tnew up)
 done_ends old mid new told tnew up same ends =
@@ -349,7 +348,7 @@ done_ends old mid new told tnew up same ends =
       closed = λ e. absurd (true≢false (sym e));
     }
 
--- the uploads that are left stand
+-- The uploads that are left match the flash.
 pub opens_stopped : (w : View) (fault : Fault) (told tnew : List (Option Upload)) (up upn : Bool)
     → IsStopped fault told tnew up upn → AllOpenAt w told → AllOpenAt w tnew
 opens_stopped w fault told tnew up upn stopped opens = either (is_stop fault) refl where
@@ -397,7 +396,7 @@ module _ (setup : Setup) (old mid : Chip) (told tnew : List (Option Upload)) (up
       subst (λ f. StepsTo setup (seen old told up) (seen mid tnew upn) happened (fault_reply f)) (sym is)
       (refused fault ready on stopped)
 
--- a call that changed nothing and tells nothing of the flash
+-- A call that changed nothing, and whose reply isn't that the flash stopped it.
 pub idle_ends : (old mid : Chip) (told tnew : List (Option Upload)) (up upn : Bool) (reply : Reply)
     → cut_of reply ≡ 0 → is_stopped reply ≡ false → mid ≡ old
     → EndsCall reply (seen old told up) (seen mid tnew upn)

@@ -1,4 +1,4 @@
--- What a reply tells is told of the finding that it comes of.
+-- What the reply of a boot says of its finding.
 use Rattle.std.proofs.Common.{rules, ◌≡◌, ◌∙◌, ℕ, Bool, true, false, List, Some, None, Result, Ok, Err, IfOk, IsErrOf, ap, refl, sym, subst}
 use Rattle.std.proofs.Common.{true≢false}
 use Rattle.std.proofs.lemmas.Option.{none-some}
@@ -25,7 +25,7 @@ use Rattle.boot_core.specs.Found.{IsKeptFor, IsStopped, IsSwapAloneFor, IsToldAg
 use Rattle.boot_core.specs.Over.{IsOverAlone}
 use Rattle.boot_core.specs.Wear.{DoesNothing}
 
--- a reply comes of one finding, but for what was decided
+-- A reply comes from one finding, unless that is a decision.
 pub one_finding : (P : Finding → Type 0) → ((table : Table) (report : Report) → P (Decided table report))
     → (found told : Finding) (p q : Bool) → reply_of found p ≡ reply_of told q → P found → P told
 one_finding P decided found (Decided table report) p q e holds = decided table report
@@ -36,7 +36,7 @@ one_finding P decided (Decided table report) Invalid p q e holds = cc
 one_finding P decided (Damaged j) Invalid p q e holds = cc
 one_finding P decided Invalid Invalid p q e holds = holds
 
--- what is told stands on where nothing was written
+-- A finding still holds if nothing was written.
 told_at : (map : SectorMap) (old new : Chip) (mask : ℕ) (floors : List ℕ) (found : Finding)
     → IsToldAgain (view map old) mask floors found → IsKeptFor old new found
     → IsToldAgain (view map new) mask floors found
@@ -46,7 +46,7 @@ told_at map old new mask floors (Damaged i) tells kept =
 told_at map old new mask floors Invalid tells kept =
     subst (λ chip. IsToldAgain (view map chip) mask floors Invalid) (sym kept) tells
 
--- an upgrade that was swapped ..
+-- An upgrade whose set was swapped.
 pub settle_stops : (map : SectorMap) (old new : Chip) (mask : ℕ) (floors : List ℕ) (found told : Finding)
     (p q : Bool) → reply_of found p ≡ reply_of told q → IsToldAgain (view map old) mask floors found
     → IsKeptFor old new found → IsToldAgain (view map new) mask floors told × IsKeptFor old new told
@@ -54,7 +54,7 @@ settle_stops map old new mask floors found told p q e tells kept = one_finding
     (λ f. IsToldAgain (view map new) mask floors f × IsKeptFor old new f) (λ table report. search rules) found told p q e
     (told_at map old new mask floors found tells kept, kept)
 
--- .. and one that was not
+-- An upgrade whose set wasn't swapped.
 pub swap_stops : (map : SectorMap) (old new : Chip) (mask : ℕ) (floors : List ℕ) (found told : Finding)
     (p q : Bool) → reply_of found p ≡ reply_of told q → IsToldAgain (view map new) mask floors found
     → IsSwapAloneFor map mask old new found
@@ -63,7 +63,7 @@ swap_stops map old new mask floors found told p q e tells alone = one_finding
     (λ f. IsToldAgain (view map new) mask floors f × IsSwapAloneFor map mask old new f)
     (λ table report. search rules) found told p q e (tells, alone)
 
--- a boot that the flash stops tells of no finding
+-- If the flash stops a boot, its reply isn't that of a finding.
 flash_stops : (error : FlashError) (told : Finding) (q : Bool) → fault_reply (no.Flash error) ≡ reply_of told q → ⊥
 flash_stops flash.Cut (Decided table report) q e = cc
 flash_stops flash.Cut (Damaged i) q e = cc
@@ -77,7 +77,7 @@ no_log_stops (Decided table report) q e = cc
 no_log_stops (Damaged i) q e = cc
 no_log_stops Invalid q e = cc
 
--- a boot without a record tells of no finding either
+-- The reply of a boot without a record isn't that of a finding either.
 pub no_log_stopped : (map : SectorMap) (state : State) (old new : Chip) (told : Finding) (q : Bool)
     → Refused no.NotProvisioned ≡ reply_of told q → IsStopped map state old new told
 no_log_stopped map state old new told q e = absurd (no_log_stops told q e)
@@ -89,12 +89,12 @@ flash_stopped map state old new error told q e = absurd (flash_stops error told 
 some_same : (x y : State) → Some x ≡ Some y → x ≡ y
 some_same x y e = cc
 
--- a record was read, so that one stood
+-- If a record was read, the log had one.
 pub stood_none : (map : SectorMap) (chip : Chip) (read : State) → state_of map chip ≡ Some read
     → state_of map chip ≡ None → ⊥
 stood_none map chip read stood none = none-some read (sym (sym stood ∙ none))
 
--- from the record that was read
+-- The record that was read is that of the log.
 pub read_stopped : (map : SectorMap) (old new : Chip) (read state : State) (told : Finding)
     → state_of map old ≡ Some read → state_of map old ≡ Some state → IsStopped map read old new told
     → IsStopped map state old new told
@@ -109,7 +109,7 @@ read_idle map old new read (Ok reply) is idle = λ state stood kind takes.
     idle (ap (λ (s : State). s.kind) (some_same read state (sym is ∙ stood)) ∙ kind) takes
 read_idle map old new read (Err error) is idle = tt
 
--- .. and answers nothing
+-- If the flash stops a boot, the boot doesn't answer.
 pub flash_unanswered : (error : FlashError) → is_answer (fault_reply (no.Flash error)) ≡ false
 flash_unanswered flash.Cut = refl
 flash_unanswered flash.Off = refl
@@ -124,25 +124,25 @@ read_over map old new read (Ok reply) is over = λ state stood kind nothing.
     subst (λ (s : State). IsOverAlone map s old new) one (over (ap (λ (s : State). s.kind) one ∙ kind) nothing)
 read_over map old new read (Err error) is over = tt
 
--- .. and it tells so
+-- Its reply says that the flash stopped it.
 pub flash_stopped_it : (error : FlashError) → is_stopped (fault_reply (no.Flash error)) ≡ true
 flash_stopped_it flash.Cut = refl
 flash_stopped_it flash.Off = refl
 
--- .. and nothing changes where the flash was off
+-- If the flash was off, nothing changes.
 pub flash_idle : (error : FlashError) (old new : Chip) → Ends {T = Reply} (Err error) old new
     → DoesNothing (fault_reply (no.Flash error)) → new ≡ old
 flash_idle flash.Cut old new ends nothing = absurd nothing
 flash_idle flash.Off old new ends nothing = ends.asleep (ends.off refl)
 
--- .. so that a trial is not over
+-- So it doesn't end a trial.
 pub flash_over : (error : FlashError) (map : SectorMap) (state : State) (old new : Chip)
     → Ends {T = Reply} (Err error) old new → old.is_on ≡ true
     → DoesNothing (fault_reply (no.Flash error)) → IsOverAlone map state old new
 flash_over flash.Cut map state old new ends on nothing = absurd nothing
 flash_over flash.Off map state old new ends on nothing = absurd (true≢false (sym on ∙ ends.off refl))
 
--- a flash that is off is the answer
+-- If the flash is off, that is the result.
 pub flash_off : {S T : Type 0} (error : FlashError) (given : Fault) (old new : Chip) → given ≡ no.Flash error
     → Ends {T = S} (Err error) old new → IsErrOf {T = S} (Err error) flash.Off → IsOff {T = T} (Err given) old new
 flash_off error given old new passed ends is = record {

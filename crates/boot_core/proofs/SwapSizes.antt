@@ -1,4 +1,4 @@
--- Trailers that are made ready one after the other.
+-- Lemmas for trailers that are prepared one after the other.
 use Rattle.std.proofs.Common.{◌≡◌, ◌≢◌, ℕ, ◌+◌, ◌<◌, ◌≤◌, ◌==◌, List, length, ◌&&◌, true, false, Some, arith, refl, sym, ◌∙◌, ap, subst}
 use Rattle.std.proofs.lemmas.Bool.Decides.{nat_tests}
 use Rattle.flash_model.specs.Chip.{Chip}
@@ -17,7 +17,7 @@ use Rattle.boot_core.specs.SwapSize.{IsReady, IsSwapSize, IsUsed}
 use Rattle.decision.proofs.Described.{intact_long}
 use Rattle.boot_core.proofs.Masks.{members_more}
 
--- what a swap moves depends on the slots alone
+-- What a swap moves depends on the slots alone.
 pub moves_kept : (old new : View) (i n : ℕ) → ((on : Side) → new.slot i on ≡ old.slot i on) → IsSwapSize old i n
     → IsSwapSize new i n
 moves_kept old new i n same was = record {
@@ -28,7 +28,7 @@ moves_kept old new i n same was = record {
   larger = was.larger;
 }
 
--- what is used of a slot has room for the image that it begins with ..
+-- The used length of a slot is enough for the image that it begins with.
 used_room : (slot : List ℕ) (n most : ℕ) → IsUsed slot n → n ≤ most → IsRoomFor slot most
 used_room slot n most used le = record {
   each = λ bytes d starts intact.
@@ -38,7 +38,7 @@ used_room slot n most used le = record {
       omega (arith, is, long, le);
 }
 
--- .. and what a swap moves for both images
+-- What a swap moves is enough for both images.
 moves_room : (w : View) (i n : ℕ) → IsSwapSize w i n → IsRoomForBoth w i n
 moves_room w i n moves = record {
   each = λ on. elim on as (λ side. IsRoomFor (w.slot i side) n) [
@@ -47,12 +47,12 @@ moves_room w i n moves = record {
   ];
 }
 
--- the fields of a trailer whose size alone is written
+-- Only the size of a trailer is written.
 pub sized : (old new : Fields) (n : ℕ) → new ≡ record old { size = new.size } → new.size ≡ Some n
     → new ≡ record old { size = Some n }
 sized old new n own is = own ∙ ap (λ size. record old { size = size }) is
 
--- a trailer is cleared, and gets its size
+-- A trailer is cleared, and gets its size.
 pub made_ready : (map : SectorMap) (i size : ℕ) (side : Side) (erased mid new : Chip)
     → (view map erased).trailer i side ≡ erased_fields → IsSwapSize (view map erased) i size → mid ≡ erased
     → (view map new).trailer i side ≡ record ((view map mid).trailer i side) { size = Some size }
@@ -66,7 +66,7 @@ made_ready map i size side erased mid new clean moves same written keeps = recor
       (λ on. (view_kept map _ _ _ keeps).slots i on refl ∙ ap (λ (v : Chip). (view map v).slot i on) same) moves;
 }
 
--- an image that is ready stays so while another trailer is made ready
+-- An image that is ready stays so while another trailer is prepared.
 pub ready_kept : (map : SectorMap) (i j : ℕ) (side on : Side) (old new : Chip) → i ≢ j
     → Keeps map (only (TrailerOf j on)) old new → IsReady (view map old) side i → IsReady (view map new) side i
 ready_kept map i j side on old new other keeps was =
@@ -80,7 +80,8 @@ ready_kept map i j side on old new other keeps was =
           (λ at. (view_kept map _ _ _ keeps).slots i at refl) was.moves;
     }
 
--- the members below a number are ready, and the one of this number is made ready
+-- If the members below n are ready, and the trailer of n is prepared, the members below n + 1 are
+-- ready.
 pub ready_more : (map : SectorMap) (mask n : ℕ) (side : Side) (old new : Chip)
     → ((i : ℕ) → i < n → is_member mask i ≡ true → IsReady (view map old) side i)
     → ((i : ℕ) → i ≢ n → IsReady (view map old) side i → IsReady (view map new) side i)

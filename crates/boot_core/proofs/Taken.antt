@@ -1,4 +1,4 @@
--- A call of the table of uploads on a device that takes them: what was answered is passed on.
+-- Lemmas for a call of `Uploads` on a device that takes uploads: its result is passed on.
 use Rattle.std.proofs.Common.{◌≡◌, ℕ, Bool, true, false, List, Option, Result, Ok, Err, IfErr, refl, sym, ap, subst}
 use Rattle.std.specs.Borrow.{Bor}
 use Rattle.common.specs.declared.event.Event.TheVariants as event
@@ -37,7 +37,7 @@ use Rattle.boot_core.proofs.Keeping.{all_stays, keeps_unstopped, up_stays}
 use Rattle.boot_core.proofs.NotReady.{not_down, refused_after, stops}
 use Rattle.boot_core.proofs.Stopping.{done_ends, failed, failed_ends, finish_down, opens_stopped, piece_down, withdraw_down}
 
--- A device that takes uploads is up, and its log has a state in which no set is on trial,
+-- A device takes uploads: it is booted, and its log has a state in which no set is on trial.
 abbrev pub IsReadyAt : SectorMap → DeviceView → Type 0
 IsReadyAt map at = (at.up ≡ true) × LogsNoTrial (state_of map at.flash)
 
@@ -45,7 +45,7 @@ module _ (map : SectorMap) (before after : DeviceView) (ready : AsksReady map be
   pub ready_now : IsReadyAt map after
   ready_now = subst (IsReadyAt map) (sym ready.taken) ready.asked.ready
 
-  -- as the device was before it was asked.
+  -- The check changed nothing.
   pub laid_now : IsLaidOut map before.flash → IsLaidOut map after.flash
   laid_now laid = subst (λ (at : DeviceView). IsLaidOut map at.flash) (sym ready.taken) laid
 
@@ -53,12 +53,13 @@ module _ (map : SectorMap) (before after : DeviceView) (ready : AsksReady map be
   opens_now opens =
       subst (λ (at : DeviceView). AllOpenAt (view map at.flash) at.sessions) (sym ready.taken) opens
 
-  -- Its flash has power.
+  -- The flash has power.
   not_off : after.up ≡ true → after.flash.is_on ≡ false → ⊥
   not_off = subst (λ (at : DeviceView). at.up ≡ true → at.flash.is_on ≡ false → ⊥) (sym ready.taken)
       (λ up off. no_error tt _ (ready.asked.off up off))
 
--- An event of an upload: what the row of it does is a step of a machine that is ready for it.
+-- An event of uploads: a call that does what its row says is a step of a machine that takes
+-- uploads.
 pub record IsUploadEvent (happened : DeviceEvent) (row : Machine → Row) : Type 0 where
   pub own : (setup : Setup) (old new : Chip) (told tnew : List (Option Upload)) (up : Bool)
       → IsReadyAt setup.map (seen old told up) → (taken : Result Unit UploadError) (reply : Reply)
@@ -96,7 +97,7 @@ withdraw_event i = record {
       withdraw_down setup old new told tnew up ready.0 none ready.1.0 tmid taken ready.1.1 ready.1.2 cut i row;
 }
 
--- What the table of uploads did.
+-- What a call of `Uploads` did.
 pub record IsTaken (map : SectorMap) (happened : DeviceEvent) (touched : Part → Bool) (old new : Chip)
     (told tmid : List (Option Upload)) (Takes : Machine → Row) (taken : Result Unit UploadError) : Type 0 where
   pub outside : Keeps map touched old new
@@ -178,7 +179,7 @@ module _ (map : SectorMap) (happened : DeviceEvent) (touched : Part → Bool) (b
       subst (λ at. TakesCall map happened touched at (seen new tnew upn) result) ready.taken
       (by_result taken result call passed)
 
-  -- Where a refusal that isn't of the flash leaves it as it was.
+  -- A refusal that isn't the flash's leaves the flash as it was.
   nothing_after : (taken : Result Unit UploadError) (result : Result Unit Fault)
       → IfErr taken (λ error. is_flash {T = Unit} (Err error) ≡ false → new ≡ old)
       → PassesOn taken tmid up tnew upn result → IfErr result (λ fault. is_stop fault ≡ false → new ≡ before.flash)

@@ -1,4 +1,4 @@
--- Texts that are no manifests for a device.
+-- Lemmas for texts that aren't manifests for a device.
 use Rattle.std.proofs.Common.{◌≡◌, ◌≢◌, ℕ, Bool, true, List, Option, Some, refl, sym, subst}
 use Rattle.std.specs.Borrow.{Bor}
 use Rattle.common.specs.declared.event.Event.TheVariants as event
@@ -35,7 +35,7 @@ text_refused identity bytes text.NoComponent only = only (λ e. let f : text.NoC
 text_refused identity bytes text.RepeatedComponent only =
     only (λ e. let f : text.RepeatedComponent ≡ text.NoMemory = e in cc)
 
--- a text that is refused, as a step
+-- A refused text is a step.
 module _ (setup : Setup) (old mid : Chip) (told : List (Option Upload)) (up : Bool) (state : State)
     (is_booted : up ≡ true) (read : (view setup.map old).log ≡ Some state) (rests : state.kind ≡ log.Trial → ⊥)
     (given : Bor (List ℕ)) (same : mid ≡ old) where
@@ -59,7 +59,7 @@ module _ (setup : Setup) (old mid : Chip) (told : List (Option Upload)) (up : Bo
   text_steps (no.Flash error) refused = absurd refused
   text_steps (no.Upload error) refused = absurd refused
 
--- .. and how it ends
+-- How the call of a refused text ends.
 pub text_ends : (identity : Identity) (bytes : List ℕ) (old mid : Chip) (told : List (Option Upload)) (up : Bool)
     → mid ≡ old → (fault : Fault) → RefusesText identity bytes fault
     → EndsCall (fault_reply fault) (seen old told up) (seen mid told up)

@@ -1,4 +1,4 @@
--- Whether an image is on trial by the log, and what a confirmation answers then.
+-- Whether an image is on trial by the log, and what a confirmation returns then.
 use Rattle.std.proofs.Common.{◌≡◌, ℕ, Bool, true, false, List, Option, Some, Result, Ok, Err, refl, sym, subst, ◌∙◌}
 use Rattle.std.proofs.Common.{true≢false}
 use Rattle.flash_model.specs.Chip.{Chip, Ends}
@@ -31,13 +31,13 @@ use Rattle.boot_core.specs.Ready.{LogsTrialOf}
 some_same : (x y : State) → Some x ≡ Some y → x ≡ y
 some_same x y e = cc
 
--- an image of a set, of which the flash stopped the confirmation
+-- The flash stopped the confirmation of an image of the set.
 pub set_answers : (OnTrial : Type 0) (map : SectorMap) (old new : Chip) (image : ℕ) (error : FlashError)
     → Ends {T = Unit} (Err error) old new → OnTrial → AnswersTrial OnTrial map image old new (Err error)
 set_answers OnTrial map old new image flash.Cut ends tried = tried
 set_answers OnTrial map old new image flash.Off ends tried = ends.off refl
 
--- the log says that a set is on trial: an image is on trial where it is of that set
+-- If the log says that a set is on trial, an image is on trial exactly if it is in that set.
 module _ (map : SectorMap) (image : ℕ) (old : Chip) (state : State) (read : state_of map old ≡ Some state)
     (kind : state.kind ≡ log.Trial) where
   logged : IsOfSet map state.mask image → LogsTrialOf map.images image (state_of map old)
@@ -58,7 +58,7 @@ module _ (map : SectorMap) (image : ℕ) (old : Chip) (state : State) (read : st
   logged_trial mid new (Err flash.Cut) same tried = logged tried
   logged_trial mid new (Err flash.Off) same off = subst (λ (chip : Chip). chip.is_on ≡ false) same off
 
--- a flash with power stops only the confirmation of an image on trial
+-- A flash with power stops only the confirmation of an image on trial.
 pub stops_tried : (OnTrial : Type 0) (map : SectorMap) (image : ℕ) (old new : Chip) (error : FlashError)
     → AnswersTrial OnTrial map image old new (Err error) → old.is_on ≡ true → (OnTrial → ⊥) → ⊥
 stops_tried OnTrial map image old new flash.Cut tried on never = never tried
@@ -68,7 +68,7 @@ pub flash_not_tried : (error : FlashError) (given : Fault) (result : Result Unit
     → result ≡ Err given → result ≡ Err no.NotOnTrial → ⊥
 flash_not_tried error given result passed is told = cc
 
--- a confirmation that the flash didn't stop
+-- The flash didn't stop the confirmation.
 pub confirm_ends : (map : SectorMap) (image : ℕ) (old new : Chip) (told : List (Option Upload)) (up : Bool)
     (result : Result Unit Fault) → IsLaidOut map old → AllOpenAt (view map old) told
     → Keeps map (only (TrailerOf image Primary)) old new → up ≡ true

@@ -1,4 +1,4 @@
--- What holds where a decision is found, and where none is.
+-- What holds if a decision is found, and if none is.
 use Rattle.std.proofs.Common.{◌≡◌, ℕ, Bool, List, refl, subst}
 use Rattle.flash_model.specs.Chip.{Chip}
 use Rattle.sector_map.specs.declared.layout.SectorMap.{SectorMap}
@@ -21,43 +21,43 @@ use Rattle.decision.specs.Found.{IsFindingAt}
 use Rattle.boot_core.specs.Found.{IsKeptFor, IsSwapAloneFor, IsToldAgain}
 use Rattle.boot_core.specs.FromSwap.{IsSettleRecorded}
 
--- a finding is no decision
+-- A finding is no decision.
 abbrev pub IsUndecided : Finding → Type 0
 IsUndecided finding = (table : Table) (report : Report) → finding ≡ Decided table report → ⊥
 
--- none is found again ..
+-- If no decision is found, none is found again.
 pub never_again : (s : DeviceState) (mask : ℕ) (finding : Finding) → IsUndecided finding → IsFoundAgain s mask finding
     → ⊥
 never_again s mask (Decided table report) none found = none table report refl
 never_again s mask (Damaged i) none found = found
 never_again s mask Invalid none found = found
 
--- .. nor recorded
+-- If no decision is found, none is recorded.
 pub never_recorded : (map : SectorMap) (state : State) (chip : Chip) (finding : Finding) → IsUndecided finding
     → IsSettleRecorded map state chip finding
 never_recorded map state chip (Decided table report) none = absurd (none table report refl)
 never_recorded map state chip (Damaged i) none = tt
 never_recorded map state chip Invalid none = tt
 
--- nothing is written ..
+-- Nothing is written.
 pub kept_for : (chip : Chip) (finding : Finding) → IsKeptFor chip chip finding
 kept_for chip (Decided table report) = tt
 kept_for chip (Damaged i) = refl
 kept_for chip Invalid = refl
 
--- .. or nothing but a swap
+-- Only a swap is written.
 pub alone_for : (map : SectorMap) (mask : ℕ) (old new : Chip) (finding : Finding)
     → Keeps map (swap_of mask Primary) old new → IsSwapAloneFor map mask old new finding
 alone_for map mask old new (Decided table report) keeps = tt
 alone_for map mask old new (Damaged i) keeps = keeps
 alone_for map mask old new Invalid keeps = keeps
 
--- what is reported of a decision that is found
+-- What is reported of a decision that is found.
 pub reported : (s : DeviceState) (finding : Finding) (table : Table) (report : Report)
     → finding ≡ Decided table report → IsFinding s finding → IsReported s table report
 reported s finding table report is found = subst (λ f. IsFinding s f) is found
 
--- in what can be read none is found where a decision stands
+-- If a state has a decision, what is found of the state is a decision.
 pub none_decided : (s : DeviceState) (table : Table) (mask : ℕ) (permanent : Bool) (finding : Finding)
     → IsUndecided finding → IsDecision s table mask permanent → IsFinding s finding → IsFoundAgain s mask finding
 none_decided s table mask permanent (Decided given report) none decision found = absurd (none given report refl)
@@ -66,13 +66,13 @@ none_decided s table mask permanent (Damaged i) none decision found =
 none_decided s table mask permanent Invalid none decision found =
     found.2 (valid_again found.0 table s mask permanent (one_table s found.0 table found.1 decision.chosen.rows) decision)
 
--- .. and is of any set
+-- A finding that is no decision is of any set.
 pub set_for : (mask : ℕ) (finding : Finding) → IsUndecided finding → IsSetFound mask finding
 set_for mask (Decided table report) none = absurd (none table report refl)
 set_for mask (Damaged i) none = tt
 set_for mask Invalid none = tt
 
--- what is told then
+-- What a finding says of why no decision is found.
 pub told_undecided : (w : View) (mask : ℕ) (floors : List ℕ) (finding : Finding) → IsFindingAt w mask finding
     → ((s : DeviceState) → CanRead w s mask floors → IsFinding s finding) → IsToldAgain w mask floors finding
 told_undecided w mask floors (Decided table report) front finds = tt

@@ -1,4 +1,4 @@
--- A boot at rest: it writes nothing, or a set that is chosen is taken.
+-- Lemmas for a boot from a record Steady: it writes nothing, or takes a chosen set.
 use Rattle.std.proofs.Common.{◌≡◌, ◌⊎◌, ℕ, ◌+◌, Bool, Ok, refl}
 use Rattle.flash_model.specs.Chip.{Chip, Ends}
 use Rattle.sector_map.specs.declared.layout.SectorMap.{SectorMap}
@@ -21,7 +21,7 @@ use Rattle.boot_core.proofs.Booted.{boot_gives}
 use Rattle.boot_core.proofs.Measured.{fresh_none}
 use Rattle.boot_core.proofs.OnMap.{layout_same}
 
--- a boot that writes nothing
+-- The boot writes nothing.
 pub steady_gives : {T : Type 0} {value : T} {reply : Reply} (map : SectorMap) (left : ℕ) (old new : Chip) (mask : ℕ)
     → IsLaidOut map old → new ≡ old
     → ((s : DeviceState) → IsSteadyAt (view map old) s → EndsBoot map (left + 1) new s reply)
@@ -33,7 +33,7 @@ steady_gives {T} {value} {reply} map left old new mask laid same comes is told e
   idle = λ state stood kind nothing. same;
 }
 
--- the swap of a chosen set is begun, and finished
+-- The swap of a chosen set is begun, and finished.
 module _ (map : SectorMap) (old : Chip) (mask left : ℕ) (permanent : Bool) (asks : AreForGoodIn map mask old permanent) where
   decided : (s : DeviceState) (at : HasChosen map mask old s) → IsDecision s at.0 mask permanent
   decided s at = chosen_decision map old old mask permanent refl asks s at.0 at.1 at.2

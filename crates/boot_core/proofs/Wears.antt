@@ -21,7 +21,7 @@ use Rattle.boot_core.specs.Over.{AreFloorsRaised, IsRecordedOver, record_over}
 use Rattle.boot_core.specs.Wear.{AreMeasured, IsAfresh, IsSetMoved, IsWorn}
 use Rattle.boot_core.proofs.Measured.{fresh_after, fresh_more, fresh_wear}
 
--- a set goes back: its trailers are prepared, going back is recorded, and the swap is carried out
+-- A set reverts: its trailers are prepared, Back is recorded, and the swap back is carried out.
 pub fresh_back : (map : SectorMap) (old mid new : Chip) (mask : ℕ) (reply : Reply)
     → mid.erases ≤ old.erases + members map mask + 1
     → AreMeasured (view map old) (view map mid) Secondary mask
@@ -29,7 +29,7 @@ pub fresh_back : (map : SectorMap) (old mid new : Chip) (mask : ℕ) (reply : Re
 fresh_back map old mid new mask reply begun says (carried, is) =
     fresh_more map old new mask reply is (fresh_wear map old old mid new Secondary mask refl begun says carried)
 
--- a trial is over: the record is written, and a boot at rest follows
+-- A trial is over: the record is written, and a boot at rest follows.
 pub over_worn : (map : SectorMap) (old read mid new : Chip) (floors : List ℕ) (reply : Reply) → read ≡ old
     → mid.erases ≤ read.erases + 1 → Keeps map (only Log) read mid
     → ((s : DeviceState) (trial : Trial) → IsTrialAt (view map read) s trial
@@ -42,7 +42,7 @@ over_worn map old read mid new floors reply same one keeps records worn s trial 
     fresh_after map old read mid new reply same one keeps (worn (settled s floors)
     (records s trial (subst (λ w. IsTrialAt (view map w) s trial) (sym same) at)))
 
--- .. and where that writes nothing, nothing is written but the record
+-- If that boot writes nothing, only the record is written.
 pub over_alone : (map : SectorMap) (state : State) (old read mid new : Chip) (floors : List ℕ) → read ≡ old
     → new ≡ mid → AreFloorsRaised map old state.floors floors
     → Appends map (record_over state floors) read mid {T = Unit} (Ok tt) → IsRecordedOver map state old new
@@ -56,7 +56,7 @@ over_alone map state old read mid new floors same stays raised appended = record
 one_some : {X : Type 0} (x y : X) → Some x ≡ Some y → x ≡ y
 one_some x y same = cc
 
--- the record that was read is the one that stands
+-- The record that was read is that of the log.
 pub worn_read : (map : SectorMap) (old new : Chip) (found state : State) (reply : Reply)
     → state_of map old ≡ Some found → state_of map old ≡ Some state
     → ((s : DeviceState) → Stands map old s → IsWorn map found.kind found.mask old new reply)

@@ -1,4 +1,4 @@
--- A call that takes an event of a device is one of its parts.
+-- The contracts of a device's calls follow from those of its parts.
 use Rattle.std.proofs.Common.{◌≡◌, ℕ, Bool, Result, refl, subst}
 use Rattle.sector_map.specs.declared.layout.SectorMap.{SectorMap}
 use Rattle.sector_map.specs.Part.{Part}
@@ -14,7 +14,7 @@ use Rattle.boot_core.specs.Taking.{StepsHere, TakesCall, TakesHere}
 abbrev pub whole_of : Setup → DeviceView → Whole
 whole_of setup here = record { setup = setup; here = here }
 
--- .. whatever a refusal leaves
+-- Of any call, whatever a refusal leaves.
 pub device_steps : (event : DeviceEvent) (touched : Part → Bool) (map : SectorMap) (identity : Identity) (boots : ℕ)
     (old new : DeviceView) (result : Result Unit Fault) → StepsHere map event touched old new result
     → StepsDevice event touched (whole_of (made map identity boots) old) (whole_of (made map identity boots) new) result
@@ -27,7 +27,7 @@ device_steps event touched map identity boots old new result took = record {
   ends = took.ends;
 }
 
--- .. or whatever it leaves of the flash
+-- Of a call of uploads, whatever a refusal leaves of the flash.
 pub device_call : (event : DeviceEvent) (touched : Part → Bool) (map : SectorMap) (identity : Identity) (boots : ℕ)
     (old new : DeviceView) (result : Result Unit Fault) → TakesCall map event touched old new result
     → TakesEvent event touched (whole_of (made map identity boots) old) (whole_of (made map identity boots) new) result
