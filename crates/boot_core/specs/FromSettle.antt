@@ -1,5 +1,5 @@
 -- Contracts of a boot from a record Settle: one record for each function.
-use Rattle.std.specs.Prelude.{◌≡◌, ◌≢◌, ◌⊎◌, ◌+◌, ◌*◌, ◌≤◌, ℕ, Bool, true, false, List, Some}
+use Rattle.std.specs.Prelude.{◌≡◌, ◌≢◌, ◌⊎◌, ◌+◌, ◌*◌, ◌≤◌, ℕ, Bool, true, List, Some}
 use Rattle.std.specs.Prelude.{Result, OnOk, IfOk}
 use Rattle.common.specs.Limits.{MOST_BOOTS_LEFT}
 use Rattle.flash_model.specs.Chip.{Chip, Ends}
@@ -15,13 +15,11 @@ use Rattle.set_log.specs.declared.state.RecordKind.TheVariants as log
 use Rattle.set_log.specs.declared.state.State.{State}
 use Rattle.swap_scratch.specs.Swap.{share}
 use Rattle.upload.specs.Device.{DeviceState}
-use Rattle.upload.specs.Steady.{IsSteadyAt}
 use Rattle.upload.specs.View.{view}
 use Rattle.machine.specs.Boots.{IsDecision}
-use Rattle.machine.specs.Holding.{AreSettled, IsSettledAt, IsSwapped, IsTrialAt, Stands}
+use Rattle.machine.specs.Holding.{AreSettled, IsSettledAt, IsSwapped, Stands}
 use Rattle.machine.specs.Passing.{IsTakenAt, IsUpgraded, reply_of}
 use Rattle.machine.specs.Reading.{CanRead, IsFoundAgain}
-use Rattle.machine.specs.States.{new_trial, taken_for_good, taken_on_trial}
 use Rattle.machine.specs.Wear.{IsSettling, members, IsSetFound, IsSetOf}
 use Rattle.machine.specs.declared.finding.Finding.{Finding}
 use Rattle.machine.specs.declared.reply.Reply.{Reply}

@@ -1,13 +1,12 @@
 use Rattle.std.proofs.Common.{inl, refl, sym, subst}
-use Rattle.std.proofs.lemmas.Result.{IfOk-weaker}
 use Rattle.upload.proofs.Ends.{err_passed}
 use Rattle.sector_map.proofs.Parts.{laid_out_kept}
 use Rattle.machine.proofs.Swapping.{settling_kept}
 use Rattle.boot_core.specs.FromSettle.{RecordsTaken}
 use Rattle.boot_core.proofs.Records.{read_kept}
 use Rattle.boot_core.proofs.Concluding.{settled_as, settles_taken}
-use Rattle.boot_core.proofs.OnMap.{layout_kept, layout_more}
-use Rattle.boot_core.proofs.Passed.{ok_both, passes_err, then_ends}
+use Rattle.boot_core.proofs.OnMap.{layout_kept}
+use Rattle.boot_core.proofs.Passed.{passes_err}
 use Rattle.boot_core.proofs.settle.settle_and_record.Goals as goal
 
 pub record_taken-requires-clause-recorded : goal.record_taken-requires-clause-recorded
