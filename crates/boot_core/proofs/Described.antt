@@ -13,6 +13,7 @@ use Rattle.image_reading.specs.Fault.{IsFrontFault}
 use Rattle.image_reading.specs.Image.{BeginsIntact}
 use Rattle.image_reading.specs.Slot.{slot_bytes}
 use Rattle.image_reading.proofs.Descriptions.{front-unique, front_has_no_fault}
+use Rattle.boot_core.specs.Preparing.{IsSizeIn, IsUsedIn}
 use Rattle.boot_core.specs.SwapSize.{IsUsed}
 use Rattle.decision.proofs.Described.{described_front}
 
@@ -26,7 +27,7 @@ described_short whole d begins =
     omega (arith, long, same)
 
 -- The length of a slot.
-pub slot_long : (map : SectorMap) (chip : Chip) (image : ℕ) (side : Side) → IsLaidOut map chip
+slot_long : (map : SectorMap) (chip : Chip) (image : ℕ) (side : Side) → IsLaidOut map chip
     → length (slot_bytes map chip image side) ≡ slot_sectors map image * map.sector_size
 slot_long map chip image side laid = length_part map chip (Slot image side) laid
 
@@ -48,16 +49,36 @@ slot_small map image fits =
     omega (arith, all, fits.sector.most)
 
 -- A slot that begins with an intact image uses the length of that image.
-pub described_used : (slot : List ℕ) (d : Desc) → BeginsIntact slot d → IsUsed slot d.length
+described_used : (slot : List ℕ) (d : Desc) → BeginsIntact slot d → IsUsed slot d.length
 described_used slot d begins = record {
   intact = λ other also. ap (λ (e : Desc). e.length) (front-unique slot d other begins also);
   damaged = λ none. absurd (none d begins);
 }
 
 -- A slot that begins with no intact image uses all its bytes.
-pub fault_used : (slot : List ℕ) (fault : ImageError) (n : ℕ) → IsFrontFault slot fault → length slot ≡ n
+fault_used : (slot : List ℕ) (fault : ImageError) (n : ℕ) → IsFrontFault slot fault → length slot ≡ n
     → IsUsed slot n
 fault_used slot fault n failed long = record {
   intact = λ d begins. absurd (front_has_no_fault slot d fault begins failed);
   damaged = λ none. sym long;
+}
+
+-- A slot that begins with an intact image has the size of that image.
+pub described_size : (map : SectorMap) (chip : Chip) (image : ℕ) (side : Side) (d : Desc) → IsLaidOut map chip
+    → BeginsIntact (slot_bytes map chip image side) d → 0 < d.length
+    → IsSizeIn map image (IsUsedIn map image side) chip d.length
+described_size map chip image side d laid begins some = record {
+  exact = described_used (slot_bytes map chip image side) d begins;
+  some = some;
+  most = described_fits map chip image side d laid begins;
+}
+
+-- A slot that begins with no intact image has its own size.
+pub fault_size : (map : SectorMap) (chip : Chip) (image : ℕ) (side : Side) (fault : ImageError) (n : ℕ)
+    → IsLaidOut map chip → IsFrontFault (slot_bytes map chip image side) fault
+    → n ≡ slot_sectors map image * map.sector_size → 0 < n → IsSizeIn map image (IsUsedIn map image side) chip n
+fault_size map chip image side fault n laid failed long some = record {
+  exact = fault_used (slot_bytes map chip image side) fault n failed (slot_long map chip image side laid ∙ sym long);
+  some = some;
+  most = omega (arith, long);
 }

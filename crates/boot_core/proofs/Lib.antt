@@ -25,6 +25,7 @@ mod Booted
 mod Undecided
 mod Upgrades
 pub mod Measured
+mod Begun
 pub mod Wears
 mod Taken
 mod Finished

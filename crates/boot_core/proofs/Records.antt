@@ -44,6 +44,11 @@ pub has_state : (map : SectorMap) (chip : Chip) (s : State) → state_of map chi
     → IsSome (state_of map chip)
 has_state map chip s read = subst (λ state. IsSome state) (sym read) refl
 
+-- The log still has a state if it isn't touched.
+pub state_kept : (map : SectorMap) (touched : Part → Bool) (old new : Chip) (s : State)
+    → Keeps map touched old new → touched Log ≡ false → state_of map old ≡ Some s → IsSome (state_of map new)
+state_kept map touched old new s keeps off read = has_state map new s (read_kept map touched old new s keeps off read)
+
 -- The same set and floors, of another kind.
 pub fits_next : (map : SectorMap) (chip : Chip) (s : State) (kind : RecordKind) (left : ℕ)
     → state_of map chip ≡ Some s → kind_fits kind s.mask s.permanent left ≡ true

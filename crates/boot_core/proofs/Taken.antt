@@ -21,9 +21,9 @@ use Rattle.upload.specs.declared.sessions.Upload.{Upload}
 use Rattle.upload.specs.declared.error.UploadError.{UploadError}
 use Rattle.upload.specs.declared.error.UploadError.TheVariants as upload
 use Rattle.machine.specs.Holding.{DeviceView}
-use Rattle.machine.specs.Intake.{Row, Setup}
+use Rattle.machine.specs.Intake.{Row, Setup, Uploads}
 use Rattle.machine.specs.Passing.{StepsTo, upload_reply}
-use Rattle.machine.specs.Steps.{DeviceEvent}
+use Rattle.machine.specs.Steps.{Completes, DeviceEvent}
 use Rattle.machine.specs.declared.error.Fault.{Fault}
 use Rattle.machine.specs.declared.error.Fault.TheVariants as no
 use Rattle.machine.specs.declared.reply.Reply.{Reply}
@@ -70,29 +70,34 @@ pub record IsUploadEvent (happened : DeviceEvent) (row : Machine → Row) : Type
       → taken ≡ Err (upload.Flash flash.Cut) → TakesRow setup.map old new told tmid row taken
       → StepsTo setup (seen old told up) (seen new tnew false) happened Cut
 
+module _ (happened : DeviceEvent) (row : Machine → Row)
+    (completes : (setup : Setup) (m next : Machine) (reply : Reply) → Uploads (row m) m reply next
+    → Completes setup m happened reply next) where
+  own_step : (setup : Setup) (old new : Chip) (told tnew : List (Option Upload)) (up : Bool)
+      → IsReadyAt setup.map (seen old told up) → (taken : Result Unit UploadError) (reply : Reply)
+      → reply ≡ upload_reply taken → is_flash taken ≡ false → TakesRow setup.map old new told tnew row taken
+      → StepsTo setup (seen old told up) (seen new tnew up) happened reply
+  own_step setup old new told tnew up ready taken reply is none =
+      row_steps setup old told up ready.1.0 ready.0 ready.1.1 ready.1.2 new tnew row happened taken reply is none
+      (λ m next. completes setup m next (upload_reply taken))
+
 pub piece_event : (i : ℕ) (more : Bor (List ℕ)) → IsUploadEvent (event.Piece i more) (λ m. Pieces m i more.now)
 piece_event i more = record {
-  own = λ setup old new told tnew up ready taken reply is none row.
-      row_steps setup old told up ready.1.0 ready.0 ready.1.1 ready.1.2 new tnew (λ m. Pieces m i more.now) (event.Piece i more) taken reply
-      is none (λ m next done. done) row;
+  own = own_step (event.Piece i more) (λ m. Pieces m i more.now) (λ setup m next reply done. done);
   cut = λ setup old new told tmid tnew up ready taken none cut row.
       piece_down setup old new told tnew up ready.0 none ready.1.0 tmid taken ready.1.1 ready.1.2 cut i more row;
 }
 
 pub finish_event : (i : ℕ) → IsUploadEvent (event.Finish i) (λ m. FinishRow m i)
 finish_event i = record {
-  own = λ setup old new told tnew up ready taken reply is none row.
-      row_steps setup old told up ready.1.0 ready.0 ready.1.1 ready.1.2 new tnew (λ m. FinishRow m i) (event.Finish i) taken reply
-      is none (λ m next done. done) row;
+  own = own_step (event.Finish i) (λ m. FinishRow m i) (λ setup m next reply done. done);
   cut = λ setup old new told tmid tnew up ready taken none cut row.
       finish_down setup old new told tnew up ready.0 none ready.1.0 tmid taken ready.1.1 ready.1.2 cut i row;
 }
 
 pub withdraw_event : (i : ℕ) → IsUploadEvent (event.Withdraw i) (λ m. Withdraws m i)
 withdraw_event i = record {
-  own = λ setup old new told tnew up ready taken reply is none row.
-      row_steps setup old told up ready.1.0 ready.0 ready.1.1 ready.1.2 new tnew (λ m. Withdraws m i) (event.Withdraw i) taken reply
-      is none (λ m next done. done) row;
+  own = own_step (event.Withdraw i) (λ m. Withdraws m i) (λ setup m next reply done. done);
   cut = λ setup old new told tmid tnew up ready taken none cut row.
       withdraw_down setup old new told tnew up ready.0 none ready.1.0 tmid taken ready.1.1 ready.1.2 cut i row;
 }

@@ -7,7 +7,7 @@ use Rattle.swap_scratch.specs.Swap.{IsSwapAt}
 use Rattle.upload.proofs.Ends.{err_passed}
 use Rattle.machine.proofs.Returning.{back_settle_either, back_settle_ok}
 use Rattle.machine.proofs.Reverting.{back_done, back_resumes}
-use Rattle.boot_core.proofs.Records.{fits_next, has_state, kind_of_read, read_kept, stands_within}
+use Rattle.boot_core.proofs.Records.{fits_next, kind_of_read, read_kept, stands_within, state_kept}
 use Rattle.boot_core.proofs.OnMap.{layout_kept, layout_more}
 use Rattle.boot_core.proofs.Passed.{passes_err, then_ends}
 use Rattle.boot_core.proofs.back.swap_back.Goals as goal
@@ -22,8 +22,7 @@ swap_set-requires g c = record {
 
 pub append_state-requires-clause-has_state : goal.append_state-requires-clause-has_state
 append_state-requires-clause-has_state g c =
-    has_state c.args.map.now _ c.args.state.now
-    (read_kept c.args.map.now _ _ _ c.args.state.now c.swap_set.ensures.outside refl c.requires.read)
+    state_kept c.args.map.now _ _ _ c.args.state.now c.swap_set.ensures.outside refl c.requires.read
 
 pub append_state-requires-clause-fits : goal.append_state-requires-clause-fits
 append_state-requires-clause-fits g c =

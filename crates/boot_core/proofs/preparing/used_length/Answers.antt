@@ -1,6 +1,5 @@
 use Rattle.std.proofs.Common.{rules, arith}
-use Rattle.image_reading.specs.Slot.{slot_bytes}
-use Rattle.boot_core.proofs.Described.{described_fits, described_used, fault_used, slot_long, slot_small}
+use Rattle.boot_core.proofs.Described.{described_fits, described_size, fault_size, slot_small}
 use Rattle.boot_core.proofs.Passed.{here_ends}
 use Rattle.boot_core.proofs.preparing.used_length.Goals as goal
 
@@ -13,37 +12,19 @@ overflow_cast-result g c =
     omega (arith, fits, small)
 
 pub returns-in-Some : goal.returns-in-Some
-returns-in-Some g c =
-    let begins = rw c.in-Some.is at c.in_ok-description.ensures.found in
-    record {
-      same = c.intact_image.ensures.same;
-      ok = record {
-        exact = described_used
-            (slot_bytes c.args.map.now (g.F.Flash.chip c.args.flash.now) c.args.image c.args.side)
-            c.in-Some.description begins;
-        some = search rules;
-        most = described_fits c.args.map.now (g.F.Flash.chip c.args.flash.now) c.args.image
-            c.args.side c.in-Some.description c.requires.laid_out begins;
-      };
-      ends = rw c.intact_image.ensures.same here_ends;
-    }
+returns-in-Some g c = record {
+  same = c.intact_image.ensures.same;
+  ok = described_size c.args.map.now (g.F.Flash.chip c.args.flash.now) c.args.image c.args.side c.in-Some.description
+      c.requires.laid_out (rw c.in-Some.is at c.in_ok-description.ensures.found) (search rules);
+  ends = rw c.intact_image.ensures.same here_ends;
+}
 
 pub returns-in-None : goal.returns-in-None
 returns-in-None g c =
     let failed = rw c.in-None.is at c.in_ok-description.ensures.found in
     record {
       same = c.intact_image.ensures.same;
-      ok = record {
-        exact = fault_used (slot_bytes c.args.map.now (g.F.Flash.chip c.args.flash.now) c.args.image c.args.side)
-            failed.0 c.slot_length.result failed.1
-            (omega (
-              arith,
-              slot_long c.args.map.now (g.F.Flash.chip c.args.flash.now) c.args.image c.args.side
-                  c.requires.laid_out,
-              c.slot_length.ensures,
-            ));
-        some = search rules;
-        most = search rules;
-      };
+      ok = fault_size c.args.map.now (g.F.Flash.chip c.args.flash.now) c.args.image c.args.side failed.0
+          c.slot_length.result c.requires.laid_out failed.1 c.slot_length.ensures (search rules);
       ends = rw c.intact_image.ensures.same here_ends;
     }

@@ -1,20 +1,16 @@
 use Rattle.std.proofs.Common.{arith, inl, refl}
-use Rattle.std.proofs.lemmas.Result.{IfOk-weaker}
 use Rattle.upload.proofs.Ends.{err_passed}
 use Rattle.machine.proofs.Frames.{primary_aside, steady_kept}
 use Rattle.machine.proofs.Beginning.{begin_either, begin_ok}
-use Rattle.boot_core.proofs.Measured.{measured}
-use Rattle.sector_map.specs.declared.layout.Side.TheVariants.{Primary}
-use Rattle.boot_core.proofs.Records.{fits_swap, has_state, read_kept}
-use Rattle.boot_core.proofs.OnMap.{layout_kept, layout_more}
-use Rattle.boot_core.proofs.Passed.{passes_err, then_ends}
+use Rattle.boot_core.proofs.Begun.{begun}
+use Rattle.boot_core.proofs.Records.{fits_swap, state_kept}
+use Rattle.boot_core.proofs.OnMap.{layout_kept}
+use Rattle.boot_core.proofs.Passed.{passes_err}
 use Rattle.boot_core.proofs.steady.begin_swap.Goals as goal
 
 pub append_state-requires-clause-has_state : goal.append_state-requires-clause-has_state
 append_state-requires-clause-has_state g c =
-    let map = c.args.map.now in
-    has_state map _ c.args.state.now
-    (read_kept map _ _ _ c.args.state.now c.prepare_set.ensures.outside refl c.requires.read)
+    state_kept c.args.map.now _ _ _ c.args.state.now c.prepare_set.ensures.outside refl c.requires.read
 
 pub append_state-requires-clause-fits : goal.append_state-requires-clause-fits
 append_state-requires-clause-fits g c = fits_swap c.args.map.now _ c.args.state.now c.args.mask c.args.permanent
@@ -30,20 +26,11 @@ returns-in_err-prepare_set g c =
 
 pub returns : goal.returns
 returns g c =
-    let map = c.args.map.now in
-    let prepares = c.in_ok-prepare_set.ensures in
-    let records = c.append_state.ensures in
-    record {
-      layout = layout_more (layout_kept c.requires.laid_out prepares.outside) records.outside;
-      stands = begin_either map _ _ _ c.requires.laid_out _ _ _ c.requires.read prepares.outside prepares.ok
-          records.outside records.either;
-      done = IfOk-weaker c.append_state.result _ _ (λ now recorded. record {
-        ok = begin_ok map _ _ _ c.requires.laid_out _ _ _ c.requires.read prepares.outside prepares.ok
-            records.outside recorded.says;
-        recorded = recorded.recorded;
-        is = recorded.is;
-        moves = measured map _ _ _ Primary c.args.mask prepares.outside prepares.ready records.outside;
-        erases = omega (arith, recorded.erases, prepares.erases);
-      }) records.done;
-      ends = then_ends prepares.ends records.ends;
-    }
+    let ready = c.in_ok-prepare_set.ensures in
+    let log = c.append_state.ensures in
+    let begins = begin_ok c.args.map.now _ _ _ c.requires.laid_out _ _ c.args.permanent c.requires.read ready.outside
+    ready.ok log.outside in
+    begun c.requires.laid_out ready log
+    (begin_either c.args.map.now _ _ _ c.requires.laid_out _ _ _ c.requires.read ready.outside ready.ok log.outside
+    log.either)
+    (λ now r moves wear. record { ok = begins r.says; recorded = r.recorded; is = r.is; moves = moves; erases = wear })

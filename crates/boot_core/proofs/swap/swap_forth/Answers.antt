@@ -12,7 +12,7 @@ use Rattle.decision.specs.Found.{HasTable}
 use Rattle.machine.proofs.Resuming.{never_swapped}
 use Rattle.machine.proofs.Swapping.{settle_either, settle_ok, swap_done, swap_resumes}
 use Rattle.boot_core.proofs.Readable.{can_read_before}
-use Rattle.boot_core.proofs.Records.{fits_next, has_state, kind_of_read, read_kept, stands_within}
+use Rattle.boot_core.proofs.Records.{fits_next, kind_of_read, read_kept, stands_within, state_kept}
 use Rattle.boot_core.proofs.OnMap.{layout_kept, layout_more}
 use Rattle.boot_core.proofs.Passed.{passes_err, then_ends, then_ok}
 use Rattle.boot_core.proofs.Undecided.{alone_for, never_again, never_recorded}
@@ -37,7 +37,7 @@ append_state-requires g c =
     let state = c.args.state.now in
     rw c.find_again.ensures.same (record {
       laid_out = laid_out_kept map _ _ _ c.requires.laid_out c.swap_set.ensures.outside;
-      has_state = has_state map _ state (read_kept map _ _ _ state c.swap_set.ensures.outside refl c.requires.read);
+      has_state = state_kept map _ _ _ state c.swap_set.ensures.outside refl c.requires.read;
       fits = fits_next map _ state Settle state.left c.requires.read
           (kind_of_read map _ state Swap c.requires.read c.requires.kind);
     })
