@@ -94,12 +94,19 @@ cut_by_due old new reply sound still due =
     }
 
 -- The law of a flash before and after an event gives that it was cut as due.
-pub cut_as_due : (old new : Chip) (reply : Reply) → IsCutAsArmed old → IsCutAsArmed new
+cut_as_due : (old new : Chip) (reply : Reply) → IsCutAsArmed old → IsCutAsArmed new
     → new.cuts ≡ old.cuts + cut_of reply → new.fixed ≡ old.fixed → IsCutAsDue old reply new
 cut_as_due old new reply before after counted fixed = record {
   counted = omega (arith, before, after, counted);
   fixed = fixed;
 }
+
+-- The same, by the law of the flash that was borrowed before and after the event.
+pub due_by_law : {F : Type 0} (chip : F → Chip) → ((flash : F) → IsCutAsArmed (chip flash)) → (first last : F)
+    (old new : Chip) (reply : Reply) → chip first ≡ old → chip last ≡ new → new.cuts ≡ old.cuts + cut_of reply
+    → new.fixed ≡ old.fixed → IsCutAsDue old reply new
+due_by_law chip law first last old new reply before after =
+    cut_as_due old new reply (subst IsCutAsArmed before (law first)) (subst IsCutAsArmed after (law last))
 
 -- Power that is restored afterwards changes none of this.
 pub due_powered : (old mid new : Chip) (reply : Reply) → new ≡ record mid { is_on = true }

@@ -2,6 +2,7 @@
 use Rattle.std.proofs.Common.{◌≡◌, ℕ, Bool, true, false, List, Option, Some, Result, Ok, Err, refl, sym, subst, ◌∙◌}
 use Rattle.std.proofs.Common.{true≢false}
 use Rattle.flash_model.specs.Chip.{Chip, Ends}
+use Rattle.flash_model.proofs.Ending.{no_error}
 use Rattle.flash_model.specs.declared.error.FlashError.{FlashError}
 use Rattle.flash_model.specs.declared.error.FlashError.TheVariants as flash
 use Rattle.sector_map.specs.declared.layout.SectorMap.{SectorMap}
@@ -9,23 +10,27 @@ use Rattle.sector_map.specs.declared.layout.Side.TheVariants.{Primary}
 use Rattle.sector_map.specs.Map.{IsLaidOut, Keeps}
 use Rattle.sector_map.specs.Part.{TrailerOf, is_member, only}
 use Rattle.sector_map.proofs.Parts.{laid_out_kept}
-use Rattle.manifest.specs.declared.identity.Identity.{Identity}
 use Rattle.common.specs.declared.event.Event.TheVariants as event
+use Rattle.upload.specs.Device.{DeviceState}
 use Rattle.upload.specs.Sessions.{AllOpenAt}
 use Rattle.upload.specs.View.{view}
 use Rattle.upload.specs.declared.sessions.Upload.{Upload}
-use Rattle.machine.specs.Passing.{StepsTo}
+use Rattle.machine.specs.Holding.{IsAtRest}
+use Rattle.machine.specs.Intake.{Setup}
+use Rattle.machine.specs.Passing.{EndsConfirm, StepsTo}
+use Rattle.machine.specs.Steps.{cut_of}
 use Rattle.machine.proofs.Uploading.{open_confirmed}
-use Rattle.boot_core.specs.Answers.{EndsCall, reply_of_result}
+use Rattle.boot_core.specs.Answers.{is_stopped, reply_of_result}
 use Rattle.boot_core.specs.Device.{made, seen}
 use Rattle.boot_core.specs.Taking.{StepsHere}
 use Rattle.boot_core.proofs.NotReady.{not_down}
+use Rattle.boot_core.proofs.Stopping.{ended}
 use Rattle.set_log.specs.Log.{state_of}
 use Rattle.set_log.specs.declared.state.State.{State}
 use Rattle.set_log.specs.declared.state.RecordKind.TheVariants as log
 use Rattle.machine.specs.declared.error.Fault.{Fault}
 use Rattle.machine.specs.declared.error.Fault.TheVariants as no
-use Rattle.boot_core.specs.Confirming.{AnswersTrial, IsOfSet}
+use Rattle.boot_core.specs.Confirming.{AnswersTrial, Confirms, IsOfSet}
 use Rattle.boot_core.specs.Ready.{LogsTrialOf}
 
 some_same : (x y : State) → Some x ≡ Some y → x ≡ y
@@ -69,20 +74,20 @@ pub flash_not_tried : (error : FlashError) (given : Fault) (result : Result Unit
 flash_not_tried error given result passed is told = cc
 
 -- The flash didn't stop the confirmation.
-pub confirm_ends : (map : SectorMap) (image : ℕ) (old new : Chip) (told : List (Option Upload)) (up : Bool)
-    (result : Result Unit Fault) → IsLaidOut map old → AllOpenAt (view map old) told
-    → Keeps map (only (TrailerOf image Primary)) old new → up ≡ true
-    → ((identity : Identity) (boots : ℕ) → old.is_on ≡ true
-    → StepsTo (made map identity boots) (seen old told up) (seen new told up) (event.Confirm image)
-    (reply_of_result result))
-    → (old.is_on ≡ false → ⊥) → EndsCall (reply_of_result result) (seen old told up) (seen new told up)
+pub confirm_ends : (map : SectorMap) (image : ℕ) (old new : Chip) (told : List (Option Upload)) (up answer : Bool)
+    (result : Result Unit Fault) → IsLaidOut map old → AllOpenAt (view map old) told → up ≡ true
+    → Confirms map image old new (Ok answer)
+    → ((setup : Setup) → Keeps setup.map (only (TrailerOf image Primary)) old new
+    → ((s : DeviceState) → IsAtRest (view setup.map old) s → EndsConfirm (view setup.map new) s image answer)
+    → StepsTo setup (seen old told up) (seen new told up) (event.Confirm image) (reply_of_result result))
+    → cut_of (reply_of_result result) ≡ 0 → is_stopped (reply_of_result result) ≡ false
     → StepsHere map (event.Confirm image) (only (TrailerOf image Primary)) (seen old told up) (seen new told up) result
-confirm_ends map image old new told up result laid opens outside booted steps never ends = record {
-  laid = laid_out_kept map (only (TrailerOf image Primary)) old new laid outside;
-  opens = open_confirmed map old new image told outside opens;
-  steps = steps;
-  outside = outside;
+confirm_ends map image old new told up answer result laid opens booted confirms steps none unstopped = record {
+  laid = laid_out_kept map (only (TrailerOf image Primary)) old new laid confirms.outside;
+  opens = open_confirmed map old new image told confirms.outside opens;
+  steps = λ identity boots on. steps (made map identity boots) confirms.outside confirms.ok;
+  outside = confirms.outside;
   down = not_down result (seen old told up) (seen new told up) booted;
-  off = λ here off. absurd (never off);
-  ends = ends;
+  off = λ here off. absurd (no_error answer _ (confirms.off off));
+  ends = ended old new told told up up (reply_of_result result) none unstopped confirms.ends.uncut;
 }

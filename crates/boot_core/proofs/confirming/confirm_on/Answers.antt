@@ -6,12 +6,11 @@ use Rattle.upload.proofs.OpenOnes.{open_none}
 use Rattle.machine.specs.Passing.{StepsTo}
 use Rattle.machine.proofs.Stepping.{steps_confirmed, steps_not_on_trial}
 use Rattle.machine.specs.declared.error.Fault.TheVariants as no
-use Rattle.machine.specs.declared.reply.Reply.TheVariants.{Done, Refused}
 use Rattle.boot_core.specs.Answers.{fault_reply}
 use Rattle.set_log.specs.Log.{state_of}
 use Rattle.boot_core.specs.Device.{made, seen}
 use Rattle.boot_core.specs.Ready.{LogsTrialOf}
-use Rattle.boot_core.proofs.Stopping.{confirm_stopped, ended, no_own, stopped_ends}
+use Rattle.boot_core.proofs.Stopping.{confirm_stopped, no_own, stopped_ends}
 use Rattle.boot_core.proofs.NotReady.{not_down}
 use Rattle.boot_core.proofs.Stops.{flash_off}
 use Rattle.boot_core.proofs.Trials.{confirm_ends, flash_not_tried, stops_tried}
@@ -21,12 +20,9 @@ pub returns-in-Ok-true : goal.returns-in-Ok-true
 returns-in-Ok-true g c =
     let answered = rw c.in-Ok-true.field-0-test at c.in-Ok-true.ensures.answers in
     record {
-      here = confirm_ends c.args.map.now c.args.image _ _ _ _ _ c.requires.laid_out c.requires.opens
-          c.confirm.ensures.outside c.if-not-is_booted.false
-          (λ identity boots on. steps_confirmed (made c.args.map.now identity boots) _ _ _ c.args.image
-          c.if-not-is_booted.false _ _ c.in-Ok-true.field-0-test c.confirm.ensures.outside c.in-Ok-true.ensures.ok)
-          (λ off. no_error _ _ (c.in-Ok-true.ensures.off off))
-          (ended _ _ _ _ _ _ Done refl refl c.in-Ok-true.ensures.ends.uncut);
+      here = confirm_ends c.args.map.now c.args.image _ _ _ _ _ _ c.requires.laid_out c.requires.opens
+          c.if-not-is_booted.false c.in-Ok-true.ensures (λ setup. steps_confirmed setup _ _ _ c.args.image
+          c.if-not-is_booted.false _ _ c.in-Ok-true.field-0-test) refl refl;
       refused = tt;
       kept = tt;
       ok = answered;
@@ -39,12 +35,9 @@ returns-in-Ok-false g c =
     let same = c.in-Ok-false.ensures.same c.in-Ok-false.field-0-test in
     let all = ap (λ chip. seen chip c.args.uploads.now.sessions c.args.is_booted.now) same in
     record {
-      here = confirm_ends c.args.map.now c.args.image _ _ _ _ _ c.requires.laid_out c.requires.opens
-          c.confirm.ensures.outside c.if-not-is_booted.false
-          (λ identity boots on. steps_not_on_trial (made c.args.map.now identity boots) _ _ _ c.args.image
-          c.if-not-is_booted.false _ _ c.in-Ok-false.field-0-test c.confirm.ensures.outside c.in-Ok-false.ensures.ok)
-          (λ off. no_error _ _ (c.in-Ok-false.ensures.off off))
-          (ended _ _ _ _ _ _ (Refused no.NotOnTrial) refl refl c.in-Ok-false.ensures.ends.uncut);
+      here = confirm_ends c.args.map.now c.args.image _ _ _ _ _ _ c.requires.laid_out c.requires.opens
+          c.if-not-is_booted.false c.in-Ok-false.ensures (λ setup. steps_not_on_trial setup _ _ _ c.args.image
+          c.if-not-is_booted.false _ _ c.in-Ok-false.field-0-test) refl refl;
       refused = λ own. same;
       kept = λ own. all;
       ok = tt;
