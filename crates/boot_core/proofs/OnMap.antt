@@ -1,5 +1,5 @@
 -- What a boot leaves of its map and after it, from one call to the next.
-use Rattle.std.proofs.Common.{◌≡◌, Bool, true, sym, subst, true≢false}
+use Rattle.std.proofs.Common.{◌≡◌, Bool, sym, subst, true≢false}
 use Rattle.flash_model.specs.Chip.{Chip}
 use Rattle.sector_map.specs.declared.layout.SectorMap.{SectorMap}
 use Rattle.sector_map.specs.Part.{Part, any_part}

@@ -1,4 +1,4 @@
-use Rattle.std.proofs.Common.{◌∙◌, true, sym, true≢false}
+use Rattle.std.proofs.Common.{◌∙◌, sym, true≢false}
 use Rattle.machine.proofs.Confirming.{confirm_cut, confirm_ends}
 use Rattle.machine.proofs.Stepping.{if_ok_both}
 use Rattle.boot_core.proofs.Trials.{logged_trial}

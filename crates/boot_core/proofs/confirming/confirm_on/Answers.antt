@@ -5,7 +5,6 @@ use Rattle.sector_map.proofs.Parts.{laid_out_kept}
 use Rattle.upload.proofs.OpenOnes.{open_none}
 use Rattle.machine.specs.Passing.{StepsTo}
 use Rattle.machine.proofs.Stepping.{steps_confirmed, steps_not_on_trial}
-use Rattle.machine.specs.declared.error.Fault.TheVariants as no
 use Rattle.boot_core.specs.Answers.{fault_reply}
 use Rattle.set_log.specs.Log.{state_of}
 use Rattle.boot_core.specs.Device.{made, seen}

@@ -1,4 +1,4 @@
-use Rattle.std.proofs.Common.{◌+◌, false, refl}
+use Rattle.std.proofs.Common.{◌+◌, refl}
 use Rattle.std.proofs.lemmas.Result.{IfOk-weaker}
 use Rattle.upload.proofs.Ends.{err_passed}
 use Rattle.upload.specs.Device.{DeviceState}
