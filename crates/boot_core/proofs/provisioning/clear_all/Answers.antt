@@ -13,13 +13,11 @@ loop-image-init g c = record {
 }
 
 pub loop-image-preserved : goal.loop-image-preserved
-loop-image-preserved g c =
-    let kept = c.loop-image.invariant in
-    record {
-      laid_out = laid_out_kept _ _ _ _ kept.laid_out c.clear_image.ensures.outside;
-      outside = trailers_more _ _ _ _ _ kept.outside c.clear_image.ensures.outside;
-      cleared = cleared_more c.args.map.now _ _ _ kept.cleared c.clear_image.ensures.outside
-          c.in_ok-clear_image.ensures.ok;
-      uncut = search rules;
-      asleep = search rules;
-    }
+loop-image-preserved g c = record {
+  laid_out = laid_out_kept _ _ _ _ c.loop-image.invariant.laid_out c.clear_image.ensures.outside;
+  outside = trailers_more _ _ _ _ _ c.loop-image.invariant.outside c.clear_image.ensures.outside;
+  cleared = cleared_more c.args.map.now _ _ _ c.loop-image.invariant.cleared c.clear_image.ensures.outside
+      c.in_ok-clear_image.ensures.ok;
+  uncut = search rules;
+  asleep = search rules;
+}

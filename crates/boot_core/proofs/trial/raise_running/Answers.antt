@@ -35,12 +35,11 @@ loop-image-preserved g c =
 
 pub returns : goal.returns
 returns g c =
-    let done = c.loop-image.invariant in
     let all : c.loop-image.image ≡ c.args.map.now.images = omega arith in
     record {
-      same = done.same;
-      ok = λ s runs same.
-          subst (λ n. IsRaised n s.running s.floors c.loop-image.raised) (all ∙ runs.images) (done.raises s runs same);
-      rest = done.rest;
-      ends = rw done.same here_ends;
+      same = c.loop-image.invariant.same;
+      ok = λ s runs same. subst (λ n. IsRaised n s.running s.floors c.loop-image.raised) (all ∙ runs.images)
+          (c.loop-image.invariant.raises s runs same);
+      rest = c.loop-image.invariant.rest;
+      ends = rw c.loop-image.invariant.same here_ends;
     }

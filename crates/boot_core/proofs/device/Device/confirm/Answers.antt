@@ -9,12 +9,11 @@ use Rattle.boot_core.proofs.device.Device.confirm.Goals as goal
 
 pub returns : goal.returns
 returns g c =
-    let boots = c.self.inside.left + 1 in
-    let new = whole_of (made c.self.inside.map c.self.inside.identity boots)
+    let new = whole_of (made c.self.inside.map c.self.inside.identity (c.self.inside.left + 1))
     (seen (g.F.Flash.chip c.confirm_on.new.flash) c.confirm_on.new.uploads.sessions c.confirm_on.new.is_booted) in
     subst (λ (whole : Whole). ConfirmsTried c.args.image whole new c.confirm_on.result) c.self.view_is (record {
-      stepped = device_steps (event.Confirm c.args.image) (only (TrailerOf c.args.image Primary)) c.self.inside.map
-          c.self.inside.identity boots _ _ c.confirm_on.result c.confirm_on.ensures.here;
+      stepped = device_steps (event.Confirm c.args.image) (only (TrailerOf c.args.image Primary)) _ _ _ _ _
+          c.confirm_on.result c.confirm_on.ensures.here;
       refused = c.confirm_on.ensures.refused;
       kept = c.confirm_on.ensures.kept;
       ok = c.confirm_on.ensures.ok;

@@ -8,12 +8,11 @@ use Rattle.boot_core.proofs.device.Device.finish.Goals as goal
 
 pub returns : goal.returns
 returns g c =
-    let boots = c.self.inside.left + 1 in
-    let new = whole_of (made c.self.inside.map c.self.inside.identity boots)
+    let new = whole_of (made c.self.inside.map c.self.inside.identity (c.self.inside.left + 1))
     (seen (g.F.Flash.chip c.finish.new.flash) c.finish.new.uploads.sessions c.finish.new.is_booted) in
     subst (λ (whole : Whole). FinishesUpload c.args.image whole new c.finish.result) c.self.view_is (record {
-      call = device_call (event.Finish c.args.image) (incoming_of c.args.image) c.self.inside.map
-          c.self.inside.identity boots _ _ c.finish.result c.finish.ensures.call;
+      call = device_call (event.Finish c.args.image) (incoming_of c.args.image) _ _ _ _ _
+          c.finish.result c.finish.ensures.call;
       size = c.finish.ensures.size;
       slot = c.finish.ensures.slot;
       unit = c.finish.ensures.unit;
