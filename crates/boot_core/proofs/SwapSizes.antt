@@ -5,7 +5,9 @@ use Rattle.flash_model.specs.Chip.{Chip}
 use Rattle.sector_map.specs.declared.layout.SectorMap.{SectorMap}
 use Rattle.sector_map.specs.declared.layout.Side.{Side}
 use Rattle.sector_map.specs.declared.layout.Side.TheVariants.{Primary, Secondary}
-use Rattle.sector_map.specs.Part.{TrailerOf, is_member, only, same_side}
+use Rattle.sector_map.specs.Part.{TrailerOf, is_member, only, same_side, trailers_on}
+use Rattle.sector_map.proofs.Parts.{keeps_wider}
+use Rattle.sector_map.proofs.Touched.{trailer_on_side}
 use Rattle.sector_map.specs.Map.{Keeps}
 use Rattle.trailer.specs.Fields.{Fields, erased_fields}
 use Rattle.image_reading.specs.Image.{BeginsIntact}
@@ -65,6 +67,12 @@ made_ready map i size side erased mid new clean moves same written keeps = recor
   moves = moves_kept (view map erased) (view map new) i size
       (λ on. (view_kept map _ _ _ keeps).slots i on refl ∙ ap (λ (v : Chip). (view map v).slot i on) same) moves;
 }
+
+-- The trailer of a member is one of its mask.
+pub member_kept : (map : SectorMap) (mask i : ℕ) (side : Side) (old new : Chip) → is_member mask i ≡ true
+    → Keeps map (only (TrailerOf i side)) old new → Keeps map (trailers_on mask side) old new
+member_kept map mask i side old new member =
+    keeps_wider map (only (TrailerOf i side)) (trailers_on mask side) old new (trailer_on_side mask i side member)
 
 -- An image that is ready stays so while another trailer is prepared.
 pub ready_kept : (map : SectorMap) (i j : ℕ) (side on : Side) (old new : Chip) → i ≢ j
