@@ -21,7 +21,7 @@ pub record HasRecordOf (map : SectorMap) (which : RecordKind) (state : State) (c
   pub read : state_of map chip ≡ Some state
   pub kind : state.kind ≡ which
 
--- The map is laid out on the flash, the log says this state, and a set of some images of the map is
+-- The map is laid out on the flash, and the log says this state. A set of some images of the map is
 -- to be taken.
 pub record CanTake (map : SectorMap) (state : State) (mask : ℕ) (chip : Chip) : Type 0 where
   pub laid_out : IsLaidOut map chip

@@ -7,8 +7,8 @@ use Rattle.image_reading.specs.Image.{BeginsIntact}
 use Rattle.upload.specs.View.{View}
 use Rattle.machine.specs.Prepared.{IsPrepared}
 
--- How many bytes of a slot are used: the length of the intact image that it begins with, or the
--- length of the slot if it begins with none.
+-- How many bytes of a slot are used: the length of its intact image, or that of the slot if it
+-- begins with none.
 pub record IsUsed (slot : List ℕ) (n : ℕ) : Type 0 where
   pub intact : (description : Desc) → BeginsIntact slot description → n ≡ description.length
   pub damaged : ((description : Desc) → BeginsIntact slot description → ⊥) → n ≡ length slot

@@ -1,5 +1,5 @@
--- Contracts of the calls of a device that is held in parts: what they do to the flash, to the open
--- uploads, and to whether the device is booted.
+-- Contracts of the calls of a device that is held in parts: a flash, the open uploads, and whether
+-- the device is booted.
 use Rattle.std.specs.Prelude.{◌≡◌, ℕ, Bool, true, false, List, Option, Some, Result, Ok, Err, IfErr, OnOk}
 use Rattle.std.specs.Borrow.{Bor}
 use Rattle.common.specs.declared.event.Event.TheVariants as event

@@ -1,5 +1,5 @@
-//! The calls of a device that is held in parts: its owner keeps the flash, the open uploads and
-//! whether it is booted elsewhere between calls.
+//! The calls of a device that is held in parts: the flash, the open uploads, and whether the device
+//! is booted. Its owner keeps these elsewhere between calls.
 //!
 //! Each call promises what the call of a `Device` does. Its caller has to ensure what holds of each
 //! `Device`: the map is laid out on the flash, and the open uploads match the flash.

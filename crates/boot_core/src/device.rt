@@ -127,8 +127,9 @@ impl<F: Flash> Device<F> {
         )
     }
 
-    /// Accepts a manifest, given by the bytes of its JSON text: opens an upload for each image that
-    /// it names, and cancels pending requests for these images. Allocates while it reads the text.
+    /// Accepts a manifest, given by the bytes of its JSON text. It opens an upload for each image
+    /// that the manifest names, and cancels pending requests for these images. Allocates while it
+    /// reads the text.
     ///
     /// # Errors
     /// The first that applies:
@@ -163,9 +164,9 @@ impl<F: Flash> Device<F> {
         )
     }
 
-    /// Accepts a manifest that was parsed before, as `accept` accepts any text that means it: opens
-    /// an upload for each image that it names, and cancels pending requests for these images. Does
-    /// not allocate.
+    /// Accepts a manifest that was parsed before, as `accept` does any text that means it. It opens
+    /// an upload for each image that the manifest names, and cancels pending requests for these
+    /// images. Does not allocate.
     ///
     /// If two components name the same image, the last one counts. A `Manifest` has neither vendor
     /// nor class: its reader compares them with those of the device.
@@ -289,8 +290,9 @@ impl<F: Flash> Device<F> {
         )
     }
 
-    /// Confirms an image of the set on trial: sets `image_ok` in its primary trailer (MCUboot design
-    /// document, "Image Trailer"). A confirmed image can be confirmed again. Does not allocate.
+    /// Confirms an image of the set on trial: sets `image_ok` in its primary trailer (MCUboot
+    /// design document, "Image Trailer"). A confirmed image can be confirmed again. Does not
+    /// allocate.
     ///
     /// - `image`: its number, from 0.
     ///

@@ -10,8 +10,8 @@ use image_reading::intact_image;
 use sector_map::{SectorMap, Side, is_member};
 use trailer::{clear, write_size};
 
-/// How many bytes of a slot a swap has to move: the length of the image that the slot begins with,
-/// or the length of the slot if no intact image is there.
+/// How many bytes of a slot a swap has to move: the length of its intact image, or the slot's length
+/// if it begins with none.
 fn used_length<F: Flash>(flash: &mut F, map: &SectorMap, image: u8, side: Side) -> Result<u32>
     requires { HasImage map.now image (F.chip flash.old) }
     ensures { Tells (IsSizeIn map.now image (IsUsedIn map.now image side))
@@ -63,7 +63,7 @@ fn prepare_member<F: Flash>(
 
 /// Prepares the trailers of a set on one side to count the steps of a swap, one trailer after the
 /// other. Then no status unit of them is set. Each holds how many bytes its swap moves: the longer
-/// length of the two images, or that of the slot if one slot begins with none.
+/// length of the two images, or the slot's if one slot begins with none.
 ///
 /// # Errors
 /// `Cut`: power failed. These trailers hold any bytes, and all else is unchanged. `Off`: the flash

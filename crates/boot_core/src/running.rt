@@ -59,9 +59,9 @@ fn call<F: Flash>(alloc: Global, device: &mut Device<F>, event: &Event<&[u8]>) -
 /// refused with `NotBooted`.
 ///
 /// This holds for every event, wherever power fails in it. If the device holds a state of the
-/// machine of whole images, the event with this reply is a step of that machine, and the device
-/// then holds the next state. The reply is `Cut` exactly if a write was cut: one that was armed, or
-/// one that the flash counts as a fault.
+/// machine of whole images, the event with this reply is a step of that machine. The device then
+/// holds the next state. The reply is `Cut` exactly if a write was cut: one that was armed, or one
+/// that the flash counts as a fault.
 ///
 /// The flash has to have power when the step begins, and has it when the step ends. So consecutive
 /// steps are a run. A caller who reports each reply before the next step needs no memory for the
@@ -89,9 +89,8 @@ pub fn step<F: Flash>(alloc: Global, device: &mut Device<F>, event: &Event<&[u8]
 /// reset is then refused with `NotBooted`.
 ///
 /// This holds for every list of events, wherever power fails in it. If the device holds a state of
-/// the machine of whole images, the events with these replies are a run of that machine, and the
-/// device then holds its last state. The reply to an event is `Cut` exactly if a write was cut in
-/// it.
+/// the machine of whole images, the events with these replies are a run of that machine. The device
+/// then holds its last state. The reply to an event is `Cut` exactly if a write was cut in it.
 ///
 /// The flash has to have power when the run begins, and has it when the run ends.
 ///

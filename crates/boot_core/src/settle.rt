@@ -128,8 +128,8 @@ pub(crate) fn settle_and_record<F: Flash>(
     }
 }
 
-/// From `Settle` on, with what was found of its decision: if that is a decision, settles the set
-/// and records that it is on trial, with `left` more boots, or permanent. Otherwise writes nothing.
+/// From `Settle` on, with what was found of its decision. If that is a decision, settles the set
+/// and records that it is permanent, or on trial with `left` more boots. Otherwise writes nothing.
 /// Returns what was found.
 pub(crate) fn settle_found<F: Flash>(
     flash: &mut F,
@@ -152,8 +152,8 @@ pub(crate) fn settle_found<F: Flash>(
     }
 }
 
-/// From `Settle` on: finds the decision again, settles the set and records that it is on trial,
-/// with `left` more boots, or permanent. If the decision isn't found, nothing is written.
+/// From `Settle` on: finds the decision again, settles the set, and records that it is permanent,
+/// or on trial with `left` more boots. If the decision isn't found, nothing is written.
 fn finish_settle<F: Flash>(
     flash: &mut F,
     map: &SectorMap,

@@ -39,9 +39,9 @@ fn swap_forth<F: Flash>(flash: &mut F, map: &SectorMap, state: &State) -> Result
     }
 }
 
-/// From `Swap` on: finishes the swap from wherever it is, finds the decision again, settles the set
-/// and records that it is on trial, with `left` more boots, or permanent. If the decision isn't
-/// found, only the swap is written.
+/// From `Swap` on: finishes the swap from wherever it is, finds the decision again, and settles the
+/// set. Records that the set is permanent, or on trial with `left` more boots. If the decision
+/// isn't found, only the swap is written.
 pub(crate) fn finish_swap<F: Flash>(
     flash: &mut F,
     map: &SectorMap,
