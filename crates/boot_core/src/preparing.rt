@@ -10,8 +10,8 @@ use image_reading::intact_image;
 use sector_map::{SectorMap, Side, is_member};
 use trailer::{clear, write_size};
 
-/// How many bytes of a slot a swap has to move: the length of its intact image, or the slot's length
-/// if it begins with none.
+/// How many bytes of a slot a swap has to move: the length of its intact image, or the length of
+/// the slot if it begins with none.
 fn used_length<F: Flash>(flash: &mut F, map: &SectorMap, image: u8, side: Side) -> Result<u32>
     requires { HasImage map.now image (F.chip flash.old) }
     ensures { Tells (IsSizeIn map.now image (IsUsedIn map.now image side))
