@@ -27,8 +27,9 @@ use upload::Uploads;
 /// boot that succeeds. It stays booted until a later boot is refused, the flash stops a call, or
 /// the device is reset.
 ///
-/// No call has a precondition. On a flash that holds a state, each call is a step of the machine of
-/// whole images (`machine`). On any other flash it returns too.
+/// No call of a device has a precondition, except those that make one. On a flash that holds a
+/// state, each call is a step of the machine of whole images (`machine`). On any other flash it
+/// returns too.
 #[derive(Drop)]
 pub struct Device<F: Flash> {
     flash: F,
