@@ -1,7 +1,10 @@
 """What the contract of a call says: its text, and each definition that it speaks of, found from name to name.
 
 A definition is in a file of `crates/NAME/specs/`, a type of the program in one of `crates/NAME/src/`. What std and the ported
-crates define is only named.
+crates define is only named, and so is a definition that the page leaves abstract.
+
+A page asks for the statement of a call by these words: `CRATE::CALL`, then `clause NAME` if it shows one clause of the
+contract, and `abstract NAME` for a definition that is not shown.
 """
 
 import dataclasses
@@ -106,24 +109,52 @@ def type_named(crate, name):
     raise LookupError(f"crate {crate} has no type {name}")
 
 
-def contract_of(path):
-    """Returns the contract of a call, given as `crate::name`: its file, its lines, and what names its file takes."""
-    crate, _, name = path.partition("::")
+@dataclasses.dataclass(frozen=True)
+class Place:
+    """What a page asks for: a call, given as `crate::name`, one clause of its contract or all, and what stays abstract."""
+
+    call: str
+    clause: str | None
+    abstract: tuple
+
+    @classmethod
+    def of(cls, words):
+        """Returns what the words of a page ask for."""
+        pairs = list(zip(words[1::2], words[2::2]))
+        clauses = [name for kind, name in pairs if kind == "clause"]
+        return cls(words[0], clauses[0] if clauses else None, tuple(name for kind, name in pairs if kind == "abstract"))
+
+
+def only_clause(contract, name):
+    """Returns the lines of a contract with one of its `ensures` clauses, and all that is `requires`."""
+    starts = [n for n, line in enumerate(contract) if re.match(r" +(requires|ensures)\b", line)]
+    kept = contract[: starts[0]]
+    for start, end in zip(starts, [*starts[1:], len(contract)]):
+        if re.match(rf" +(requires\b|ensures {name}\b)", contract[start]):
+            kept += contract[start:end]
+    return kept
+
+
+def contract_of(place):
+    """Returns the contract that a page asks for: its file, its lines, and what names its file takes."""
+    crate, _, name = place.call.partition("::")
     for file, text in code_of(crate).items():
         found = re.search(rf"^(?:#\[[^\n]*\n)*pub (?:extern \"C\" )?fn {name}\b.*?(?=^\{{)", text, re.MULTILINE | re.DOTALL)
         if found:
             uses = Uses()
             for line in re.findall(r"^ghost use .*;$", text, re.MULTILINE):
                 uses.add(line)
-            return file, found[0].splitlines(), uses
+            lines = found[0].splitlines()
+            return file, only_clause(lines, place.clause) if place.clause else lines, uses
     raise LookupError(f"crate {crate} has no call {name}")
 
 
 class Statement:
     """All that the contract of a call speaks of: definitions by their files, types by theirs, and names from outside."""
 
-    def __init__(self, path):
-        self.file, self.contract, uses = contract_of(path)
+    def __init__(self, place):
+        self.abstract = place.abstract
+        self.file, self.contract, uses = contract_of(place)
         self.definitions, self.types, self.outside = {}, {}, {}
         for line in self.contract:
             for word in NAME.findall(line):
@@ -143,6 +174,8 @@ class Statement:
             self.visit_definition(module_of(name), word)
 
     def visit_definition(self, module, word):
+        if word in self.abstract:
+            return None
         if word not in module.definitions:
             # A constructor, which its type brings, or a name that the module passes on.
             return self.visit(module.uses.names.get(word)) or self.visit_constructor(module, word)
@@ -176,9 +209,11 @@ class Statement:
         return self
 
     def count(self):
-        """Returns how many definitions there are, how many lines they have with their comments, and how many types."""
+        """Returns how many definitions there are, how many lines and comment lines they have, and how many types there are."""
         found = [it for names in self.definitions.values() for it in names.values()]
-        return len(found), sum(len(it.lines) for it in found), sum(len(it) for it in self.types.values())
+        lines = [line for it in found for line in it.lines]
+        comments = sum(line.strip().startswith("--") for line in lines)
+        return len(found), len(lines), comments, sum(len(it) for it in self.types.values())
 
 
 def constructors(definition):
@@ -193,17 +228,23 @@ def in_reading_order(module, found):
     return [it for name, it in module.definitions.items() if name in found]
 
 
+def counted(count, what):
+    """Returns a count of things in words."""
+    return f"{count} {what}{'' if count == 1 else 's'}"
+
+
 def block(language, path, parts):
     """Returns the lines of a page for parts of a file."""
     lines = [line for part in parts for line in [*part, ""]]
     return [f"`{path.removeprefix('crates/')}`", "", f"```{language}", *lines[:-1], "```", ""]
 
 
-def lines_of(path, earlier):
-    """Returns the lines of a page for the contract of a call, and what it speaks of that earlier statements don't have."""
-    statement = Statement(path).without([Statement(it) for it in earlier])
-    definitions, lines, types = statement.count()
-    page = [f"{definitions} definitions in {lines} lines, and {types} types of the program.", ""]
+def lines_of(place, earlier):
+    """Returns the lines of a page for the contract that it asks for, and what that speaks of and earlier ones don't."""
+    statement = Statement(place).without([Statement(it) for it in earlier])
+    definitions, lines, comments, types = statement.count()
+    page = [f"{counted(definitions, 'definition')} in {lines} lines, {comments} of them comments, and "
+            f"{counted(types, 'type')} of the program.", ""] if definitions or types else []
     page += block("rust", statement.file, [statement.contract])
     for file, found in statement.definitions.items():
         module = module_of("Rattle." + file.removeprefix("crates/").removesuffix(".antt").replace("/", "."))

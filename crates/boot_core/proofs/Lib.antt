@@ -16,6 +16,7 @@ mod Wholes
 pub mod Steps
 pub mod CutEvents
 mod Afresh
+mod FirstHeld
 mod Resting
 mod Trials
 mod Keeping

@@ -11,6 +11,7 @@ pub mod Ready
 pub mod Found
 pub mod SwapSize
 pub mod Provisioned
+pub mod FirstState
 pub mod Wear
 pub mod Recorded
 pub mod BootEnds

@@ -1,9 +1,10 @@
 //! Provisions a flash: makes it a device's.
 
-ghost use Rattle.std.specs.Prelude.{◌≡◌, ℕ, ◌≤◌, List, slice_index};
+ghost use Rattle.std.specs.Prelude.{◌≡◌, ℕ, ◌≤◌, List, OnOk, slice_index};
 ghost use Rattle.sector_map.specs.Map.{HasImage, IsLaidOut};
 ghost use Rattle.sector_map.specs.Part.{trailers_of};
 ghost use Rattle.image_reading.specs.Image.{BeginsIntact};
+ghost use Rattle.boot_core.specs.FirstState.{HoldsFirst};
 ghost use Rattle.boot_core.specs.Provisioned.{AreCounters, IsReadThere};
 ghost use Rattle.boot_core.specs.Provisioned.{IsRunningRow, any_trailer};
 ghost use Rattle.boot_core.specs.Provisions.{AreClearedIn, BeginsAfresh, IsClearedIn, IsRowIn};
@@ -156,7 +157,8 @@ fn make_device<F: Flash>(flash: &mut F, map: &SectorMap) -> Result<(), Fault>
 /// - `Flash(Off)`: the flash was off. Nothing changed.
 pub fn provision<F: Flash>(flash: &mut F, map: &SectorMap) -> Result<(), Fault>
     requires laid_out { IsLaidOut map.now (F.chip flash.old) }
-    ensures { Provisions map.now (F.chip flash.old) (F.chip flash.new) result }
+    ensures first { OnOk result (HoldsFirst map.now (F.chip flash.old) (F.chip flash.new)) }
+    ensures all { Provisions map.now (F.chip flash.old) (F.chip flash.new) result }
 {
     make_device(flash, map)
 }

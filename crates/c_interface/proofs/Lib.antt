@@ -8,3 +8,4 @@ mod ShortReports
 mod TextLengths
 mod Asked
 mod Counting
+mod Lifecycle

@@ -12,3 +12,4 @@ pub mod Provisioning
 pub mod Description
 pub mod Choosing
 pub mod Slots
+pub mod Lifecycle

@@ -1,6 +1,7 @@
 //! The calls of a device, as C makes them.
 
 ghost use Rattle.c_interface.specs.Answers.{Accepts, Answers, HasTexts, no_more};
+ghost use Rattle.c_interface.specs.Lifecycle.{IsBoot};
 ghost use Rattle.c_interface.specs.SavedState.{IsNotBooted};
 ghost use Rattle.c_interface.specs.declared.dispatch.DeviceCall.TheVariants as call;
 
@@ -54,7 +55,8 @@ pub extern "C" fn bootswap_boot(
     report: &mut [u8],
     call_result: &mut CallResult,
 ) -> u32
-    ensures { Answers setup.now cuts.now call.Boot flash.old saved.old flash.new saved.new
+    ensures boot { IsBoot setup.now flash.old saved.old flash.new saved.new result }
+    ensures all { Answers setup.now cuts.now call.Boot flash.old saved.old flash.new saved.new
         call_result.new (HasTexts call_result.new.table_length call_result.new.report_length
         table.old table.new report.old report.new) result }
 {

@@ -2,6 +2,8 @@
 
 ghost use Rattle.std.specs.Prelude.{◌≡◌, []};
 ghost use Rattle.slice_flash.specs.Rows.{fixed_by};
+ghost use Rattle.c_interface.specs.Lifecycle.{HoldsFirstIn};
+ghost use Rattle.c_interface.specs.Numbers.{DONE};
 ghost use Rattle.c_interface.specs.Provisioning.{AnswersProvision, ProvisionsOn};
 ghost use Rattle.c_interface.specs.Setup.{HasRoom};
 
@@ -52,7 +54,8 @@ pub extern "C" fn bootswap_provision(
     cuts: &[CutRow],
     call_result: &mut CallResult,
 ) -> u32
-    ensures { AnswersProvision setup.now cuts.now flash.old flash.new call_result.new result }
+    ensures first { result ≡ DONE → HoldsFirstIn setup.now flash.old flash.new }
+    ensures all { AnswersProvision setup.now cuts.now flash.old flash.new call_result.new result }
 {
     let checked = match check_setup(setup, flash) {
         Ok(checked) => checked,

@@ -23,3 +23,4 @@ pub mod Sound
 pub mod SoundBoots
 pub mod SoundRuns
 pub mod SwapTypes
+pub mod Lifecycle

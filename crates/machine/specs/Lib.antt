@@ -2,6 +2,7 @@ pub mod Codes
 pub mod States
 pub mod Boots
 pub mod Intake
+pub mod Lifecycle
 pub mod Steps
 pub mod Headline
 pub mod Holding

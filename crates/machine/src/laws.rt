@@ -13,7 +13,11 @@ ghost use Rattle.trailer.specs.declared.kinds.SwapType.TheVariants.{Revert};
 ghost use Rattle.upload.specs.Device.{DeviceState, Machine, Trial, Wanted};
 ghost use Rattle.upload.specs.Steady.{IsSteadyAt};
 ghost use Rattle.upload.specs.View.{View};
-ghost use Rattle.machine.specs.Holding.{IsTrialAt};
+ghost use Rattle.sector_map.specs.declared.layout.SectorMap.{SectorMap};
+ghost use Rattle.sector_map.specs.Map.{IsLaidOut};
+ghost use Rattle.machine.specs.Holding.{DeviceView, Holds, IsTrialAt};
+ghost use Rattle.machine.specs.Lifecycle.{HasRunning, IsJustMade, with_power};
+ghost use Rattle.machine.specs.States.{asleep};
 ghost use Rattle.machine.specs.SwapTypes.{swap_type_at, type_of};
 ghost use Rattle.machine.specs.Boots.{Boots, IsAllSound, IsReported, IsTableOf, is_answer};
 ghost use Rattle.machine.specs.Headline.{AreCut, HasFinished, IsBootedAt, StartsGreatest};
@@ -177,4 +181,24 @@ pub fn trailers_tell_trials_and_requests()
         → is_member trial.set i ≡ true → trial.confirmed i ≡ false → swap_type_at w i ≡ Revert }
     ensures requests { (w : View) (s : DeviceState) (i : ℕ) (wanted : Wanted) → IsSteadyAt w s
         → i < s.images → s.request i ≡ Some wanted → swap_type_at w i ≡ type_of wanted.kind }
+{}
+
+/// A booted device has the images that run in its primary slots: each slot begins with the image
+/// that the state of the device runs.
+///
+/// It does nothing: its contract is the law.
+#[tactic(auto, using(crate::proofs::Lifecycle::holder_runs))]
+pub fn booted_devices_run_their_primary_slots()
+    ensures { (map : SectorMap) (device : DeviceView) (m : Machine) → Holds map device m
+        → m.is_booted ≡ true → HasRunning map device.flash m.kept }
+{}
+
+/// A flash keeps the state of its device. If a device ends, by a power cut or otherwise, a device
+/// that is made anew over its flash holds the same state. The new device isn't booted and has no
+/// uploads.
+///
+/// It does nothing: its contract is the law.
+pub fn flashes_keep_the_states_of_their_devices()
+    ensures { (map : SectorMap) (old new : DeviceView) (m : Machine) → IsLaidOut map old.flash
+        → Holds map old m → IsJustMade (with_power old.flash) new → Holds map new (asleep m.kept) }
 {}

@@ -1,9 +1,13 @@
 use Rattle.std.proofs.Common.{rules}
 use Rattle.boot_core.proofs.Afresh.{damaged_answer, invalid_answer, whole_answer}
+use Rattle.boot_core.proofs.FirstHeld.{first_held}
 use Rattle.boot_core.proofs.provisioning.provision.Goals as goal
 
-pub returns : goal.returns
-returns g c = record {
+pub returns-clause-first : goal.returns-clause-first
+returns-clause-first g c = search (rules, first_held)
+
+pub returns-clause-all : goal.returns-clause-all
+returns-clause-all g c = record {
   outside = search rules;
   laid = search rules;
   ok = search rules;

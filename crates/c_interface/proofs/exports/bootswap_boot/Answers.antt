@@ -2,11 +2,12 @@ use Rattle.std.proofs.Common.{refl, sym, subst}
 use Rattle.c_interface.specs.declared.dispatch.DeviceCall.TheVariants.{Boot}
 use Rattle.c_interface.specs.Answers.{Replied, NotCalled}
 use Rattle.c_interface.specs.Calls.{CallsOn}
+use Rattle.c_interface.proofs.Lifecycle.{boot_in}
 use Rattle.c_interface.proofs.TextLengths.{texts_of_result}
 use Rattle.c_interface.proofs.exports.bootswap_boot.Goals as goal
 
-pub returns-in-Ok : goal.returns-in-Ok
-returns-in-Ok c = Replied c.in-Ok.outcome.reply
+pub returns-in-Ok-clause-all : goal.returns-in-Ok-clause-all
+returns-in-Ok-clause-all c = Replied c.in-Ok.outcome.reply
     (subst (λ n. CallsOn c.args.setup.now c.args.cuts.now Boot c.args.flash.now c.args.saved.now
     c.call_device.new.bytes c.call_device.new.saved c.in-Ok.outcome.reply n) (sym c.result_of.ensures.writes) c.in-Ok.ensures.outcome)
     c.result_of.ensures.fields
@@ -14,5 +15,11 @@ returns-in-Ok c = Replied c.in-Ok.outcome.reply
     c.result_of.result
     c.result_of.ensures.lengths c.put_texts-lengths.ensures) c.number_of.ensures
 
-pub returns-in-Err : goal.returns-in-Err
-returns-in-Err c = let none = c.in-Err.ensures.refused in NotCalled none.0 none.1 none.2 refl
+pub returns-in-Err-clause-all : goal.returns-in-Err-clause-all
+returns-in-Err-clause-all c = let none = c.in-Err.ensures.refused in NotCalled none.0 none.1 none.2 refl
+
+pub returns-in-Ok-clause-boot : goal.returns-in-Ok-clause-boot
+returns-in-Ok-clause-boot c = boot_in c.args.setup.now c.args.cuts.now _ _ _ _ _ _ (returns-in-Ok-clause-all c)
+
+pub returns-in-Err-clause-boot : goal.returns-in-Err-clause-boot
+returns-in-Err-clause-boot c = boot_in c.args.setup.now c.args.cuts.now _ _ _ _ _ _ (returns-in-Err-clause-all c)

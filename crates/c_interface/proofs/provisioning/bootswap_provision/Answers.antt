@@ -5,21 +5,22 @@ use Rattle.c_interface.specs.Numbers.{MOST_CUTS}
 use Rattle.c_interface.specs.Provisioning.{ProvisionsOn, Replied, NotCalled}
 use Rattle.slice_flash.specs.Rows.{fixed_by}
 use Rattle.c_interface.proofs.Asked.{same_asked}
+use Rattle.c_interface.proofs.Lifecycle.{first_in}
 use Rattle.c_interface.proofs.provisioning.bootswap_provision.Goals as goal
 
-pub returns-in-Err : goal.returns-in-Err
-returns-in-Err c = NotCalled (inl c.in-Err.ensures.refused) refl refl
+pub returns-in-Err-clause-all : goal.returns-in-Err-clause-all
+returns-in-Err-clause-all c = NotCalled (inl c.in-Err.ensures.refused) refl refl
 
-pub returns-then-cuts-gt-MOST_CUTS : goal.returns-then-cuts-gt-MOST_CUTS
-returns-then-cuts-gt-MOST_CUTS c = NotCalled (inr (record {
+pub returns-then-cuts-gt-MOST_CUTS-clause-all : goal.returns-then-cuts-gt-MOST_CUTS-clause-all
+returns-then-cuts-gt-MOST_CUTS-clause-all c = NotCalled (inr (record {
   number_is = refl;
   many = omega (arith, c.if-cuts-gt-MOST_CUTS.true);
   checked = c.in-Ok.checked;
   is_checked = c.in-Ok.ensures.checked;
 })) refl refl
 
-pub returns : goal.returns
-returns c =
+pub returns-clause-all : goal.returns-clause-all
+returns-clause-all c =
     let few : length c.args.cuts.now ≤ MOST_CUTS = omega (arith, c.if-cuts-gt-MOST_CUTS.false) in
     let asked = fixed_by (take (length c.args.cuts.now) c.table_of-table.result) [] 0 in
     let same : asked ≡ asked_by c.args.cuts.now =
@@ -31,3 +32,12 @@ returns c =
     (subst (λ n. ProvisionsOn c.in-Ok.checked.map asked c.args.flash.now c.provision_on-reply.new.bytes
     c.provision_on-reply.result n) (sym c.result_of.ensures.writes) c.provision_on-reply.ensures))
     c.result_of.ensures.fields c.number_of.ensures
+
+pub returns-in-Err-clause-first : goal.returns-in-Err-clause-first
+returns-in-Err-clause-first c = first_in c.args.setup.now c.args.cuts.now _ _ _ _ (returns-in-Err-clause-all c)
+
+pub returns-then-cuts-gt-MOST_CUTS-clause-first : goal.returns-then-cuts-gt-MOST_CUTS-clause-first
+returns-then-cuts-gt-MOST_CUTS-clause-first c = first_in c.args.setup.now c.args.cuts.now _ _ _ _ (returns-then-cuts-gt-MOST_CUTS-clause-all c)
+
+pub returns-clause-first : goal.returns-clause-first
+returns-clause-first c = first_in c.args.setup.now c.args.cuts.now _ _ _ _ (returns-clause-all c)

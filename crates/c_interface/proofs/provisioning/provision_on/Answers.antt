@@ -23,15 +23,15 @@ returns g c =
     let left = chip_of c.provision.new.flash in
     let chip = ap (λ (s : Slice). s.chip) c.new-flash.ensures in
     let fixed : left.fixed ≡ fixed_by table bytes _ =
-    c.provision.ensures.outside.fixed ∙ ap (λ (c : Chip). c.fixed) chip in
+    c.provision.ensures.all.outside.fixed ∙ ap (λ (c : Chip). c.fixed) chip in
     let cut = cut_as_asked before left c.answer-reply.result c.writes.result _ _ _ _ chip
-    c.provision.ensures.outside.fixed
-    (cuts_provided map before left c.provision.result c.answer-reply.result c.provision.ensures c.answer-reply.ensures)
+    c.provision.ensures.all.outside.fixed
+    (cuts_provided map before left c.provision.result c.answer-reply.result c.provision.ensures.all c.answer-reply.ensures)
     c.provision.new.flash.cut_by_table c.writes.ensures in
     let torn = writes_as_asked table map.sector_size _ bytes before left c.answer-reply.result c.writes.result fixed
-    c.provision.ensures.laid.sector_size cut
-    (dark_provided map before left c.provision.result c.answer-reply.result c.provision.ensures c.answer-reply.ensures)
+    c.provision.ensures.all.laid.sector_size cut
+    (dark_provided map before left c.provision.result c.answer-reply.result c.provision.ensures.all c.answer-reply.ensures)
     c.provision.new.flash.off_by_table c.provision.new.flash.written in
     provisions_on map bytes _ before left c.provision.result c.answer-reply.result
-    (borrowed_flash map bytes before _ map.is_map c.requires.room chip) (search rules) c.provision.ensures
+    (borrowed_flash map bytes before _ map.is_map c.requires.room chip) (search rules) c.provision.ensures.all
     c.answer-reply.ensures (fixed_by table [] 0) c.writes.result cut torn

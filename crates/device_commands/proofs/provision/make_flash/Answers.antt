@@ -8,4 +8,4 @@ pub returns-in-Err-clause-made : goal.returns-in-Err-clause-made
 returns-in-Err-clause-made g c =
     let map = c.args.map.now in
     let new = chip_of c.provision.new.flash in
-    (new, subst (λ chip. RefusesMaking map chip new c.in-Err.fault) c.flash_of-flash.ensures.chip c.in-Err.ensures.refused)
+    (new, subst (λ chip. RefusesMaking map chip new c.in-Err.fault) c.flash_of-flash.ensures.chip c.in-Err.ensures.all.refused)
