@@ -63,9 +63,4 @@ abbrev pub TakesText : Setup → Machine → List ℕ → Reply → Machine → 
 TakesText setup m bytes (Refused (no.Manifest fault)) next =
     IsReady m × IsRefusal setup.identity bytes fault × (next ≡ m)
 TakesText setup m bytes (Refused no.NoMemory) next = IsReady m × (next ≡ m)
-TakesText setup m bytes (Refused no.NotBooted) next = (m.is_booted ≡ false) × (next ≡ m)
-TakesText setup m bytes (Refused no.OnTrial) next = IsTrying m × (next ≡ m)
-TakesText setup m bytes (Refused (no.Upload error)) next =
-    Uploads (TakesManifest setup m bytes) m (Refused (no.Upload error)) next
-TakesText setup m bytes Done next = Uploads (TakesManifest setup m bytes) m Done next
-TakesText setup m bytes other next = ⊥
+TakesText setup m bytes reply next = Uploads (TakesManifest setup m bytes) m reply next

@@ -48,14 +48,8 @@ IsCutTo setup m event.Reset next = ⊥
 
 -- A step: an interrupted one if the reply is Cut, else a complete one.
 abbrev pub IsStep : Setup → Machine → DeviceEvent → Reply → Machine → Type 0
-IsStep setup m event Done next = Completes setup m event Done next
-IsStep setup m event (Booted table report permanent) next =
-    Completes setup m event (Booted table report permanent) next
-IsStep setup m event (Reverted mask) next = Completes setup m event (Reverted mask) next
-IsStep setup m event (TrialAgain set left) next =
-    Completes setup m event (TrialAgain set left) next
-IsStep setup m event (Refused fault) next = Completes setup m event (Refused fault) next
 IsStep setup m event Cut next = IsCutTo setup m event next
+IsStep setup m event reply next = Completes setup m event reply next
 
 -- A run by steps of one kind: a reply and a step for each event.
 abbrev pub IsRunBy : (Machine → DeviceEvent → Reply → Machine → Type 0)
@@ -76,12 +70,8 @@ IsUncutRun setup m events replies last = IsRunBy (Completes setup) m events repl
 
 -- 1 if the reply is Cut, else 0.
 abbrev pub cut_of : Reply → ℕ
-cut_of Done = 0
-cut_of (Booted table report permanent) = 0
-cut_of (Reverted mask) = 0
-cut_of (TrialAgain set left) = 0
-cut_of (Refused fault) = 0
 cut_of Cut = 1
+cut_of other = 0
 
 -- How many replies are Cut.
 abbrev pub cuts_in : List Reply → ℕ
