@@ -233,6 +233,19 @@ def counted(count, what):
     return f"{count} {what}{'' if count == 1 else 's'}"
 
 
+def in_words(counts):
+    """Returns the counts of a statement in words."""
+    definitions, lines, comments, types = counts
+    kinds = f"{counted(definitions, 'definition')} in {lines} lines, {comments} of them comments"
+    return f"{kinds}, and {counted(types, 'type')} of the program"
+
+
+def total_of(places):
+    """Returns the line of a page that says how much it has in all sections."""
+    counts = [Statement(it).without([Statement(one) for one in places[:n]]).count() for n, it in enumerate(places)]
+    return f"All sections: {in_words([sum(them) for them in zip(*counts)])}."
+
+
 def block(language, path, parts):
     """Returns the lines of a page for parts of a file."""
     lines = [line for part in parts for line in [*part, ""]]
@@ -242,9 +255,7 @@ def block(language, path, parts):
 def lines_of(place, earlier):
     """Returns the lines of a page for the contract that it asks for, and what that speaks of and earlier ones don't."""
     statement = Statement(place).without([Statement(it) for it in earlier])
-    definitions, lines, comments, types = statement.count()
-    page = [f"{counted(definitions, 'definition')} in {lines} lines, {comments} of them comments, and "
-            f"{counted(types, 'type')} of the program.", ""] if definitions or types else []
+    page = [f"{in_words(statement.count())}.", ""] if any(statement.count()) else []
     page += block("rust", statement.file, [statement.contract])
     for file, found in statement.definitions.items():
         module = module_of("Rattle." + file.removeprefix("crates/").removesuffix(".antt").replace("/", "."))
