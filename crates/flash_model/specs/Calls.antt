@@ -1,4 +1,4 @@
--- What a call on a flash leaves: each record is one call.
+-- What each call on a flash leaves: one record for each kind of call.
 use Rattle.std.specs.Prelude.{◌≡◌, ℕ, ◌+◌, ◌*◌, ◌%◌, ◌<◌, ◌≤◌, ◌↔◌, Bool, true, false, List, length}
 use Rattle.std.specs.Prelude.{Result, IfOk, IsErrOf, IsOk, IsTrue, OnErr, OnOk}
 use Rattle.flash_model.specs.declared.error.FlashError.{FlashError}
@@ -9,16 +9,16 @@ use Rattle.flash_model.specs.Units.{IsSet}
 -- A call reads these bytes from an address on.
 pub record ReadsBytes (at : ℕ) (bytes : List ℕ) (old new : Chip) {T : Type 0}
     (result : Result T FlashError) : Type 0 where
-  -- Nothing changes,
+  -- Nothing changes.
   pub same : new ≡ old
-  -- and where the call ends, these bytes stand there,
+  -- On success the flash has these bytes there.
   pub ok : OnOk result (Reads old at bytes)
-  -- and the flash was on.
+  -- The call succeeds only if the flash was on.
   pub on : OnOk result (old.is_on ≡ true)
   pub erases : OnOk result (new.erases ≡ old.erases)
   pub ends : Ends result old new
 
--- So many bytes can be programmed from an address on: whole units, one at least, that lie in the
+-- n bytes can be programmed from an address on: they are whole units, at least one, that lie in the
 -- flash and are erased.
 pub record CanProgram (at n : ℕ) (chip : Chip) : Type 0 where
   pub inside : at + n ≤ size_of chip
@@ -30,11 +30,11 @@ pub record CanProgram (at n : ℕ) (chip : Chip) : Type 0 where
 -- A call programs these bytes from an address on.
 pub record Programs (at : ℕ) (bytes : List ℕ) (old new : Chip) {T : Type 0}
     (result : Result T FlashError) : Type 0 where
-  -- Nothing else is written,
+  -- No other byte changes.
   pub outside : SameOutside at (length bytes) old new
-  -- and where the call ends, these bytes stand there,
+  -- On success the flash has these bytes there.
   pub ok : OnOk result (Reads new at bytes)
-  -- and the flash was on.
+  -- The call succeeds only if the flash was on.
   pub on : OnOk result (old.is_on ≡ true)
   -- No sector is erased.
   pub erases : new.erases ≡ old.erases
@@ -43,54 +43,54 @@ pub record Programs (at : ℕ) (bytes : List ℕ) (old new : Chip) {T : Type 0}
 -- A call erases a sector.
 pub record Erases (sector : ℕ) (old new : Chip) {T : Type 0} (result : Result T FlashError)
     : Type 0 where
-  -- No other sector is written,
+  -- No other sector changes.
   pub outside : SameOutside (sector * old.sector_size) old.sector_size old new
-  -- and where the call ends, this one is erased,
+  -- On success this sector is erased.
   pub ok : OnOk result (IsErased new (sector * old.sector_size) old.sector_size)
-  -- and the flash was on.
+  -- The call succeeds only if the flash was on.
   pub on : OnOk result (old.is_on ≡ true)
-  -- Such an erase is counted,
+  -- A successful erase is counted.
   pub erases : OnOk result (new.erases ≡ old.erases + 1)
-  -- and no other is.
+  -- A failed erase isn't counted.
   pub uncounted : OnErr result (new.erases ≡ old.erases)
   pub ends : Ends result old new
 
--- A call reads a piece of so many bytes from an address on, and tells whether it is erased.
+-- A call reads n bytes from an address on, and returns whether they are erased.
 pub record TellsPieceErased (at n : ℕ) (old new : Chip) (result : Result Bool FlashError)
     : Type 0 where
-  -- Nothing changes,
+  -- Nothing changes.
   pub same : new ≡ old
-  -- the answer is exact,
+  -- The result is exact.
   pub ok : IfOk result (λ yes. IsTrue yes ↔ IsErased old at n)
-  -- and where the call ends, the flash was on.
+  -- The call succeeds only if the flash was on.
   pub on : OnOk result (old.is_on ≡ true)
   pub ends : Ends result old new
 
--- A call tells whether so many bytes from an address on are erased.
+-- A call returns whether n bytes from an address on are erased.
 pub record TellsErased (at n : ℕ) (old new : Chip) (result : Result Bool FlashError)
     : Type 0 where
-  -- Nothing changes,
+  -- Nothing changes.
   pub same : new ≡ old
-  -- and the answer is exact.
+  -- The result is exact.
   pub ok : IfOk result (λ yes. IsTrue yes ↔ IsErased old at n)
-  -- There is one where the flash is on,
+  -- If the flash is on, the call succeeds.
   pub answers : old.is_on ≡ true → IsOk result
-  -- and none where it is off, but of no bytes.
+  -- If the flash is off, the call returns `Off`, except for a range of no bytes.
   pub refuses : old.is_on ≡ false → 0 < n → IsErrOf result Off
   -- No sector is erased.
   pub erases : new.erases ≡ old.erases
   pub ends : Ends result old new
 
--- A call tells whether the unit at an address is erased.
+-- A call returns whether the unit at an address is erased.
 pub record TellsUnitErased (at : ℕ) (old new : Chip) (result : Result Bool FlashError)
     : Type 0 where
-  -- Nothing changes,
+  -- Nothing changes.
   pub same : new ≡ old
-  -- and the answer is exact.
+  -- The result is exact.
   pub ok : IfOk result (λ yes. IsTrue yes ↔ IsErased old at 8)
-  -- There is one where the flash is on,
+  -- If the flash is on, the call succeeds.
   pub answers : old.is_on ≡ true → IsOk result
-  -- and none where it is off.
+  -- If the flash is off, the call returns `Off`.
   pub refuses : old.is_on ≡ false → IsErrOf result Off
   -- No sector is erased.
   pub erases : new.erases ≡ old.erases
@@ -99,13 +99,13 @@ pub record TellsUnitErased (at : ℕ) (old new : Chip) (result : Result Bool Fla
 -- A call sets the unit at an address, by programming these bytes.
 pub record SetsUnit (at : ℕ) (bytes : List ℕ) (old new : Chip) {T : Type 0}
     (result : Result T FlashError) : Type 0 where
-  -- Nothing else is written,
+  -- No other byte changes.
   pub outside : SameOutside at 8 old new
-  -- and where the call ends, the unit is set,
+  -- On success the unit is set.
   pub ok : OnOk result (IsSet new at)
-  -- holds these bytes,
+  -- On success the unit holds these bytes.
   pub flag : OnOk result (Reads new at bytes)
-  -- and the flash was on.
+  -- The call succeeds only if the flash was on.
   pub on : OnOk result (old.is_on ≡ true)
   -- No sector is erased.
   pub erases : new.erases ≡ old.erases

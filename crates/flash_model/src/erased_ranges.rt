@@ -1,4 +1,4 @@
-//! Whether a range of a flash is erased.
+//! Checks whether a range of a flash is erased.
 
 ghost use Rattle.std.specs.Prelude.{◌≡◌, ◌+◌, ◌≤◌, length};
 ghost use Rattle.flash_model.specs.Chip.{size_of};
@@ -8,18 +8,18 @@ ghost use Rattle.flash_model.specs.Units.{are_erased};
 use crate::error::Result;
 use crate::flash::Flash;
 
-/// How many bytes are read at once.
+/// The most bytes that `is_erased` reads with one call.
 const PIECE: usize = 64;
 
-/// Whether bytes that were read are erased, that is, 0xFF; of no bytes the answer is yes. Does not
-/// allocate.
+/// Returns whether each of these bytes is 0xFF, as after an erase. If there are none the result is
+/// `true`. Does not allocate.
 pub fn are_erased(bytes: &[u8]) -> bool
     ensures { result ≡ are_erased bytes.now }
 {
     bytes.iter().all(|byte| *byte == 0xff)
 }
 
-/// Whether a piece of the flash is erased, which is read into the buffer and is as long as that.
+/// Reads the bytes from address `at` into `piece`, and returns whether they are erased.
 fn is_piece_erased<F: Flash>(flash: &mut F, at: u32, piece: &mut [u8]) -> Result<bool>
     requires { at + length piece.old ≤ size_of (F.chip flash.old) }
     ensures { TellsPieceErased at (length piece.old) (F.chip flash.old) (F.chip flash.new) result }
@@ -28,14 +28,14 @@ fn is_piece_erased<F: Flash>(flash: &mut F, at: u32, piece: &mut [u8]) -> Result
     Ok(are_erased(piece))
 }
 
-/// Whether `len` bytes from address `at` on are erased, that is, 0xFF. The range lies in the flash;
-/// of no bytes the answer is yes.
+/// Returns whether the `len` bytes from address `at` are erased, that is, 0xFF. The range has to
+/// lie in the flash. If `len` is 0 the result is `true`.
 ///
-/// The flash is read by pieces of at most 64 bytes, up to the first one that isn't erased. It
-/// doesn't change. Does not allocate.
+/// Reads the flash in pieces of at most 64 bytes, up to the first piece that isn't erased. The
+/// flash doesn't change. Does not allocate.
 ///
 /// # Errors
-/// `Off` where the flash is off and `len` isn't 0.
+/// `Off` if the flash is off and `len` isn't 0.
 #[tactic(auto, using(crate::proofs::Erased::erased_joined))]
 pub fn is_erased<F: Flash>(flash: &mut F, at: u32, len: u32) -> Result<bool>
     requires { at + len ≤ size_of (F.chip flash.old) }

@@ -1,27 +1,28 @@
-//! Why a call on a flash didn't do its work.
+//! The errors of calls on a flash.
 
 ghost use Rattle.std.specs.Prelude.{◌≡◌};
 ghost use Rattle.flash_model.specs.Codes.{code_of, name_of};
 
 use thiserror::Error;
 
-/// Why a call on a flash didn't do its work. The numbers are 1 and 2, in this order.
+/// The error of a call on a flash that didn't do its work. The variants have the numbers 1 and 2,
+/// in this order.
 #[derive(Clone, Copy, Debug, PartialEq, Eq, Error)]
 pub enum FlashError {
-    /// Power failed in the midst of a write. Its range holds any bytes, all else is as it was, and
-    /// the flash is off.
+    /// Power failed during a write. The range of the write holds any bytes, all other bytes are
+    /// unchanged, and the flash is off.
     #[error("power failed in the midst of a write")]
     Cut,
-    /// The flash was off already. Nothing changed.
+    /// The flash was off before the call. Nothing changed.
     #[error("the flash is off")]
     Off,
 }
 
-/// What a call on a flash returns: a value, or why the call didn't do its work.
+/// The result of a call on a flash: a value, or a [`FlashError`].
 pub type Result<T, E = FlashError> = std::result::Result<T, E>;
 
 impl FlashError {
-    /// The number of the kind, 1 or 2.
+    /// Returns the number of the error, 1 or 2.
     pub fn code(self) -> u8
         ensures { result ≡ code_of self }
     {
@@ -31,7 +32,7 @@ impl FlashError {
         }
     }
 
-    /// The name of the kind, as it is printed.
+    /// Returns the name of the error as it is printed, `Cut` or `Off`.
     pub fn name(self) -> &'static str
         ensures { result.now ≡ name_of self }
     {

@@ -1,4 +1,4 @@
-//! What a driver of a flash has to do.
+//! The trait that a driver of a flash implements.
 
 ghost use Rattle.std.specs.Prelude.{◌≡◌, ◌^◌, ◌+◌, ◌*◌, ◌%◌, ◌<◌, ◌≤◌, ℕ, length, slice_index};
 ghost use Rattle.std.specs.Prelude.{true};
@@ -8,55 +8,64 @@ ghost use Rattle.flash_model.specs.Calls.{Erases, Programs, ReadsBytes};
 
 use crate::error::Result;
 
-/// A flash: sectors of the same size, which are erased whole, and units of 8 bytes, which are
-/// programmed after they were erased. It has 4294967295 bytes at most.
+/// A flash: sectors of one size, which are erased as a whole, and units of 8 bytes, which are
+/// programmed only while they are erased.
 ///
-/// What a call leaves is said of the chip that contracts see: its bytes, whether it has power, how
-/// many writes were cut, and how many erases were completed. A write that is cut leaves its range
-/// with any bytes and all else as it was.
+/// A flash has at most 4294967295 bytes. Each byte has an address of 32 bits, from 0. Sectors are
+/// numbered from 0.
 ///
-/// What is asked of a driver, beyond the clauses of its calls:
-/// - A read fails only where the flash is off. Where the bus or the error correction of a part can
-///   fail otherwise, the driver tries again, or stops the device.
-/// - What is read doesn't drift: a unit reads the same until it is written, also one that a cut
-///   left half programmed. A unit that reads erased is erased, so that it may be programmed. A
-///   driver of a part whose torn units read one way now and another way later has to settle that,
-///   as by erased-page checks of the part.
-/// - `sector_size` and `sectors` never change, nor what is `fixed` of the chip: of a real part no
-///   write is to be cut.
+/// A *write* is a program or an erase. A write is done, interrupted by a power cut, or refused
+/// because the flash is off. An interrupted write leaves any bytes in its range and all other bytes
+/// unchanged.
 ///
-/// The counts of cuts, erases, writes and faults are for contracts alone: a driver keeps no number
-/// for them. Of a real part each cut is a fault, that is one that wasn't armed.
+/// Contracts see a flash as a chip (`specs/Chip.antt`): its bytes, whether it has power, and its
+/// counts of writes, cuts, completed erases and faults. These counts exist for contracts only: a
+/// driver doesn't have to store them.
 ///
-/// The laws below tie these counts to what the driver did. `written` is the one on bytes. To keep
-/// it, a driver has a field of the type `Origin`, which takes no memory and never changes, and a
-/// ghost field with the fact itself, `IsWrittenBy` of `specs/Written.antt`. It proves the fact anew
-/// where it writes, as `slice_flash` does; no number is kept for it at run time.
+/// # Implementing a driver
+///
+/// A driver keeps the contract of each call and the laws below. It also keeps these rules:
+/// - A read fails only if the flash is off. If the bus or the error correction of a part can fail,
+///   the driver retries or stops the device.
+/// - Reads don't drift. A unit reads the same bytes until it is written, also a unit that a power
+///   cut left half programmed. A unit that reads erased is erased, so it can be programmed. If a
+///   part may read a torn unit differently each time, its driver has to prevent that, for example
+///   by the part's check for erased pages.
+/// - `sector_size`, `sectors` and what is `fixed` of the chip never change.
+/// - A real part has no armed writes. Each power cut of a real part is a fault: a cut that wasn't
+///   armed.
+///
+/// The laws tie the counts to what the driver did. To keep the law `written`, a driver has two more
+/// fields. One is an [`Origin`](crate::Origin), which takes no memory and never changes. The other
+/// is a ghost field with the fact `IsWrittenBy` of `specs/Written.antt`, which the driver proves
+/// again at each write. `slice_flash` is a complete example. No number is stored for this law at
+/// run time.
 pub trait Flash {
     ghost chip: { Self → Chip };
 
-    /// The length of a sector in bytes, always the same.
+    /// Returns the length of a sector in bytes. It never changes.
     fn sector_size(&self) -> u32
         ensures { result ≡ (chip self.now).sector_size };
 
-    /// How many sectors there are, always as many.
+    /// Returns the number of sectors. It never changes.
     fn sectors(&self) -> u32
         ensures { result ≡ (chip self.now).sectors };
 
-    /// Reads the bytes from address `at` on, as many as `out` has, which lie in the flash.
+    /// Fills `out` with the bytes from address `at` on. The range has to lie in the flash.
     ///
     /// # Errors
-    /// `Off` where the flash was off.
+    /// `Off` if the flash was off: nothing of the flash changed, and `out` may hold any bytes.
     fn read(&mut self, at: u32, out: &mut [u8]) -> Result<()>
         requires { at + length out.old ≤ size_of (chip self.old) }
         ensures { ReadsBytes at out.new (chip self.old) (chip self.new) result };
 
-    /// Writes whole units, one at least, into a range that is erased throughout. Address and
-    /// length, in bytes, are multiples of 8.
+    /// Programs `bytes` at address `at`. The range lies in the flash and is erased throughout. The
+    /// bytes are whole units, at least one: `at` and the number of bytes are multiples of 8.
     ///
     /// # Errors
-    /// `Cut` where power failed: the range holds any bytes, all else is as it was, and the flash is
-    /// off. `Off` where it was off before: nothing changed.
+    /// - `Cut` if power failed: the range holds any bytes, all other bytes are unchanged, and the
+    ///   flash is off.
+    /// - `Off` if the flash was off before: nothing changed.
     fn program(&mut self, at: u32, bytes: &[u8]) -> Result<()>
         requires inside { at + length bytes.now ≤ size_of (chip self.old) }
         requires erased { IsErased (chip self.old) at (length bytes.now) }
@@ -65,34 +74,35 @@ pub trait Flash {
         requires some { 8 ≤ length bytes.now }
         ensures { Programs at bytes.now (chip self.old) (chip self.new) result };
 
-    /// Erases a sector, given by its number from 0: each of its bytes is 0xFF then.
+    /// Erases a sector, given by its number from 0. Each byte of the sector is 0xFF afterwards.
     ///
     /// # Errors
-    /// `Cut` where power failed: the sector holds any bytes, all else is as it was, and the flash
-    /// is off; such an erase isn't completed, also where it left the sector erased. `Off` where it
-    /// was off before: nothing changed.
+    /// - `Cut` if power failed: the sector holds any bytes, all other bytes are unchanged, and the
+    ///   flash is off. Such an erase isn't counted as completed, even if it left the sector erased.
+    /// - `Off` if the flash was off before: nothing changed.
     fn erase(&mut self, sector: u32) -> Result<()>
         requires { sector < (chip self.old).sectors }
         ensures { Erases sector (chip self.old) (chip self.new) result };
 
-    /// Gives the flash power again. No byte changes.
+    /// Turns the power on again. No byte changes.
     fn restart(&mut self)
         ensures { chip self.new ≡ record (chip self.old) { is_on = true } };
 
-    /// The bytes are those of the sectors.
+    /// The number of bytes is the number of sectors times their length.
     ghost whole: { (f : Self) → length (chip f).bytes ≡ size_of (chip f) };
 
-    /// Each byte has an address of 32 bits.
+    /// There are fewer than 2^32 bytes, so each byte has an address of 32 bits.
     ghost addressed: { (f : Self) → size_of (chip f) < 2 ^ 32 };
 
-    /// A byte is below 256.
+    /// Each byte is below 256.
     ghost bytes: { (f : Self) (k : ℕ) → slice_index (chip f).bytes k < 256 };
 
-    /// Each armed write that the flash took was cut, and no other one, but for the faults.
+    /// The count of cuts is the number of armed writes that the flash took, plus the count of
+    /// faults.
     ghost armed: { (f : Self) → IsCutAsArmed (chip f) };
 
-    /// The flash's bytes are what exactly the writes that it counts made of the bytes that it had
-    /// first. Each of these writes is one that a driver takes. The armed ones are torn as they were
+    /// The bytes are exactly what the counted writes made of the bytes that the flash held first.
+    /// Each of these writes is one that a driver accepts. The armed ones are torn as they were
     /// armed, and all others are done.
     ghost written: { (f : Self) → ∥ IsWritten (chip f) ∥₁ };
 }

@@ -1,21 +1,24 @@
-//! What a flash is, and what its calls leave, also if power fails during one.
+//! The trait `Flash`: what a flash driver implements, and what each call leaves, even if power
+//! fails.
 //!
-//! - Promises: A call on a flash is done, cut or refused. A flash in memory keeps this, and is cut
-//!   exactly as armed. Whether a range is erased is answered exactly.
+//! - Promises: A call on a flash is done, interrupted or refused. A flash in memory keeps this, and
+//!   is interrupted exactly as armed. Whether a range is erased is answered exactly.
 //! - Main calls: the trait `Flash`, `MemFlash`, `is_erased`, `set_unit`
 //! - Allocates: to make a flash in memory and to arm a cut; no call on a flash does.
 //! - Callers: any crate.
 //!
-//! All layers above write to the device's flash through the trait `Flash` alone. Each proves its
-//! promises from that trait's contracts, for every flash that keeps them. Contracts see a flash as
-//! a `Chip`: its bytes by address, whether it has power, and how many writes it took, how many of
-//! them were cut and how many erases were completed. Two laws of the trait tie these counts to what
-//! happened: there was one cut for each armed write, and the bytes are what exactly the counted
-//! writes made of those that the flash had first (`specs/Written.antt`).
+//! All layers above write to the device's flash through the trait [`Flash`] alone. Each proves its
+//! promises from the contracts of that trait, so they hold for every flash that keeps them.
 //!
-//! For a real flash the author of its driver promises what the trait says: no proof sees the
-//! hardware. `sector_map` says where the parts of a device lie on a flash; layers above it name
-//! parts, not addresses.
+//! Contracts see a flash as a `Chip`: its bytes by address, whether it has power, and its counts of
+//! writes, cuts and completed erases. Two laws of the trait tie these counts to what happened:
+//! - `armed`: there was one cut for each armed write that the flash took, and one for each fault.
+//! - `written`: the bytes are exactly what the counted writes made of the bytes that the flash held
+//!   first (`specs/Written.antt`).
+//!
+//! No proof sees the hardware: the author of a driver for a real part promises what the trait says.
+//! `docs/PORTING.md` lists the steps of a port. `sector_map` says where the parts of a device are
+//! on a flash; layers above it name parts, not addresses.
 #![tactic(auto)]
 
 mod erased_ranges;

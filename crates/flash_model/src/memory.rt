@@ -1,4 +1,4 @@
-//! A flash in memory, of which any write can be cut.
+//! A flash in memory that can interrupt any write.
 
 ghost use Rattle.std.specs.Prelude.{◌≡◌, ◌+◌, ◌-◌, ◌*◌, ◌/◌, ◌%◌, ◌^◌, ◌<◌, [], ℕ, All, length};
 ghost use Rattle.std.specs.Prelude.{min, replicate, slice_index, vec_len, IfOk};
@@ -13,22 +13,26 @@ use crate::torn::{Armed, Torn, torn_for};
 use std::alloc::{AllocError, Global};
 use std::sync::ledger::{Blank, Book, Ledger, Share};
 
-/// A flash in memory, of which any write can be cut.
+/// A flash in memory that can simulate a power cut during any write.
 ///
-/// A *write* is a program or an erase. The k-th one, counted from the making of the flash, from 1,
-/// is cut where `arm(k, ..)` was called before it: it answers `Cut`, leaves in its range exactly
-/// what was armed and all else as it was, and the flash is off until `restart`. No other write is
-/// cut. A write that a flash refuses since it is off isn't counted; a write that is cut is counted
-/// by `writes`, and never by `erases`.
+/// A *write* is a program or an erase. Writes are counted from 1 since the flash was made. Write k
+/// is interrupted if `arm(k, ..)` was called before it. It then returns `Cut`, leaves exactly what
+/// was armed in its range and all other bytes unchanged, and the flash is off until `restart`. No
+/// other write is interrupted.
 ///
-/// Reading, writing and restarting don't allocate: the bytes are there from its making, and those
-/// that cuts leave from `arm`.
+/// A write that the flash refuses because it is off isn't counted. `writes` counts an interrupted
+/// write, and `erases` doesn't.
+///
+/// Reading, writing and restarting don't allocate. The flash has its bytes from its making on, and
+/// what interrupted writes leave from `arm` on.
 ///
 /// Contracts see it as a `Chip` (`chip_of`), which has the armed writes in the order of their
-/// arming. Whoever calls the flash, it counts exactly one cut for each armed write that it took,
-/// and its bytes are what exactly the counted writes made of the first ones. The counts of cuts and
-/// of completed erases have no bound and take no bytes: they are tokens of the ledger `L`. So a
-/// flash is made in a function that is generic in `L`, whose caller picks the ledger:
+/// arming. Whatever code calls the flash, it counts exactly one cut for each armed write that it
+/// took. Its bytes are exactly what the counted writes made of the first bytes.
+///
+/// The counts of cuts and of completed erases have no bound and take no bytes: they are tokens of
+/// the ledger `L`. So a flash is made in a function that is generic in `L`, and the caller of that
+/// function chooses the ledger:
 ///
 /// ```text
 /// fn helper<L: Ledger>(alloc: Global, blank: Blank) -> Result<(), AllocError>
@@ -43,9 +47,9 @@ use std::sync::ledger::{Blank, Book, Ledger, Share};
 /// helper::<Brand>(rt.alloc(), Blank::new(2))?;
 /// ```
 ///
-/// with `std::sync::ledger::{Blank, Ledger}` and `std::marker::Brand`, and in
-/// `proofs/CALLER/Invariants.antt` of the function that calls `helper` (without `g` where the
-/// caller isn't generic):
+/// The names are from `std::sync::ledger::{Blank, Ledger}` and `std::marker::Brand`. The function
+/// that calls `helper` needs these lines in `proofs/CALLER/Invariants.antt`, without `g` if it
+/// isn't generic:
 ///
 /// ```text
 /// use Rattle.CRATE.proofs.CALLER.Given as goal
@@ -60,7 +64,7 @@ pub struct MemFlash<L: Ledger> {
     bytes: Vec<u8>,
     is_on: bool,
     writes: u64,
-    // The amount of `erases`, as far as 64 bits hold it.
+    // The number of completed erases, or 2^64 - 1 if there are more.
     completed: u64,
     armed: Vec<Armed>,
     origin: Origin,
@@ -83,14 +87,13 @@ pub struct MemFlash<L: Ledger> {
 impl<L: Ledger> MemFlash<L> {
     ghost use Rattle.flash_model.specs.Memory.{chip_of, new_chip, Arms};
 
-    /// A flash of so many sectors of `sector_size` bytes each, all erased, and on. Nothing is
-    /// armed.
+    /// Makes a flash of `sectors` sectors of `sector_size` bytes each, at most 4294967295 bytes
+    /// together. Each byte is 0xFF, the flash is on, and no write is armed.
     ///
-    /// It has 4294967295 bytes at most. The ledger's token has two parts, as `Blank::new(2)` makes
-    /// it.
+    /// `blank` is a token of the ledger with two parts, as `Blank::new(2)` makes it.
     ///
     /// # Errors
-    /// Where memory for the bytes is refused.
+    /// `AllocError` if memory for the bytes is refused.
     pub fn new(
         alloc: Global,
         blank: Blank,
@@ -108,11 +111,11 @@ impl<L: Ledger> MemFlash<L> {
         Ok(Self::of_sectors(alloc, blank, sector_size, sectors, bytes))
     }
 
-    /// A flash of these bytes, which is on: whole sectors of `sector_size` bytes each, 4294967295
-    /// bytes at most. Nothing is armed. Does not allocate; the allocator is the one that `arm` will
-    /// ask.
+    /// Makes a flash that holds `bytes`: whole sectors of `sector_size` bytes each, at most
+    /// 4294967295 bytes together. The flash is on, and no write is armed.
     ///
-    /// The ledger's token has two parts, as `Blank::new(2)` makes it.
+    /// Does not allocate; `alloc` is for later calls of `arm`. `blank` is a token of the ledger
+    /// with two parts, as `Blank::new(2)` makes it.
     pub fn from_bytes(alloc: Global, blank: Blank, sector_size: u32, bytes: Vec<u8>) -> Self
         requires name { blank.name ≡ L.name }
         requires parts { blank.parts ≡ L.parts }
@@ -127,7 +130,7 @@ impl<L: Ledger> MemFlash<L> {
         Self::of_sectors(alloc, blank, sector_size, sectors, bytes)
     }
 
-    /// A flash of so many sectors that holds these bytes.
+    /// Makes a flash of `sectors` sectors that holds `bytes`.
     fn of_sectors(
         alloc: Global,
         blank: Blank,
@@ -160,14 +163,15 @@ impl<L: Ledger> MemFlash<L> {
         }
     }
 
-    /// Has the k-th write cut, counted from the making of the flash, from 1, and leave what `torn`
-    /// says. `k` is below 2^64 - 1, where counting stops.
+    /// Arms write `k`: if the flash takes it, power fails during it, and its range holds what
+    /// `torn` says. Writes are counted from 1 since the flash was made. `k` is below 2^64 - 1,
+    /// where counting stops.
     ///
-    /// Calls add up; of several for the same `k` the first counts. A `k` of a write that is over
-    /// changes nothing, and there is no write 0.
+    /// Calls add up. If several name the same `k`, the first one counts. If write `k` is over, the
+    /// call changes nothing. There is no write 0.
     ///
     /// # Errors
-    /// Where memory for one more is refused: the flash is as it was.
+    /// `AllocError` if memory for another armed write is refused: the flash is unchanged.
     pub fn arm(&mut self, k: u64, torn: Torn) -> Result<(), AllocError>
         requires { k < 2 ^ 64 - 1 }
         ensures { Arms k torn (chip_of self.old) (chip_of self.new) result }
@@ -179,21 +183,23 @@ impl<L: Ledger> MemFlash<L> {
         Ok(())
     }
 
-    /// How many writes it took, programs and erases, also those that were cut. Stops at 2^64 - 1.
+    /// Returns the number of writes that the flash took: programs and erases, including interrupted
+    /// ones. Stops at 2^64 - 1.
     pub fn writes(&self) -> u64
         ensures { result ≡ (chip_of self.now).writes }
     {
         self.writes
     }
 
-    /// How many erases it completed; an erase that was cut isn't one of them. Stops at 2^64 - 1.
+    /// Returns the number of completed erases. An interrupted erase isn't completed. Stops at 2^64
+    /// - 1.
     pub fn erases(&self) -> u64
         ensures { result ≡ min (chip_of self.now).erases (2 ^ 64 - 1) }
     {
         self.completed
     }
 
-    /// The bytes, in the order of their addresses, whether it is on or off.
+    /// Returns the contents, in the order of the addresses, whether the flash is on or off.
     pub fn bytes(&self) -> &[u8]
         ensures { result.now ≡ (chip_of self.now).bytes }
     {

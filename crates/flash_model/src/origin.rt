@@ -1,14 +1,15 @@
-//! What a flash was made of, for proofs alone.
+//! The first contents of a flash, for proofs only.
 
 ghost use Rattle.std.specs.Prelude.{◌≡◌, ℕ, List};
 ghost use Rattle.std.specs.Borrow.{ftrue};
 
 use std::marker::Model;
 
-/// The bytes that a flash had when it was made. Only proofs read them: it takes no memory.
+/// The bytes that a flash held when it was made. Only proofs read them, and an `Origin` takes no
+/// memory.
 ///
-/// A driver keeps one beside its other fields and never changes it, so that the law `written` of
-/// `Flash` can say what its writes made of these bytes.
+/// A driver has a field of this type and never changes it. With it the law `written` of
+/// [`Flash`](crate::Flash) can say what the writes of the driver made of these bytes.
 #[derive(Drop)]
 pub struct Origin {
     pub ghost first: { List ℕ },
@@ -19,7 +20,7 @@ impl Model for Origin {
 }
 
 impl Origin {
-    /// Of a flash that has these bytes.
+    /// Returns the origin of a flash that holds these bytes.
     pub fn of(bytes: &[u8]) -> Origin
         ensures { result.first ≡ bytes.now }
     {

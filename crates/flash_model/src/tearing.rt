@@ -1,4 +1,4 @@
-//! Ranges of bytes in memory, written whole or torn.
+//! Writes to bytes in memory, done or torn.
 
 ghost use Rattle.std.specs.Prelude.{ℕ, ◌≡◌, ◌+◌, ◌<◌, ◌≤◌, length, replicate, slice_index};
 ghost use Rattle.std.specs.Prelude.{slice_range};
@@ -7,7 +7,7 @@ ghost use Rattle.flash_model.specs.declared.torn.Torn.TheVariants as Torn;
 
 use crate::torn::Torn;
 
-/// Puts a pattern over the bytes, again and again from the first one on; none where it is empty.
+/// Fills `bytes` with `pattern`, repeated from the first byte on. An empty pattern changes nothing.
 /// Does not allocate.
 #[tactic(auto, using(crate::proofs::TornBytes::with_pattern_none, crate::proofs::TornBytes::with_pattern_each))]
 pub fn repeat(bytes: &mut [u8], pattern: &[u8])
@@ -22,7 +22,7 @@ pub fn repeat(bytes: &mut [u8], pattern: &[u8])
     }
 }
 
-/// Puts these bytes at their place.
+/// Copies `bytes` to offset `at` of `all`.
 pub(crate) fn put(all: &mut [u8], at: usize, bytes: &[u8])
     requires { at + length bytes.now ≤ length all.old }
     ensures bytes { all.new ≡ replaced at bytes.now all.old }
@@ -31,7 +31,7 @@ pub(crate) fn put(all: &mut [u8], at: usize, bytes: &[u8])
     all[at..at + bytes.len()].copy_from_slice(bytes);
 }
 
-/// Erases so many bytes.
+/// Sets the `n` bytes from offset `at` to 0xFF.
 pub(crate) fn blank(all: &mut [u8], at: usize, n: usize)
     requires { at + n ≤ length all.old }
     ensures bytes { all.new ≡ replaced at (replicate n 0xff) all.old }
@@ -40,7 +40,7 @@ pub(crate) fn blank(all: &mut [u8], at: usize, n: usize)
     all[at..at + n].fill(0xff);
 }
 
-/// Puts a pattern over so many bytes.
+/// Repeats `pattern` over the `n` bytes from offset `at`.
 fn put_pattern(all: &mut [u8], at: usize, n: usize, pattern: &[u8])
     requires { at + n ≤ length all.old }
     ensures bytes { all.new
@@ -50,7 +50,7 @@ fn put_pattern(all: &mut [u8], at: usize, n: usize, pattern: &[u8])
     repeat(&mut all[at..at + n], pattern);
 }
 
-/// Puts the first half of these bytes at their place.
+/// Copies the first half of `bytes` to offset `at` of `all`.
 #[tactic(auto, using(crate::proofs::TornBytes::half_put))]
 fn put_half(all: &mut [u8], at: usize, bytes: &[u8])
     requires { at + length bytes.now ≤ length all.old }
@@ -60,7 +60,7 @@ fn put_half(all: &mut [u8], at: usize, bytes: &[u8])
     put(all, at, &bytes[..bytes.len() / 2]);
 }
 
-/// Erases the first half of so many bytes.
+/// Sets the first half of the `n` bytes from offset `at` to 0xFF.
 #[tactic(auto, using(crate::proofs::TornBytes::half_blank))]
 fn blank_half(all: &mut [u8], at: usize, n: usize)
     requires { at + n ≤ length all.old }
@@ -71,7 +71,7 @@ fn blank_half(all: &mut [u8], at: usize, n: usize)
     blank(all, at, n / 2);
 }
 
-/// Leaves of a program of these bytes what a cut leaves.
+/// Leaves what an interrupted program of `bytes` at offset `at` leaves, as `torn` says.
 pub(crate) fn tear_program(all: &mut [u8], at: usize, bytes: &[u8], torn: &Torn)
     requires { at + length bytes.now ≤ length all.old }
     ensures bytes { all.new ≡ torn_at at bytes.now torn.now all.old }
@@ -85,7 +85,7 @@ pub(crate) fn tear_program(all: &mut [u8], at: usize, bytes: &[u8], torn: &Torn)
     }
 }
 
-/// Leaves of an erase of so many bytes what a cut leaves.
+/// Leaves what an interrupted erase of the `n` bytes from offset `at` leaves, as `torn` says.
 pub(crate) fn tear_erase(all: &mut [u8], at: usize, n: usize, torn: &Torn)
     requires { at + n ≤ length all.old }
     ensures bytes { let old = slice_range all.old at (at + n) in

@@ -1,33 +1,34 @@
-//! What a cut leaves, and the writes that are to be cut.
+//! The writes that are to be interrupted, and what each leaves.
 
 ghost use Rattle.std.specs.Prelude.{◌≡◌, ◌==◌, ◌+◌, ◌≤◌, length, option_copied};
 ghost use Rattle.flash_model.specs.Torn.{torn_for};
 
-/// What a cut leaves in its range.
+/// What an interrupted write leaves in its range.
 #[derive(Debug, Drop, PartialEq, Eq)]
 pub enum Torn {
-    /// What was there before.
+    /// The old bytes.
     Keep,
-    /// What the write was to leave.
+    /// The new bytes: all that the write was to leave.
     Done,
-    /// These bytes over the range, again and again from its first byte on. No bytes at all are
-    /// `Keep`.
+    /// This pattern, repeated over the range from its first byte on. An empty pattern leaves the
+    /// old bytes, as `Keep` does.
     Bytes(Vec<u8>),
-    /// The first half of what the write was to leave, and behind it what was there before. Of an
-    /// odd number of bytes the half is the smaller one.
+    /// The first half of the new bytes, followed by the old bytes. Half of an odd number is rounded
+    /// down.
     Half,
 }
 
-/// A write that is to be cut.
+/// A write that is to be interrupted.
 #[derive(Debug, Drop, PartialEq, Eq)]
 pub struct Armed {
-    /// Its number, counted from the making of the flash, from 1.
+    /// The number of the write, counted from 1 since the flash was made.
     pub at: u64,
-    /// What the cut leaves.
+    /// What the write leaves in its range.
     pub torn: Torn,
 }
 
-/// What the cut of write `number` leaves, where that write is to be cut: the first of them counts.
+/// Returns what write `number` leaves if it is armed. If several entries have this number, the
+/// first one counts.
 pub(crate) fn torn_for(armed: &[Armed], number: u64) -> Option<&Torn>
     ensures { option_copied result ≡ torn_for number armed.now }
 {

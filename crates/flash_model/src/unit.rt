@@ -1,4 +1,4 @@
-//! Units: eight bytes that are programmed together, after they were erased.
+//! Units: eight bytes that are programmed together.
 
 ghost use Rattle.std.specs.Prelude.{◌≡◌, ◌+◌, ◌%◌, ◌≤◌};
 ghost use Rattle.flash_model.specs.Chip.{size_of, IsErased};
@@ -11,15 +11,15 @@ use crate::flash::Flash;
 /// The length of a unit in bytes.
 pub const UNIT: u32 = 8;
 
-/// What a unit holds that `set_unit` has written: 0x01, and 0xFF up to its end, as MCUboot writes a
-/// flag (`BOOT_FLAG_SET`).
+/// The bytes that `set_unit` writes: 0x01 and seven bytes 0xFF, as MCUboot writes a flag
+/// (`BOOT_FLAG_SET`).
 pub const FLAG: [u8; 8] = [0x01, 0xff, 0xff, 0xff, 0xff, 0xff, 0xff, 0xff];
 
-/// Whether the unit at address `at` is erased; where it isn't, it is set. The flash doesn't change.
-/// Does not allocate.
+/// Returns whether the unit at address `at` is erased. A unit that isn't erased is *set*. The unit
+/// has to lie in the flash, which doesn't change. Does not allocate.
 ///
 /// # Errors
-/// `Off` where the flash is off.
+/// `Off` if the flash is off.
 pub fn is_unit_erased<F: Flash>(flash: &mut F, at: u32) -> Result<bool>
     requires { at + 8 ≤ size_of (F.chip flash.old) }
     ensures { TellsUnitErased at (F.chip flash.old) (F.chip flash.new) result }
@@ -27,12 +27,13 @@ pub fn is_unit_erased<F: Flash>(flash: &mut F, at: u32) -> Result<bool>
     is_erased(flash, at, UNIT)
 }
 
-/// Sets the unit at address `at`, a multiple of 8, which is erased: writes `FLAG` to it. Does not
-/// allocate.
+/// Sets the unit at address `at` by programming `FLAG`. The unit is erased, and `at` is a multiple
+/// of 8. Does not allocate.
 ///
 /// # Errors
-/// `Cut` where power failed: the unit holds any bytes, so it is erased or set; all else is as it
-/// was, and the flash is off. `Off` where it was off before: nothing changed.
+/// - `Cut` if power failed: the unit holds any bytes, so it is erased or set. All other bytes are
+///   unchanged, and the flash is off.
+/// - `Off` if the flash was off before: nothing changed.
 pub fn set_unit<F: Flash>(flash: &mut F, at: u32) -> Result<()>
     requires inside { at + 8 ≤ size_of (F.chip flash.old) }
     requires erased { IsErased (F.chip flash.old) at 8 }
