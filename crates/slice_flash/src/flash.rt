@@ -1,4 +1,4 @@
-//! A flash over borrowed bytes.
+//! A flash over borrowed bytes that can interrupt any write.
 
 ghost use Rattle.std.specs.Prelude.{◌≡◌, ◌==◌, ◌+◌, ◌*◌, ◌%◌, ◌^◌, ◌<◌, ◌≤◌, ℕ, false, true};
 ghost use Rattle.std.specs.Prelude.{length, slice_index, slice_range};
@@ -11,23 +11,24 @@ use crate::table::{ArmedCut, Left, left_after, tear};
 use flash_model::{Flash, FlashError, Origin, Result, repeat};
 use std::sync::ledger::{Blank, Book, Ledger, Share};
 
-/// A flash over borrowed bytes, of which any write can be cut.
+/// A flash over borrowed bytes that can simulate a power cut during any write.
 ///
 /// A *write* is a program or an erase. Writes are counted from 1 since the flash was made. A write
-/// is cut if the table has a row for it, and the first such row counts. The write returns `Cut`,
-/// leaves in its range exactly what the row says and all else unchanged, and the flash is off until
-/// `restart`. No other write is cut. A write that a flash refuses because it is off isn't counted.
+/// is interrupted if the table has a row for it, and the first such row counts. The write then
+/// returns `Cut`, leaves in its range exactly what the row says and all other bytes unchanged, and
+/// the flash is off until `restart`. No other write is interrupted. A write that the flash refuses
+/// because it is off isn't counted.
 ///
 /// No call allocates. When the flash is dropped, the borrowed bytes are those of the flash. The
 /// caller knows this if functions borrowed the flash. If the flash was moved into another struct,
 /// the caller knows only the length.
 ///
-/// Contracts see it as a `Slice` (`slice_of`): the chip and the table. Its bytes are what exactly
-/// the counted writes made of the borrowed bytes, torn where the table says and as it says. A flash
-/// that is off was cut in the last of these writes.
+/// Contracts see it as a `Slice` (`slice_of`): the chip and the table. Its bytes are exactly what
+/// the counted writes made of the first bytes, torn if the table says so and as it says. If the
+/// flash is off, the last of these writes was interrupted.
 ///
-/// It is made in a function that is generic in the ledger, like a `MemFlash`. The page of
-/// `MemFlash` says what the caller of that function writes:
+/// A flash is made in a function that is generic in the ledger, like a `MemFlash`. The page of
+/// `MemFlash` lists what the caller of that function has to write:
 ///
 /// ```text
 /// fn helper<L: Ledger>(blank: Blank, bytes: &mut [u8])
@@ -67,7 +68,7 @@ pub struct SliceFlash<'a, L: Ledger> {
         (fixed_by table.now origin.first bytes.ghost_name) bytes.now writes ∥₁ },
 }
 
-// Written out for its clause, by which the caller knows the bytes again: a derived `drop` of a
+// Written by hand for its clause, from which the caller knows the bytes. A derived `drop` of a
 // struct that owns more than the borrow has no clause about it.
 impl<'a, L: Ledger> Drop for SliceFlash<'a, L> {
     ghost use Rattle.slice_flash.specs.SliceFlash.{chip_of};
@@ -90,8 +91,8 @@ impl<'a, L: Ledger> Drop for SliceFlash<'a, L> {
     }
 }
 
-/// Reads from an address on. The bytes are borrowed as `&mut`: a field that is a `&mut` and is
-/// passed as `&` isn't known to be unchanged.
+/// Reads the bytes from offset `at` into `out`. The bytes are borrowed as `&mut`, because a `&mut`
+/// field that is passed as `&` isn't known to be unchanged.
 fn read_from(bytes: &mut [u8], at: usize, out: &mut [u8])
     requires { at + length out.old ≤ length bytes.old }
     ensures same { bytes.new ≡ bytes.old }
@@ -103,10 +104,11 @@ fn read_from(bytes: &mut [u8], at: usize, out: &mut [u8])
 impl<'a, L: Ledger> SliceFlash<'a, L> {
     ghost use Rattle.slice_flash.specs.SliceFlash.{chip_of, new_slice, slice_of, CanPut, Puts};
 
-    /// A flash that holds the borrowed bytes, whole sectors of `sector_size` bytes each, and is on.
+    /// Makes a flash over the borrowed bytes: whole sectors of `sector_size` bytes each, at most
+    /// 4294967295 bytes together. The flash is on. `table` lists the writes that are to be
+    /// interrupted.
     ///
-    /// It has at most 4294967295 bytes. The ledger's token has two parts, as `Blank::new(2)` makes
-    /// it.
+    /// `blank` is a token of the ledger with two parts, as `Blank::new(2)` makes it.
     pub fn new(
         blank: Blank,
         bytes: &'a mut [u8],
@@ -139,15 +141,16 @@ impl<'a, L: Ledger> SliceFlash<'a, L> {
         }
     }
 
-    /// The number of writes so far, up to 2^64 - 1.
+    /// Returns the number of writes so far, including interrupted ones. Stops at 2^64 - 1.
     pub fn writes(&self) -> u64
         ensures { result ≡ (chip_of self.now).writes }
     {
         self.writes
     }
 
-    /// A write: repeats a pattern over `n` bytes from `at` on, or is cut. It is counted while its
-    /// range is borrowed, so that count and bytes change together for the struct's invariants.
+    /// Writes: repeats a pattern over the `n` bytes from offset `at`, unless the table interrupts
+    /// the write. Counts the write while its range is borrowed, because the struct's invariants tie
+    /// the count to the bytes.
     fn write(&mut self, at: usize, n: usize, pattern: &[u8]) -> Result<()>
         requires inside { at + n ≤ length (chip_of self.old).bytes }
         requires taken { CanPut at n pattern.now (chip_of self.old) }
