@@ -1,4 +1,4 @@
--- Which map is made of sizes, or which of the checks of sizes is the first that fails.
+-- The map that is made of sizes, and the first check of sizes that fails.
 use Rattle.std.specs.Prelude.{◌≡◌, ℕ, List, length, slice_index}
 use Rattle.sector_map.specs.declared.error.MapError.{MapError}
 use Rattle.sector_map.specs.declared.error.MapError.TheVariants.{BadSector, BadCount, TrailerFull, TooLarge}
@@ -6,13 +6,14 @@ use Rattle.sector_map.specs.declared.layout.SectorMap.{SectorMap}
 use Rattle.sector_map.specs.Sizes.{IsSectorSize, AreImages, HoldTrailers, AreAddressed}
 use Rattle.sector_map.specs.Map.{slot_sectors}
 
--- The map of these sizes: as many images as there are counts, each with as many sectors a slot.
+-- A map has these sizes: an image for each count, and the counted sectors in each slot of that
+-- image.
 pub record HasSizes (size : ℕ) (counts : List ℕ) (map : SectorMap) : Type 0 where
   pub sector_size : map.sector_size ≡ size
   pub images : map.images ≡ length counts
   pub sectors : (i : ℕ) → slot_sectors map i ≡ slice_index counts i
 
--- The first check of sizes that fails.
+-- This check of the sizes is the first that fails.
 abbrev pub IsMapFault : ℕ → List ℕ → MapError → Type 0
 IsMapFault size counts BadSector = IsSectorSize size → ⊥
 IsMapFault size counts BadCount = IsSectorSize size × (AreImages (length counts) counts → ⊥)

@@ -1,11 +1,12 @@
-//! Why sizes make no map.
+//! The errors of sizes that make no map.
 
 ghost use Rattle.std.specs.Prelude.{◌≡◌};
 ghost use Rattle.sector_map.specs.Codes.{code_of, name_of};
 
 use thiserror::Error;
 
-/// Why sizes make no map: the first check that fails. The numbers are 1 to 4, in this order.
+/// Why sizes make no map: the first check that fails. The variants have the numbers 1 to 4, in this
+/// order.
 #[derive(Clone, Copy, Debug, PartialEq, Eq, Error)]
 pub enum MapError {
     /// The length of a sector isn't a multiple of 64 from 512 to 131072.
@@ -14,16 +15,16 @@ pub enum MapError {
     /// There are no images or more than 8, or one of them has no sectors.
     #[error("there are one to eight images, each with a sector at least")]
     BadCount,
-    /// An image has so many sectors that its trailer doesn't fit into one.
+    /// The slots of an image have too many sectors: its trailer doesn't fit into one sector.
     #[error("an image has so many sectors that its trailer doesn't fit into one")]
     TrailerFull,
-    /// There are more than 4294967295 bytes in all.
+    /// The map has more than 4294967295 bytes in all.
     #[error("there are more than 4294967295 bytes in all")]
     TooLarge,
 }
 
 impl MapError {
-    /// The number of the kind, 1 to 4 in the order of the checks.
+    /// Returns the number of the error, 1 to 4.
     pub fn code(self) -> u8
         ensures { result ≡ code_of self }
     {
@@ -35,7 +36,7 @@ impl MapError {
         }
     }
 
-    /// The name of the kind, as it is printed.
+    /// Returns the name of the error as it is printed.
     pub fn name(self) -> &'static str
         ensures { result.now ≡ name_of self }
     {

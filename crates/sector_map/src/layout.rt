@@ -1,4 +1,4 @@
-//! The sectors of a device's images, and where each part lies.
+//! The map of a device's flash: the sectors of its images, and the places of all parts.
 
 ghost use Rattle.std.specs.Prelude.{◌≡◌, ◌+◌, ◌*◌, ◌<◌, ◌≤◌, ◌^◌, ◌↔◌, ℕ, IsTrue};
 ghost use Rattle.sector_map.specs.Sizes.{MakeMap, before};
@@ -6,27 +6,32 @@ ghost use Rattle.sector_map.specs.Sizes.{MakeMap, before};
 use common::limits::MOST_IMAGES;
 use flash_model::Flash;
 
-/// Which of an image's two slots (MCUboot's design document, "Image Slots").
+/// One of the two slots of an image (MCUboot design document, "Image Slots").
 #[derive(Clone, Copy, Debug, PartialEq, Eq)]
 pub enum Side {
     /// The slot that the image runs from.
     Primary,
-    /// The slot that a new image is written to, and that keeps the old one while the new one is on
-    /// trial.
+    /// The slot that a new image is written to. It holds the old image during a trial of the new
+    /// one.
     Secondary,
 }
 
-/// Where the parts of a device's flash lie, by the length of a sector and the sectors of each
-/// image. Both slots of an image have as many. In the order of their addresses there are: for each
-/// image its primary slot and the trailer's sector; for each image its secondary slot and the
-/// trailer's sector; scratch; three sectors of the log.
+/// The places of the parts of a device on its flash, by the length of a sector and the sectors of
+/// each image.
+///
+/// The two slots of an image have the same number of sectors. The order of the parts, by address,
+/// is:
+/// - for each image its primary slot, and one sector for the slot's trailer;
+/// - for each image its secondary slot, and one sector for the slot's trailer;
+/// - one scratch sector;
+/// - three sectors of the log.
 #[derive(Clone, Copy, Debug, PartialEq, Eq)]
 pub struct SectorMap {
     /// The length of a sector in bytes.
     pub sector_size: u32,
-    /// How many images there are.
+    /// The number of images.
     pub images: u8,
-    /// How many sectors each slot of an image has; none where there is no such image.
+    /// The number of sectors in each slot of an image, or 0 if there is no such image.
     pub sectors: [u32; MOST_IMAGES],
     ghost is_map: { MakeMap sector_size images sectors },
 }
@@ -36,7 +41,7 @@ impl SectorMap {
     ghost use Rattle.sector_map.specs.Map.{places_of, place_of_record, closing_unit};
     ghost use Rattle.sector_map.specs.Part.{Slot, TrailerOf, Scratch, Log};
 
-    /// How many sectors each slot of an image has.
+    /// Returns the number of sectors in each slot of an image.
     pub fn slot_sectors(&self, image: u8) -> u32
         requires { image < self.now.images }
         ensures { result ≡ slot_sectors self.now image }
@@ -44,7 +49,7 @@ impl SectorMap {
         self.sectors[usize::from(image)]
     }
 
-    /// How many bytes each slot of an image has.
+    /// Returns the length in bytes of each slot of an image.
     pub fn slot_length(&self, image: u8) -> u32
         requires { image < self.now.images }
         ensures { result ≡ slot_sectors self.now image * self.now.sector_size }
@@ -52,21 +57,21 @@ impl SectorMap {
         self.slot_sectors(image) * self.sector_size
     }
 
-    /// How many sectors the map has, numbered from 0.
+    /// Returns the number of sectors of the map. Sectors are numbered from 0.
     pub fn sectors_in_all(&self) -> u32
         ensures { result ≡ sectors_of self.now }
     {
         self.scratch() + 4
     }
 
-    /// How many bytes the map has.
+    /// Returns the number of bytes of the map.
     pub fn bytes_in_all(&self) -> u32
         ensures { result ≡ sectors_of self.now * self.now.sector_size }
     {
         self.sectors_in_all() * self.sector_size
     }
 
-    /// The number of a slot's first sector.
+    /// Returns the number of a slot's first sector.
     #[tactic(auto, using(crate::proofs::Places::first_fits))]
     pub fn slot(&self, image: u8, side: Side) -> u32
         requires { image < self.now.images }
@@ -75,7 +80,7 @@ impl SectorMap {
         self.start_of(side) + self.sectors_before(image)
     }
 
-    /// The address in bytes of a slot's first byte.
+    /// Returns the address of a slot's first byte.
     pub fn slot_start(&self, image: u8, side: Side) -> u32
         requires { image < self.now.images }
         ensures { result ≡ start_of self.now (Slot image side) }
@@ -83,7 +88,7 @@ impl SectorMap {
         self.sector_start(self.slot(image, side))
     }
 
-    /// The number of a trailer's sector.
+    /// Returns the number of a trailer's sector.
     #[tactic(auto, using(crate::proofs::Places::first_fits))]
     pub fn trailer(&self, image: u8, side: Side) -> u32
         requires { image < self.now.images }
@@ -92,7 +97,7 @@ impl SectorMap {
         self.slot(image, side) + self.slot_sectors(image)
     }
 
-    /// The address of a trailer's first byte.
+    /// Returns the address of a trailer's first byte.
     pub fn trailer_start(&self, image: u8, side: Side) -> u32
         requires { image < self.now.images }
         ensures { result ≡ start_of self.now (TrailerOf image side) }
@@ -100,21 +105,21 @@ impl SectorMap {
         self.sector_start(self.trailer(image, side))
     }
 
-    /// The number of the scratch sector.
+    /// Returns the number of the scratch sector.
     pub fn scratch(&self) -> u32
         ensures { result ≡ first_of self.now Scratch }
     {
         2 * self.sectors_before(self.images)
     }
 
-    /// The address of the scratch sector's first byte.
+    /// Returns the address of the scratch sector's first byte.
     pub fn scratch_start(&self) -> u32
         ensures { result ≡ start_of self.now Scratch }
     {
         self.sector_start(self.scratch())
     }
 
-    /// The number of one of the log's sectors, which are counted from 0 to 2.
+    /// Returns the number of a sector of the log, given by its position in the log from 0 to 2.
     pub fn log_sector(&self, sector: u32) -> u32
         requires { sector < 3 }
         ensures { result ≡ first_of self.now Log + sector }
@@ -122,14 +127,15 @@ impl SectorMap {
         self.scratch() + 1 + sector
     }
 
-    /// How many places for records of 64 bytes a sector of the log has.
+    /// Returns the number of places for records of 64 bytes in a sector of the log.
     pub fn record_places(&self) -> u32
         ensures { result ≡ places_of self.now }
     {
         self.sector_size / 64 - 1
     }
 
-    /// The address of a place for a record in one of the log's sectors. Places are counted from 0.
+    /// Returns the address of a place for a record in sector `sector` of the log, which is from 0
+    /// to 2. Places are counted from 0.
     pub fn record_start(&self, sector: u32, place: u32) -> u32
         requires sector { sector < 3 }
         requires place { place < places_of self.now }
@@ -138,7 +144,8 @@ impl SectorMap {
         self.sector_start(self.log_sector(sector)) + 64 * place
     }
 
-    /// The address of the closing unit of one of the log's sectors: its last 8 bytes.
+    /// Returns the address of the closing unit of sector `sector` of the log, which is from 0 to 2.
+    /// This unit is the last 8 bytes of the sector.
     pub fn closing_unit(&self, sector: u32) -> u32
         requires { sector < 3 }
         ensures { result ≡ closing_unit self.now sector }
@@ -146,7 +153,7 @@ impl SectorMap {
         self.sector_start(self.log_sector(sector)) + (self.sector_size - 8)
     }
 
-    /// The address of a sector's first byte.
+    /// Returns the address of a sector's first byte.
     pub fn sector_start(&self, sector: u32) -> u32
         requires { sector < sectors_of self.now }
         ensures { result ≡ sector * self.now.sector_size }
@@ -154,7 +161,8 @@ impl SectorMap {
         sector * self.sector_size
     }
 
-    /// Whether a flash has sectors of the map's size, and as many at least.
+    /// Returns whether the map fits a flash: its sectors have the map's size, and there are at
+    /// least as many as the map needs.
     #[tactic(auto, using(crate::proofs::Parts::laid_out_by))]
     pub fn fits<F: Flash>(&self, flash: &F) -> bool
         ensures { IsTrue result ↔ IsLaidOut self.now (F.chip flash.now) }
@@ -162,7 +170,7 @@ impl SectorMap {
         flash.sector_size() == self.sector_size && flash.sectors() >= self.sectors_in_all()
     }
 
-    /// Where a side begins.
+    /// Returns the number of the first sector of a side.
     fn start_of(&self, side: Side) -> u32
         ensures { result ≡ side_start self.now side }
     {
@@ -172,7 +180,7 @@ impl SectorMap {
         }
     }
 
-    /// The sectors of one side before an image.
+    /// Returns the number of sectors of one side before an image, trailers included.
     #[tactic(auto, using(crate::proofs::Places::placing))]
     fn sectors_before(&self, image: u8) -> u32
         requires { image ≤ self.now.images }

@@ -1,4 +1,4 @@
-//! A map of given sizes.
+//! Makes a map of given sizes.
 
 ghost use Rattle.std.specs.Prelude.{◌≡◌, ◌+◌, ◌*◌, ◌<◌, ◌≤◌, ◌^◌, ◌↔◌, ℕ, IsTrue, IfOk, IfErr, IsOk, length, slice_index};
 ghost use Rattle.sector_map.specs.Making.{HasSizes, IsMapFault};
@@ -9,14 +9,16 @@ use crate::layout::SectorMap;
 use common::limits::MOST_IMAGES;
 
 impl SectorMap {
-    /// The map of sectors of `sector_size` bytes and of as many images as there are counts, the
-    /// slots of each with so many sectors.
+    /// Makes the map of a device with sectors of `sector_size` bytes. `sectors_per_image` has an
+    /// entry for each image: the number of sectors in each of its two slots, without trailers.
     ///
     /// # Errors
-    /// The first check that fails: `BadSector` unless the size is a multiple of 64 from 512 to
-    /// 131072; `BadCount` unless there are 1 to 8 images, each with a sector at least;
-    /// `TrailerFull` where three status units of 8 bytes a sector and 56 bytes more don't fit into
-    /// a sector; `TooLarge` where all parts together have more than 4294967295 bytes.
+    /// The first check that fails:
+    /// - `BadSector` unless `sector_size` is a multiple of 64 from 512 to 131072;
+    /// - `BadCount` unless there are 1 to 8 images, each with at least one sector;
+    /// - `TrailerFull` if a trailer doesn't fit into a sector: it has three status units of 8 bytes
+    ///   for each sector of a slot, and 56 more bytes;
+    /// - `TooLarge` if all parts together have more than 4294967295 bytes.
     pub fn new(sector_size: u32, sectors_per_image: &[u32]) -> Result<SectorMap, MapError>
         ensures made { IfOk result (HasSizes sector_size sectors_per_image.now) }
         ensures accepted { IsOk result ↔
@@ -75,7 +77,7 @@ fn are_addressed(size: u32, counts: &[u32]) -> bool
     (2 * side_sectors(counts) + 4) * u64::from(size) <= u64::from(u32::MAX)
 }
 
-/// The sectors of one side.
+/// Returns the number of sectors of one side, trailers included.
 #[tactic(auto, using(crate::proofs::Places::counting))]
 fn side_sectors(counts: &[u32]) -> u64
     requires { length counts.now ≤ MOST_IMAGES }
@@ -89,7 +91,7 @@ fn side_sectors(counts: &[u32]) -> u64
     sectors
 }
 
-/// The counts, and none for images that aren't there.
+/// Returns the counts, with 0 for images that aren't there.
 fn table_of(counts: &[u32]) -> [u32; MOST_IMAGES]
     requires { length counts.now ≤ MOST_IMAGES }
     ensures { (k : ℕ) → slice_index result k ≡ slice_index counts.now k }

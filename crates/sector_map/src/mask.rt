@@ -1,4 +1,4 @@
-//! Masks: sets of images, an image a bit.
+//! Masks: sets of images, with one bit for each image.
 
 ghost use Rattle.std.specs.Prelude.{◌≡◌, ◌^◌, ◌<◌, ◌≤◌, ◌↔◌, ℕ, IsTrue, false, true, length, slice_index_or, if◌then◌else◌};
 ghost use Rattle.sector_map.specs.Map.{IsWithin};
@@ -7,7 +7,7 @@ ghost use Rattle.sector_map.specs.Part.{is_member};
 use crate::layout::SectorMap;
 use common::limits::MOST_IMAGES;
 
-/// Whether an image is in a mask.
+/// Returns whether an image is in a mask. Images are numbered from 0 to 7.
 #[tactic(auto, unfolding(crate::specs::Part::is_member))]
 pub fn is_member(mask: u8, image: u8) -> bool
     requires { image < MOST_IMAGES }
@@ -16,14 +16,14 @@ pub fn is_member(mask: u8, image: u8) -> bool
     (mask >> image) % 2 == 1
 }
 
-/// Whether each image of a mask is one of the map's.
+/// Returns whether each image of a mask is an image of the map.
 pub fn is_within(map: &SectorMap, mask: u8) -> bool
     ensures { IsTrue result ↔ IsWithin map.now mask }
 {
     u16::from(mask) >> map.images == 0
 }
 
-/// A bit as a number.
+/// Returns a bit as a number.
 fn bit(on: bool) -> u8
     ensures is { result ≡ (if on then 1 else 0) }
     ensures small { result ≤ 1 }
@@ -31,13 +31,13 @@ fn bit(on: bool) -> u8
     if on { 1 } else { 0 }
 }
 
-/// The mask of the images of which a list says that they are members: its entry i is for image i,
-/// and images behind its end are none. It has 8 entries at most.
+/// Returns the mask of the images for which `members` is true: entry i is for image i. Images after
+/// the end of the list aren't in the mask. The list has at most 8 entries.
 pub fn mask_of(members: &[bool]) -> u8
     requires { length members.now ≤ MOST_IMAGES }
-    // These images are in it and no others ..
+    // Exactly these images are in the mask.
     ensures each { (i : ℕ) → is_member result i ≡ slice_index_or members.now i false }
-    // .. and there is no other such mask.
+    // No other mask has exactly these images.
     ensures only { (mask : ℕ) → mask < 2 ^ 8
         → ((i : ℕ) → is_member mask i ≡ slice_index_or members.now i false) → mask ≡ result }
 {
