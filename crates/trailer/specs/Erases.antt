@@ -1,4 +1,4 @@
--- What a call does that erases a trailer.
+-- What a call that erases a trailer does.
 use Rattle.std.specs.Prelude.{◌≡◌, ℕ, ◌+◌, true, false, if◌then◌else◌, Result, IsErrOf, OnOk}
 use Rattle.flash_model.specs.declared.error.FlashError.{FlashError}
 use Rattle.flash_model.specs.declared.error.FlashError.TheVariants.{Off}
@@ -13,28 +13,28 @@ use Rattle.trailer.specs.Fields.{erased_fields, fields_at, trailer_bytes}
 -- A call erases a trailer.
 pub record ErasesTrailer (map : SectorMap) (image : ℕ) (side : Side) (old new : Chip)
     {T : Type 0} (result : Result T FlashError) : Type 0 where
-  -- No other part is written,
+  -- No other part changes.
   pub outside : Keeps map (only (TrailerOf image side)) old new
-  -- and this one is erased where the call ends.
+  -- On success each byte of the trailer is erased.
   pub bytes : OnOk result (are_erased (trailer_bytes map new image side) ≡ true)
   pub ok : OnOk result (fields_at map new image side ≡ erased_fields)
   pub erases : OnOk result (new.erases ≡ old.erases + 1)
-  -- A flash without power is answered so.
+  -- If the flash is off, the call returns `Off`.
   pub off : old.is_on ≡ false → IsErrOf result Off
   pub ends : Ends result old new
 
--- A call erases a trailer, unless it is all erased.
+-- A call erases a trailer, unless each of its bytes is erased.
 pub record Clears (map : SectorMap) (image : ℕ) (side : Side) (old new : Chip)
     {T : Type 0} (result : Result T FlashError) : Type 0 where
-  -- No other part is written,
+  -- No other part changes.
   pub outside : Keeps map (only (TrailerOf image side)) old new
-  -- and nothing where the trailer is erased.
+  -- If the trailer is erased, nothing changes.
   pub idle : are_erased (trailer_bytes map old image side) ≡ true → new ≡ old
-  -- It is erased where the call ends.
+  -- On success each byte of the trailer is erased.
   pub bytes : OnOk result (are_erased (trailer_bytes map new image side) ≡ true)
   pub ok : OnOk result (fields_at map new image side ≡ erased_fields)
   pub erases : OnOk result (new.erases ≡ old.erases
       + (if are_erased (trailer_bytes map old image side) then 0 else 1))
-  -- A flash without power is answered so.
+  -- If the flash is off, the call returns `Off`.
   pub off : old.is_on ≡ false → IsErrOf result Off
   pub ends : Ends result old new

@@ -1,4 +1,4 @@
--- What a call does that reads a trailer: each record is what many calls promise alike.
+-- What a call that reads a trailer does: each record is a promise that several calls share.
 use Rattle.std.specs.Prelude.{◌≡◌, ◌↔◌, ℕ, ◌+◌, ◌<◌, ◌≤◌, Bool, false, IsTrue}
 use Rattle.std.specs.Prelude.{Result, IsErrOf, OnOk, IfOk}
 use Rattle.flash_model.specs.declared.error.FlashError.{FlashError}
@@ -10,52 +10,52 @@ use Rattle.sector_map.specs.declared.layout.Side.{Side}
 use Rattle.trailer.specs.Fields.{erased_fields, fields_at}
 use Rattle.trailer.specs.Places.{withdrawn_place}
 
--- The map is laid out on the flash, has the image, and its trailers have n bytes that begin so many
--- bytes before their end, at the withdrawn unit or behind it.
+-- The map is laid out on the flash and has the image. Its trailers have n bytes that begin this
+-- many bytes before their end, at or after the withdrawn unit.
 pub record HasPlace (map : SectorMap) (image from_end n : ℕ) (chip : Chip) : Type 0 where
   pub laid_out : IsLaidOut map chip
   pub there : image < map.images
   pub room : n ≤ from_end
   pub within : from_end ≤ withdrawn_place
 
--- The map is laid out on the flash, has the image, and its trailers have n bytes, one at least,
--- from an offset on.
+-- The map is laid out on the flash and has the image. Its trailers have n bytes, at least one, from
+-- an offset on.
 pub record HasRange (map : SectorMap) (image offset n : ℕ) (chip : Chip) : Type 0 where
   pub laid_out : IsLaidOut map chip
   pub there : image < map.images
   pub some : 0 < n
   pub within : offset + n ≤ map.sector_size
 
--- A call tells a value that it reads.
+-- A call returns a value that it reads.
 pub record Tells {V : Type 0} (value : V) (old new : Chip) (result : Result V FlashError)
     : Type 0 where
-  -- Nothing changes,
+  -- Nothing changes.
   pub same : new ≡ old
-  -- and the answer is the value.
+  -- The result is the value.
   pub ok : IfOk result (λ answer. answer ≡ value)
   pub erases : OnOk result (new.erases ≡ old.erases)
-  -- A flash without power is answered so.
+  -- If the flash is off, the call returns `Off`.
   pub off : old.is_on ≡ false → IsErrOf result Off
   pub ends : Ends result old new
 
--- A call tells whether something holds.
+-- A call returns whether a fact holds.
 pub record Decides (fact : Type 0) (old new : Chip) (result : Result Bool FlashError)
     : Type 0 where
-  -- Nothing changes,
+  -- Nothing changes.
   pub same : new ≡ old
-  -- and the answer is yes where it holds, and nowhere else.
+  -- The result is true exactly if the fact holds.
   pub ok : IfOk result (λ answer. IsTrue answer ↔ fact)
   pub erases : OnOk result (new.erases ≡ old.erases)
   pub ends : Ends result old new
 
--- A call tells whether the trailer of an image's side reads as an erased one.
+-- A call returns whether a trailer reads as an erased one.
 pub record TellsBlank (map : SectorMap) (image : ℕ) (side : Side) (old new : Chip)
     (result : Result Bool FlashError) : Type 0 where
-  -- Nothing changes,
+  -- Nothing changes.
   pub same : new ≡ old
-  -- and the answer is yes where its fields are those of an erased one, and nowhere else.
+  -- The result is true exactly if the fields are those of an erased trailer.
   pub ok : IfOk result (λ answer. IsTrue answer ↔ (fields_at map old image side ≡ erased_fields))
   pub erases : OnOk result (new.erases ≡ old.erases)
-  -- A flash without power is answered so.
+  -- If the flash is off, the call returns `Off`.
   pub off : old.is_on ≡ false → IsErrOf result Off
   pub ends : Ends result old new

@@ -1,4 +1,4 @@
--- What a call does that requests an image or confirms one.
+-- What a call that requests or confirms an image does.
 use Rattle.std.specs.Prelude.{◌≡◌, ◌⊎◌, ℕ, true, false, None, Some, Result, IsErrOf, OnOk}
 use Rattle.flash_model.specs.declared.error.FlashError.{FlashError}
 use Rattle.flash_model.specs.declared.error.FlashError.TheVariants.{Off}
@@ -13,17 +13,17 @@ use Rattle.trailer.specs.declared.kinds.Kind.TheVariants.{Permanent}
 use Rattle.trailer.specs.Fields.{bytes_at, erased_fields, fields_at, flag, place_of}
 use Rattle.trailer.specs.Standing.{is_good, is_permanent, requested_fields, standing_of}
 
--- A call says in the erased trailer of an image how it is to be requested.
+-- A call writes the kind of a request into the erased trailer of an image.
 pub record MarksKind (map : SectorMap) (image : ℕ) (kind : Kind) (old new : Chip)
     {T : Type 0} (result : Result T FlashError) : Type 0 where
-  -- No other part is written,
+  -- No other part changes.
   pub outside : Keeps map (only (TrailerOf image Secondary)) old new
-  -- no other unit,
+  -- No byte outside `image_ok` changes.
   pub unit : SameOutside (place_of map image Secondary image_ok_place) 8 old new
-  -- and no other field than image_ok;
+  -- No field except `image_ok` changes.
   pub own : fields_at map new image Secondary
       ≡ record erased_fields { image_ok = (fields_at map new image Secondary).image_ok }
-  -- where the call ends that holds the flag for an image that is to stay, and says the kind.
+  -- On success `image_ok` holds the flag if the request is permanent.
   pub flag : OnOk result (kind ≡ Permanent
       → bytes_at map new image Secondary image_ok_place 8 ≡ flag)
   pub ok : OnOk result (fields_at map new image Secondary
@@ -34,45 +34,45 @@ pub record MarksKind (map : SectorMap) (image : ℕ) (kind : Kind) (old new : Ch
 -- A call requests an image.
 pub record Requests (map : SectorMap) (image : ℕ) (kind : Kind) (old new : Chip)
     {T : Type 0} (result : Result T FlashError) : Type 0 where
-  -- No other part is written,
+  -- No other part changes.
   pub outside : Keeps map (only (TrailerOf image Secondary)) old new
-  -- and of the trailer its last three units, and no others: so swap info stays as it was.
+  -- Only the last three units of the trailer change, so swap info doesn't.
   pub units : SameOutside (place_of map image Secondary image_ok_place) 24 old new
-  -- Whatever happened, the request is whole, or the magic isn't good ..
+  -- In each case the request is complete, or the magic isn't good.
   pub either : (fields_at map new image Secondary ≡ requested_fields kind)
       ⊎ (is_good (fields_at map new image Secondary).magic ≡ false)
-  -- .. so that none stands, or the one that was asked for.
+  -- In each case no request is pending, or the requested kind is.
   pub stands : (standing_of map new image ≡ None) ⊎ (standing_of map new image ≡ Some kind)
-  -- It is whole where the call ends,
+  -- On success the request is complete.
   pub ok : OnOk result (fields_at map new image Secondary ≡ requested_fields kind)
-  -- and image_ok holds the flag where the image is to stay.
+  -- On success `image_ok` holds the flag if the request is permanent.
   pub flag : OnOk result (kind ≡ Permanent
       → bytes_at map new image Secondary image_ok_place 8 ≡ flag)
   pub erases : OnOk result (new.erases ≡ old.erases)
-  -- A flash without power is answered so.
+  -- If the flash is off, the call returns `Off`.
   pub off : old.is_on ≡ false → IsErrOf result Off
   pub ends : Ends result old new
 
 -- A call confirms an image.
 pub record Confirms (map : SectorMap) (image : ℕ) (old new : Chip)
     {T : Type 0} (result : Result T FlashError) : Type 0 where
-  -- No other part is written,
+  -- No other part changes.
   pub outside : Keeps map (only (TrailerOf image Primary)) old new
-  -- no other unit of it than image_ok,
+  -- No byte outside `image_ok` changes.
   pub unit : SameOutside (place_of map image Primary image_ok_place) 8 old new
-  -- and nothing where that is set.
+  -- If `image_ok` is set, nothing changes.
   pub idle : (fields_at map old image Primary).image_ok ≡ true → new ≡ old
-  -- Whatever happened, the fields are as they were, or image_ok is set too,
+  -- In each case the fields are as they were, or as they were with `image_ok` set.
   pub either : (fields_at map new image Primary ≡ fields_at map old image Primary)
       ⊎ (fields_at map new image Primary
       ≡ record (fields_at map old image Primary) { image_ok = true })
-  -- and it is where the call ends.
+  -- On success `image_ok` is set, and the other fields are as they were.
   pub ok : OnOk result (fields_at map new image Primary
       ≡ record (fields_at map old image Primary) { image_ok = true })
-  -- Where it was erased it then holds the flag.
+  -- On success `image_ok` holds the flag if it was erased before.
   pub flag : OnOk result ((fields_at map old image Primary).image_ok ≡ false
       → bytes_at map new image Primary image_ok_place 8 ≡ flag)
   pub erases : OnOk result (new.erases ≡ old.erases)
-  -- A flash without power is answered so.
+  -- If the flash is off, the call returns `Off`.
   pub off : old.is_on ≡ false → IsErrOf result Off
   pub ends : Ends result old new

@@ -1,4 +1,4 @@
--- What a call does that settles the trailers of an image after a swap.
+-- What a call that settles the trailers of an image after a swap does.
 use Rattle.std.specs.Prelude.{◌≡◌, ℕ, ◌+◌, ◌≤◌, Bool, true, false, Result, IsErrOf, OnOk}
 use Rattle.flash_model.specs.declared.error.FlashError.{FlashError}
 use Rattle.flash_model.specs.declared.error.FlashError.TheVariants.{Off}
@@ -15,40 +15,41 @@ use Rattle.flash_model.specs.Units.{are_erased}
 use Rattle.trailer.specs.Fields.{bytes_at, fields_at, flag, place_of, trailer_bytes}
 use Rattle.trailer.specs.Settled.{HasMarks, IsSettled, IsSpared, IsWhole, before_marks, is_confirmed}
 
--- A call sets image_ok of a trailer, where the image is to be confirmed.
+-- A call sets `image_ok` of a trailer if the image is to be confirmed.
 pub record MarksOk (map : SectorMap) (image : ℕ) (side : Side) (confirmed : Bool)
     (old new : Chip) {T : Type 0} (result : Result T FlashError) : Type 0 where
-  -- No other unit is written;
+  -- No byte outside `image_ok` changes.
   pub outside : SameOutside (place_of map image side image_ok_place) 8 old new
-  -- where the call ends it holds the flag,
+  -- On success it holds the flag if the image is to be confirmed.
   pub ok : OnOk result (confirmed ≡ true → bytes_at map new image side image_ok_place 8 ≡ flag)
-  -- and nothing is written where the image isn't to be confirmed.
+  -- If the image isn't to be confirmed, nothing changes.
   pub tried : confirmed ≡ false → new ≡ old
   pub erases : OnOk result (new.erases ≡ old.erases)
   pub ends : Ends result old new
 
--- A call writes copy_done, image_ok where the image is to be confirmed, and the magic.
+-- A call writes `copy_done`, writes `image_ok` if the image is to be confirmed, and writes the
+-- magic.
 pub record MarksTrailer (map : SectorMap) (image : ℕ) (side : Side) (confirmed : Bool)
     (old new : Chip) {T : Type 0} (result : Result T FlashError) : Type 0 where
-  -- No other part is written,
+  -- No other part changes.
   pub outside : Keeps map (only (TrailerOf image side)) old new
-  -- and of the trailer its last four units;
+  -- Only the last four units of the trailer change.
   pub units : SameOutside (place_of map image side copy_done_place) 32 old new
-  -- where the call ends these hold their values.
+  -- On success these units hold their values.
   pub ok : OnOk result (HasMarks map new image side confirmed)
   pub erases : OnOk result (new.erases ≡ old.erases)
   pub ends : Ends result old new
 
--- A call erases a trailer where the units that settling writes can't be written.
+-- A call erases a trailer if settling can't write its units.
 pub record MakesWhole (map : SectorMap) (image : ℕ) (side : Side) (settling : Settling)
     (old new : Chip) {T : Type 0} (result : Result T FlashError) : Type 0 where
-  -- No other part is written;
+  -- No other part changes.
   pub outside : Keeps map (only (TrailerOf image side)) old new
-  -- where the call ends these units can be written,
+  -- On success these units can be written.
   pub ok : OnOk result (IsWhole map new image side (is_confirmed settling))
-  -- and after a swap back all of the trailer is erased.
+  -- On success after a swap back, each byte of the trailer is erased.
   pub back : OnOk result (settling ≡ Back → are_erased (trailer_bytes map new image side) ≡ true)
-  -- It is erased where it must be, and nowhere else.
+  -- On success the trailer was erased exactly if it had to be, as the count of erases says.
   pub erases : OnOk result (new.erases ≤ old.erases + 1)
   pub spares : OnOk result (IsSpared map old image side settling → new ≡ old)
   pub must : OnOk result ((IsSpared map old image side settling → ⊥)
@@ -58,24 +59,24 @@ pub record MakesWhole (map : SectorMap) (image : ℕ) (side : Side) (settling : 
 -- A call settles the trailers of an image.
 pub record Settles (map : SectorMap) (image : ℕ) (settling : Settling) (old new : Chip)
     {T : Type 0} (result : Result T FlashError) : Type 0 where
-  -- No other part is written;
+  -- No other part changes.
   pub outside : Keeps map (trailers_of image) old new
-  -- where the call ends the trailers say what they are to say,
+  -- On success the fields are those of a settled image.
   pub ok : OnOk result (IsSettled (is_confirmed settling) (fields_at map new image Primary)
       (fields_at map new image Secondary))
-  -- and no unit is left torn.
+  -- On success no unit of the primary trailer is torn.
   pub marks : OnOk result (HasMarks map new image Primary (is_confirmed settling))
-  -- Byte for byte: the secondary trailer is erased, and after a swap back all of the primary one
-  -- but its marks.
+  -- On success each byte of the secondary trailer is erased. After a swap back, so is each byte of
+  -- the primary trailer before its marks.
   pub erased : OnOk result (are_erased (trailer_bytes map new image Secondary) ≡ true)
   pub back : OnOk result (settling ≡ Back
       → are_erased (before_marks map (trailer_bytes map new image Primary)) ≡ true)
-  -- The primary trailer is erased where it must be, and nowhere else.
+  -- On success the primary trailer was erased exactly if it had to be, as the count of erases says.
   pub erases : OnOk result (new.erases ≤ old.erases + 2)
   pub spares : OnOk result (IsSpared map old image Primary settling
       → new.erases ≡ old.erases + 1)
   pub must : OnOk result ((IsSpared map old image Primary settling → ⊥)
       → new.erases ≡ old.erases + 2)
-  -- A flash without power is answered so.
+  -- If the flash is off, the call returns `Off`.
   pub off : old.is_on ≡ false → IsErrOf result Off
   pub ends : Ends result old new

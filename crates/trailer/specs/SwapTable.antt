@@ -1,4 +1,4 @@
--- What a pair of trailers asks of a boot, as MCUboot reads them (its design document, "Swapping":
+-- The swap types of a pair of trailers, as MCUboot reads them (MCUboot design document, "Swapping":
 -- the tables of swap types). The order of the rows is bootswap's own.
 use Rattle.std.specs.Prelude.{◌&&◌, Bool, true, false, not, if◌then◌else◌}
 use Rattle.trailer.specs.declared.kinds.Magic.{Magic}
@@ -13,7 +13,7 @@ is_unset Good = false
 is_unset Unset = true
 is_unset Bad = false
 
--- The first row that fits. It doesn't look at withdrawn.
+-- The swap type of the first row that fits. No row looks at withdrawn.
 abbrev pub swap_type_of : Trailer → Trailer → SwapType
 swap_type_of primary secondary =
     if is_good secondary.magic && not secondary.image_ok then Test

@@ -1,4 +1,4 @@
--- What a call does that takes a request back.
+-- What a call that withdraws a request does.
 use Rattle.std.specs.Prelude.{◌≡◌, ◌⊎◌, ℕ, ◌+◌, true, false, None, if◌then◌else◌}
 use Rattle.std.specs.Prelude.{Result, IsErrOf, OnOk}
 use Rattle.flash_model.specs.declared.error.FlashError.{FlashError}
@@ -14,75 +14,76 @@ use Rattle.trailer.specs.Fields.{erased_fields, fields_at, trailer_bytes}
 use Rattle.trailer.specs.Standing.{KeepsBehindFirst, first_is_set, first_sector, incoming_slot}
 use Rattle.trailer.specs.Standing.{standing_of}
 
--- A call sets the withdrawn unit, where a request stands.
+-- A call sets the withdrawn unit if a request is pending.
 pub record TakesBack (map : SectorMap) (image : ℕ) (old new : Chip)
     {T : Type 0} (result : Result T FlashError) : Type 0 where
-  -- No other part is written.
+  -- No other part changes.
   pub outside : Keeps map (only (TrailerOf image Secondary)) old new
-  -- Whatever happened, the fields are as they were, or no request stands;
+  -- In each case the fields are as they were, or no request is pending.
   pub either : (fields_at map new image Secondary ≡ fields_at map old image Secondary)
       ⊎ (standing_of map new image ≡ None)
-  -- none does where the call ends.
+  -- On success no request is pending.
   pub ok : OnOk result (standing_of map new image ≡ None)
-  -- Nothing is written where none stood.
+  -- If no request was pending, nothing changes.
   pub idle : standing_of map old image ≡ None → new ≡ old
-  -- It is no erase, and a trailer that tells of a request isn't erased.
+  -- On success the trailer is erased exactly if it was before. The call isn't an erase, and the
+  -- trailer of a pending request isn't erased.
   pub erased : OnOk result (are_erased (trailer_bytes map new image Secondary)
       ≡ are_erased (trailer_bytes map old image Secondary))
   pub erases : OnOk result (new.erases ≡ old.erases)
-  -- A flash without power is answered so.
+  -- If the flash is off, the call returns `Off`.
   pub off : old.is_on ≡ false → IsErrOf result Off
   pub ends : Ends result old new
 
 -- A call erases the first sector of a slot, unless its first unit is erased.
 pub record ErasesFront (map : SectorMap) (image : ℕ) (side : Side) (old new : Chip)
     {T : Type 0} (result : Result T FlashError) : Type 0 where
-  -- No other part is written,
+  -- No other part changes.
   pub outside : Keeps map (only (Slot image side)) old new
-  -- nothing where its first unit is erased,
+  -- If the first unit is erased, nothing changes.
   pub idle : first_is_set (part_of map old (Slot image side)) ≡ false → new ≡ old
-  -- and nothing behind its first sector;
+  -- No byte after the first sector changes.
   pub rest : KeepsBehindFirst map image side old new
-  -- where the call ends that unit is erased,
+  -- On success the first unit is erased.
   pub ok : OnOk result (first_is_set (part_of map new (Slot image side)) ≡ false)
-  -- and if it was set the whole sector.
+  -- On success each byte of the first sector is erased if the first unit was set.
   pub first : OnOk result (first_is_set (part_of map old (Slot image side)) ≡ true
       → are_erased (first_sector map.sector_size (part_of map new (Slot image side))) ≡ true)
   pub erases : OnOk result (new.erases ≡ old.erases
       + (if first_is_set (part_of map old (Slot image side)) then 1 else 0))
-  -- A flash without power is answered so.
+  -- If the flash is off, the call returns `Off`.
   pub off : old.is_on ≡ false → IsErrOf result Off
   pub ends : Ends result old new
 
--- A call takes back the request of an image, if one stands.
+-- A call withdraws the pending request of an image, if there is one.
 pub record Withdraws (map : SectorMap) (image : ℕ) (old new : Chip)
     {T : Type 0} (result : Result T FlashError) : Type 0 where
-  -- No other part is written than the secondary slot and its trailer.
+  -- No part changes except the secondary slot and its trailer.
   pub outside : Keeps map (incoming_of image) old new
-  -- Of the slot the first sector alone is touched ..
+  -- Of the slot only the first sector changes.
   pub rest : KeepsBehindFirst map image Secondary old new
-  -- .. and nothing where the slot doesn't begin with a unit that is set and the trailer is erased.
+  -- If the slot's first unit and the trailer are erased, nothing changes.
   pub idle : first_is_set (incoming_slot map old image) ≡ false
       → are_erased (trailer_bytes map old image Secondary) ≡ true → new ≡ old
-  -- Whatever happened, slot and trailer are as they were, or no request stands: the magic isn't
-  -- good, the withdrawn unit is set, or the slot's first unit is erased.
+  -- In each case slot and fields are as they were, or no request is pending: the magic isn't good,
+  -- the withdrawn unit is set, or the slot's first unit is erased.
   pub either : ((incoming_slot map new image ≡ incoming_slot map old image)
       × (fields_at map new image Secondary ≡ fields_at map old image Secondary))
       ⊎ (standing_of map new image ≡ None)
-  -- Where the call ends the trailer is erased,
+  -- On success the trailer is erased.
   pub ok : OnOk result (fields_at map new image Secondary ≡ erased_fields)
   pub bytes : OnOk result (are_erased (trailer_bytes map new image Secondary) ≡ true)
-  -- and so is the slot's first unit.
+  -- On success the slot's first unit is erased.
   pub front : OnOk result (first_is_set (incoming_slot map new image) ≡ false)
-  -- If that was set, all of the slot's first sector is erased then,
+  -- On success each byte of the slot's first sector is erased if its first unit was set.
   pub first : OnOk result (first_is_set (incoming_slot map old image) ≡ true
       → are_erased (first_sector map.sector_size (incoming_slot map new image)) ≡ true)
-  -- and otherwise, whatever happened, the slot is as it was.
+  -- If the slot's first unit was erased, the slot doesn't change, in each case.
   pub unset : first_is_set (incoming_slot map old image) ≡ false
       → incoming_slot map new image ≡ incoming_slot map old image
   pub erases : OnOk result (new.erases ≡ old.erases
       + (if first_is_set (incoming_slot map old image) then 1 else 0)
       + (if are_erased (trailer_bytes map old image Secondary) then 0 else 1))
-  -- A flash without power is answered so.
+  -- If the flash is off, the call returns `Off`.
   pub off : old.is_on ≡ false → IsErrOf result Off
   pub ends : Ends result old new

@@ -1,4 +1,4 @@
-//! Whether a trailer says nothing.
+//! Checks whether a trailer is blank.
 
 ghost use Rattle.std.specs.Prelude.{◌≡◌, ◌↔◌, IsTrue};
 ghost use Rattle.sector_map.specs.Map.{HasImage};
@@ -13,7 +13,7 @@ use crate::units::is_range_erased;
 use flash_model::{Flash, Result, UNIT};
 use sector_map::{SectorMap, Side};
 
-/// Whether none of these fields is set.
+/// Returns whether none of these fields is set.
 fn says_nothing(trailer: &Trailer) -> bool
     ensures { IsTrue result ↔ (trailer.now ≡ trailer_of erased_fields) }
 {
@@ -28,13 +28,13 @@ fn says_nothing(trailer: &Trailer) -> bool
     )
 }
 
-/// Whether the trailer behind a slot reads as an erased one: no field of it is set, and no status
-/// unit. Bytes that belong to none of these are not looked at. Does not allocate.
+/// Returns whether the trailer of a slot reads as an erased one: none of its fields and none of its
+/// status units is set. Other bytes of the trailer aren't read. Does not allocate.
 ///
-/// The map is laid out on the flash, and has the image, which is told by its number from 0.
+/// The map is laid out on the flash. Images are numbered from 0, and the map has this image.
 ///
 /// # Errors
-/// `Off` where the flash was off. Nothing changes in any case.
+/// `Off` if the flash was off. The flash never changes.
 #[tactic(auto, using(crate::proofs::Empty::blank_fields, crate::proofs::Empty::fresh_is))]
 pub fn is_blank<F: Flash>(flash: &mut F, map: &SectorMap, image: u8, side: Side) -> Result<bool>
     requires { HasImage map.now image (F.chip flash.old) }

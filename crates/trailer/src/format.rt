@@ -1,25 +1,27 @@
-//! Where the fields of a trailer stand in its sector, and what is written there. A field's place is
-//! told by how many bytes before the end of the sector it begins. From the sector's first byte on
-//! stand the status units. Contracts cite these places and the magic as numbers of their own, in
-//! `specs/Places.antt` and `specs/Fields.antt`, so that a change here alone isn't proved.
+//! The bytes of the magic, and the places of the fields in a trailer's sector. The place of a field
+//! is the number of bytes from its first byte to the end of the sector. The status units begin at
+//! the first byte of the sector.
+//!
+//! Contracts have these places and the magic as numbers of their own, in `specs/Places.antt` and
+//! `specs/Fields.antt`. So the proof fails if a number is changed only here.
 
-/// The magic (`BOOT_MAGIC` of MCUboot's image trailer: MCUboot design document, "Image Trailer"),
-/// which is written as one unit of 16 bytes.
+/// The magic of a trailer, which is written as one range of 16 bytes (`BOOT_MAGIC`: MCUboot design
+/// document, "Image Trailer").
 pub const MAGIC: [u8; 16] = [
     0x77, 0xc2, 0x95, 0xf3, 0x60, 0xd2, 0xef, 0x7f, 0x35, 0x52, 0x50, 0x0f, 0x2c, 0xb6, 0x79, 0x80,
 ];
 
-/// Where the withdrawn unit stands, which is bootswap's own.
+/// The place of the withdrawn unit, which is bootswap's own.
 pub(crate) const WITHDRAWN: u32 = 56;
 
-/// Where the unit of `swap_size` stands. The unit of `swap_info` after it is left erased.
+/// The place of the unit of `swap_size`. The unit of `swap_info` after it is left erased.
 pub(crate) const SWAP_SIZE: u32 = 48;
 
-/// Where the unit of `copy_done` stands.
+/// The place of the unit of `copy_done`.
 pub(crate) const COPY_DONE: u32 = 32;
 
-/// Where the unit of `image_ok` stands.
+/// The place of the unit of `image_ok`.
 pub(crate) const IMAGE_OK: u32 = 24;
 
-/// Where the magic stands.
+/// The place of the magic.
 pub(crate) const MAGIC_PLACE: u32 = 16;

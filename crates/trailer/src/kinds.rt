@@ -1,59 +1,59 @@
-//! What a trailer says, and what is asked of it.
+//! The values of a trailer's fields, the kinds of requests, and the swap types.
 
-/// What the magic of a trailer says (`BOOT_MAGIC_GOOD`, `BOOT_MAGIC_UNSET`, `BOOT_MAGIC_BAD` of
+/// What the magic of a trailer says (`BOOT_MAGIC_GOOD`, `BOOT_MAGIC_UNSET` and `BOOT_MAGIC_BAD` of
 /// MCUboot).
 #[derive(Clone, Copy, Debug, PartialEq, Eq)]
 pub enum Magic {
-    /// It is the right one (`BOOT_MAGIC`).
+    /// Its bytes are `BOOT_MAGIC`.
     Good,
     /// Its bytes are erased.
     Unset,
-    /// Anything else.
+    /// It has any other bytes.
     Bad,
 }
 
-/// The fields of a trailer that tell of a request, of a trial and of a confirmation.
+/// The fields of a trailer for a request, a trial and a confirmation.
 #[derive(Clone, Copy, Debug, PartialEq, Eq)]
 pub struct Trailer {
     /// What the magic says.
     pub magic: Magic,
     /// Whether the unit `copy_done` is set: the swap of the image is done.
     pub copy_done: bool,
-    /// Whether the unit `image_ok` is set: the image was confirmed or is to stay.
+    /// Whether the unit `image_ok` is set: the image is confirmed, or is requested permanently.
     pub image_ok: bool,
-    /// Whether the withdrawn unit is set, which is bootswap's own: the request was taken back.
+    /// Whether the withdrawn unit, which is bootswap's own, is set: the request was withdrawn.
     pub withdrawn: bool,
 }
 
-/// How an image is requested.
+/// The kind of a request for an image.
 #[derive(Clone, Copy, Debug, PartialEq, Eq)]
 pub enum Kind {
-    /// It is tried, and the old image comes back unless the new one is confirmed.
+    /// The image is tried. The device reverts to the old image unless the new one is confirmed.
     Test,
-    /// It stays.
+    /// The image stays, also without a confirmation.
     Permanent,
 }
 
-/// What a pair of trailers asks of a boot (`BOOT_SWAP_TYPE_*` of MCUboot).
+/// The swap type: what the two trailers of an image ask of a boot (`BOOT_SWAP_TYPE_*` of MCUboot).
 #[derive(Clone, Copy, Debug, PartialEq, Eq)]
 pub enum SwapType {
-    /// A swap that is tried.
+    /// Swap, and try the new image.
     Test,
-    /// A swap for good.
+    /// Swap permanently.
     Perm,
-    /// A swap back.
+    /// Revert to the old image.
     Revert,
-    /// Nothing.
+    /// Do nothing.
     None,
 }
 
-/// What a swap was for whose trailers are settled.
+/// What a swap was for, when the trailers of its image are settled.
 #[derive(Clone, Copy, Debug, PartialEq, Eq)]
 pub enum Settling {
     /// The new image is tried.
     Test,
-    /// The new image stays.
+    /// The new image is permanent.
     Permanent,
-    /// The old image is back.
+    /// The device reverted to the old image.
     Back,
 }

@@ -1,4 +1,5 @@
-//! The trailer after each slot, with MCUboot's fields.
+//! Image trailers with MCUboot's fields: they hold requests, trials, confirmations and the progress
+//! of swaps.
 //!
 //! - Promises: Each field is read as its bytes say. A power cut leaves a request, a withdrawal or a
 //!   confirmation as it was or as asked. Settling can be repeated.
@@ -8,8 +9,13 @@
 //! - Callers: `swap_scratch`, `upload`, `decision`, `boot_core`, `sweep`, `inspecting`,
 //!   `c_interface`; `machine` cites its definitions.
 //!
-//! Any other write that a power cut interrupts leaves its own unit, or an erase its sector, with
-//! any bytes, and all else as it was. A program changes trailers through the device alone.
+//! A trailer fills the sector after its slot. The fields except *withdrawn* are MCUboot's (its
+//! design document, "Image Trailer"). Their places and the bytes of a flag are bootswap's own
+//! (`docs/FORMATS.md`, "Trailer").
+//!
+//! Any other write that a power cut interrupts leaves any bytes in its own unit, or in its sector
+//! if it is an erase, and all other bytes unchanged. A program changes trailers only through the
+//! device (`boot_core`).
 #![tactic(auto)]
 
 mod blank;

@@ -1,4 +1,4 @@
-//! Writing the units of a primary trailer that settling asks for, each unless it holds its value.
+//! Writes the units of a primary trailer that settling sets, except units that hold their values.
 
 ghost use Rattle.std.specs.Prelude.{length};
 ghost use Rattle.sector_map.specs.Map.{HasImage};
@@ -13,8 +13,7 @@ use crate::units::{read_bytes, write_units};
 use flash_model::{FLAG, Flash, Result, are_erased};
 use sector_map::{SectorMap, Side};
 
-/// Writes units that are erased or hold these bytes already; nothing is written where they hold
-/// them.
+/// Writes units that are erased or hold these bytes already. If they hold them nothing is written.
 #[tactic(auto, using(crate::proofs::Marks::holds_value))]
 fn mark<F: Flash, const N: usize>(
     flash: &mut F,
@@ -37,7 +36,7 @@ fn mark<F: Flash, const N: usize>(
     write_units(flash, map, image, side, from_end, units)
 }
 
-/// Sets `image_ok` of a trailer, where the image is to be confirmed.
+/// Sets `image_ok` of a trailer if the image is to be confirmed.
 fn mark_ok<F: Flash>(
     flash: &mut F,
     map: &SectorMap,
@@ -56,7 +55,7 @@ fn mark_ok<F: Flash>(
     mark(flash, map, image, side, IMAGE_OK, &FLAG)
 }
 
-/// Sets `copy_done` and, where the image is to be confirmed, `image_ok`, and writes the magic.
+/// Sets `copy_done`, sets `image_ok` if the image is to be confirmed, and writes the magic.
 pub(crate) fn mark_trailer<F: Flash>(
     flash: &mut F,
     map: &SectorMap,

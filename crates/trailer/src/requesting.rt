@@ -1,4 +1,4 @@
-//! Requesting an image, and confirming one.
+//! Requests an image, or confirms one.
 
 ghost use Rattle.std.specs.Prelude.{◌≡◌};
 ghost use Rattle.sector_map.specs.Map.{HasImage};
@@ -12,7 +12,7 @@ use crate::units::{is_unit_set, write_units};
 use flash_model::{FLAG, Flash, Result};
 use sector_map::{SectorMap, Side};
 
-/// Says in an erased trailer how an image is to be requested.
+/// Writes the kind of a request into an erased trailer.
 fn mark_kind<F: Flash>(flash: &mut F, map: &SectorMap, image: u8, kind: Kind) -> Result<()>
     requires image { HasImage map.now image (F.chip flash.old) }
     requires erased { fields_at map.now (F.chip flash.old) image Secondary ≡ erased_fields }
@@ -24,14 +24,15 @@ fn mark_kind<F: Flash>(flash: &mut F, map: &SectorMap, image: u8, kind: Kind) ->
     }
 }
 
-/// Requests the image in a secondary slot, whose trailer is erased: writes `image_ok` where it is
-/// to stay, and then the magic.
+/// Requests the image in a secondary slot, whose trailer is erased. Sets `image_ok` if the image is
+/// to stay, and then writes the magic.
 ///
-/// The map is laid out on the flash, and has the image, which is told by its number from 0.
+/// The map is laid out on the flash. Images are numbered from 0, and the map has this image.
 ///
 /// # Errors
-/// `Cut` where power failed: the image is requested as asked, or the magic isn't good and no
-/// request stands. `Off` where the flash was off before: nothing changed.
+/// - `Cut` if power failed: the image is requested as asked, or the magic isn't good and no request
+///   is pending. All bytes outside `image_ok` and the magic are unchanged.
+/// - `Off` if the flash was off before: nothing changed.
 pub fn request<F: Flash>(flash: &mut F, map: &SectorMap, image: u8, kind: Kind) -> Result<()>
     requires image { HasImage map.now image (F.chip flash.old) }
     requires erased { fields_at map.now (F.chip flash.old) image Secondary ≡ erased_fields }
@@ -43,11 +44,12 @@ pub fn request<F: Flash>(flash: &mut F, map: &SectorMap, image: u8, kind: Kind) 
 
 /// Confirms the image in a primary slot: sets `image_ok` of its trailer, unless it is set.
 ///
-/// The map is laid out on the flash, and has the image, which is told by its number from 0.
+/// The map is laid out on the flash. Images are numbered from 0, and the map has this image.
 ///
 /// # Errors
-/// `Cut` where power failed: `image_ok` is as it was or set, and all else as it was. `Off` where
-/// the flash was off before: nothing changed.
+/// - `Cut` if power failed: `image_ok` is as it was or set, and all bytes outside its unit are
+///   unchanged.
+/// - `Off` if the flash was off before: nothing changed.
 pub fn set_ok<F: Flash>(flash: &mut F, map: &SectorMap, image: u8) -> Result<()>
     requires { HasImage map.now image (F.chip flash.old) }
     ensures { Confirms map.now image (F.chip flash.old) (F.chip flash.new) result }

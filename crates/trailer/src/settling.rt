@@ -1,4 +1,4 @@
-//! Settling the trailers of an image after a swap.
+//! Settles the trailers of an image after a swap.
 
 ghost use Rattle.std.specs.Prelude.{◌≡◌};
 ghost use Rattle.sector_map.specs.Map.{HasImage};
@@ -16,14 +16,14 @@ use crate::units::{is_unit_set, read_bytes};
 use flash_model::{FLAG, Flash, Result, are_erased};
 use sector_map::{SectorMap, Side};
 
-/// Whether an image is settled as confirmed.
+/// Returns whether an image is settled as confirmed.
 fn is_confirmed(settling: Settling) -> bool
     ensures { result ≡ is_confirmed settling }
 {
     matches!(settling, Settling::Permanent | Settling::Back)
 }
 
-/// Whether units of a trailer are erased or hold their value, so that no write of them was torn.
+/// Returns whether units of a trailer are erased or hold `value`. Then no write of them was torn.
 #[tactic(auto, using(crate::proofs::Marks::tells_free))]
 fn are_units_free<F: Flash, const N: usize>(
     flash: &mut F,
@@ -41,7 +41,8 @@ fn are_units_free<F: Flash, const N: usize>(
     Ok(units == *value || are_erased(&units))
 }
 
-/// Whether `image_ok` of a trailer isn't torn; of an image that is to be tried it is erased.
+/// Returns whether `image_ok` of a trailer isn't torn. If the image is to be tried, it has to be
+/// erased.
 fn is_ok_free<F: Flash>(
     flash: &mut F,
     map: &SectorMap,
@@ -62,7 +63,7 @@ fn is_ok_free<F: Flash>(
     Ok(!set)
 }
 
-/// Whether none of the units that settling writes is torn.
+/// Returns whether none of the units that settling writes is torn.
 fn is_trailer_whole<F: Flash>(
     flash: &mut F,
     map: &SectorMap,
@@ -80,8 +81,8 @@ fn is_trailer_whole<F: Flash>(
     Ok(copy_done && image_ok && magic)
 }
 
-/// Erases a primary trailer where the units that settling writes can't be written: after a swap
-/// back always, else where one of them is torn, or is set and has to stay erased.
+/// Erases a trailer if settling can't write its units. After a swap back it is always erased.
+/// Otherwise it is erased if a unit is torn, or is set and has to stay erased.
 fn make_whole<F: Flash>(
     flash: &mut F,
     map: &SectorMap,
@@ -101,18 +102,21 @@ fn make_whole<F: Flash>(
     Ok(())
 }
 
-/// Settles the trailers of an image whose slots were swapped. The secondary trailer is erased. The
-/// primary one gets `copy_done`, `image_ok` unless the image is to be tried, and the magic; it is
-/// erased first where one of these units is torn, that is, set and not to its value, where
-/// `image_ok` is set of an image that is to be tried, and after a swap back always. Units that hold
-/// their values aren't written again.
+/// Settles the trailers of an image whose slots were swapped.
 ///
-/// It can be repeated, whatever the trailers hold. The map is laid out on the flash, and has the
-/// image, which is told by its number from 0.
+/// The secondary trailer is erased. The primary one gets `copy_done`, `image_ok` unless the image
+/// is to be tried, and the magic. Units that hold their values aren't written again. The primary
+/// trailer is erased first in each of these cases:
+/// - One of these units is torn, that is, set and not to its value.
+/// - `image_ok` is set, and the image is to be tried.
+/// - The swap was a swap back.
+///
+/// The call can be repeated, whatever the trailers hold. The map is laid out on the flash. Images
+/// are numbered from 0, and the map has this image.
 ///
 /// # Errors
-/// `Cut` where power failed: the two trailers hold any bytes, and all else is as it was. `Off`
-/// where the flash was off before: nothing changed.
+/// - `Cut` if power failed: the two trailers hold any bytes, and all other bytes are unchanged.
+/// - `Off` if the flash was off before: nothing changed.
 pub fn settle<F: Flash>(flash: &mut F, map: &SectorMap, image: u8, settling: Settling) -> Result<()>
     requires { HasImage map.now image (F.chip flash.old) }
     ensures { Settles map.now image settling (F.chip flash.old) (F.chip flash.new) result }

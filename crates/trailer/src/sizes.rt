@@ -1,4 +1,4 @@
-//! The size of a swap.
+//! Reads and writes the size of a swap.
 
 ghost use Rattle.std.specs.Prelude.{◌≡◌, true};
 ghost use Rattle.sector_map.specs.Map.{HasImage};
@@ -14,7 +14,7 @@ use byteorder::{ByteOrder, LittleEndian};
 use flash_model::{Flash, Result};
 use sector_map::{SectorMap, Side};
 
-/// The unit of a size: the number, the least byte first, and four zero bytes.
+/// Returns the unit of a size: the number in little-endian order, and four zero bytes.
 fn size_unit(size: u32) -> [u8; 8]
     ensures { result ≡ size_bytes size }
 {
@@ -23,7 +23,7 @@ fn size_unit(size: u32) -> [u8; 8]
     unit
 }
 
-/// The size in a unit, if it is one: 1 to a limit.
+/// Returns the size in a unit, if it is from 1 to `limit`.
 fn size_in(unit: &[u8; 8], limit: u32) -> Option<u32>
     ensures { result ≡ size_in limit unit.now }
 {
@@ -35,14 +35,14 @@ fn size_in(unit: &[u8; 8], limit: u32) -> Option<u32>
     }
 }
 
-/// Writes the unit of `swap_size` of a trailer, which is erased: how many bytes of each slot a swap
-/// moves, from 1 to the slot's length.
+/// Writes `swap_size` of a trailer: the number of bytes of each slot that a swap moves, from 1 to
+/// the slot's length. The unit is erased.
 ///
-/// The map is laid out on the flash, and has the image, which is told by its number from 0.
+/// The map is laid out on the flash. Images are numbered from 0, and the map has this image.
 ///
 /// # Errors
-/// `Cut` where power failed: the unit holds any bytes, and all else is as it was. `Off` where the
-/// flash was off before: nothing changed.
+/// - `Cut` if power failed: the unit holds any bytes, and all other bytes are unchanged.
+/// - `Off` if the flash was off before: nothing changed.
 pub fn write_size<F: Flash>(
     flash: &mut F,
     map: &SectorMap,
@@ -58,14 +58,14 @@ pub fn write_size<F: Flash>(
     write_units(flash, map, image, side, SWAP_SIZE, &size_unit(size))
 }
 
-/// Reads `swap_size` of a trailer: how many bytes of each slot a swap moves. There is none where
-/// the unit is erased, where its number isn't from 1 to the slot's length, or where its last four
+/// Reads `swap_size` of a trailer: the number of bytes of each slot that a swap moves. It is `None`
+/// if the unit is erased, if its number isn't from 1 to the slot's length, or if its last four
 /// bytes aren't zero.
 ///
-/// The map is laid out on the flash, and has the image, which is told by its number from 0.
+/// The map is laid out on the flash. Images are numbered from 0, and the map has this image.
 ///
 /// # Errors
-/// `Off` where the flash was off. Nothing changes in any case.
+/// `Off` if the flash was off. The flash never changes.
 pub fn read_size<F: Flash>(
     flash: &mut F,
     map: &SectorMap,

@@ -1,4 +1,4 @@
-//! The request that stands for an image.
+//! Reads the pending request for an image.
 
 ghost use Rattle.std.specs.Prelude.{◌≡◌};
 ghost use Rattle.sector_map.specs.Map.{HasImage, part_of};
@@ -11,7 +11,7 @@ use crate::trailer_reading::read_trailer;
 use flash_model::{Flash, Result, is_unit_erased};
 use sector_map::{SectorMap, Side};
 
-/// Whether the first unit of a slot is set.
+/// Returns whether the first unit of a slot is set.
 pub(crate) fn is_front_set<F: Flash>(
     flash: &mut F,
     map: &SectorMap,
@@ -26,7 +26,8 @@ pub(crate) fn is_front_set<F: Flash>(
     Ok(!erased)
 }
 
-/// The request that a secondary trailer tells of, where its slot is filled.
+/// Returns the request in a secondary trailer, if it is pending. `is_filled` says whether the first
+/// unit of the slot is set.
 fn standing_kind(trailer: &Trailer, is_filled: bool) -> Option<Kind>
     ensures { result ≡ standing_kind trailer.now is_filled }
 {
@@ -40,14 +41,14 @@ fn standing_kind(trailer: &Trailer, is_filled: bool) -> Option<Kind>
     }
 }
 
-/// The request that stands for an image, if one stands: where the magic of its secondary trailer is
-/// good, its withdrawn unit is erased, and the first unit of its secondary slot is set, that is,
-/// not all 0xFF. It is permanent where `image_ok` is set.
+/// Returns the pending request for an image, if there is one. A request is pending if the magic of
+/// the secondary trailer is good, its withdrawn unit is erased, and the first unit of the secondary
+/// slot is set, that is, not all 0xFF. It is permanent if `image_ok` is set.
 ///
-/// The map is laid out on the flash, and has the image, which is told by its number from 0.
+/// The map is laid out on the flash. Images are numbered from 0, and the map has this image.
 ///
 /// # Errors
-/// `Off` where the flash was off. Nothing changes in any case.
+/// `Off` if the flash was off. The flash never changes.
 pub fn standing<F: Flash>(flash: &mut F, map: &SectorMap, image: u8) -> Result<Option<Kind>>
     requires { HasImage map.now image (F.chip flash.old) }
     ensures { Tells (standing_of map.now (F.chip flash.old) image)

@@ -1,4 +1,4 @@
-//! How far a swap has come.
+//! Counts and sets the status units of a trailer, one for each completed step of a swap.
 
 ghost use Rattle.std.specs.Prelude.{◌≡◌, ◌+◌, ◌*◌, ◌<◌, ◌≤◌};
 ghost use Rattle.sector_map.specs.Map.{HasImage, slot_sectors};
@@ -11,7 +11,7 @@ use crate::units::is_range_erased;
 use flash_model::{Flash, Result, UNIT, set_unit};
 use sector_map::{SectorMap, Side};
 
-/// How many status units a trailer has: three for each sector of the slot.
+/// Returns the number of status units of a trailer: three for each sector of the slot.
 #[tactic(auto, using(crate::proofs::StatusUnits::status_fit))]
 pub(crate) fn status_units(map: &SectorMap, image: u8) -> u32
     requires { image < map.now.images }
@@ -21,13 +21,13 @@ pub(crate) fn status_units(map: &SectorMap, image: u8) -> u32
     3 * map.slot_sectors(image)
 }
 
-/// Counts the status units of a trailer that are set, from its first one up to the first that is
-/// erased: how many steps of a swap are done.
+/// Returns the number of completed steps of a swap: the number of status units of a trailer that
+/// are set before the first erased one.
 ///
-/// The map is laid out on the flash, and has the image, which is told by its number from 0.
+/// The map is laid out on the flash. Images are numbered from 0, and the map has this image.
 ///
 /// # Errors
-/// `Off` where the flash was off. Nothing changes in any case.
+/// `Off` if the flash was off. The flash never changes.
 pub fn status_count<F: Flash>(flash: &mut F, map: &SectorMap, image: u8, side: Side) -> Result<u32>
     requires { HasImage map.now image (F.chip flash.old) }
     ensures { Tells (status_count_of map.now (F.chip flash.old) image side)
@@ -42,14 +42,15 @@ pub fn status_count<F: Flash>(flash: &mut F, map: &SectorMap, image: u8, side: S
     Ok(all)
 }
 
-/// Sets the first status unit of a trailer that is erased. There is one: the status count is below
+/// Sets the first erased status unit of a trailer. There has to be one: the status count is below
 /// three for each sector of the slot.
 ///
-/// The map is laid out on the flash, and has the image, which is told by its number from 0.
+/// The map is laid out on the flash. Images are numbered from 0, and the map has this image.
 ///
 /// # Errors
-/// `Cut` where power failed: the unit holds any bytes, so it counts or not, and all else is as it
-/// was. `Off` where the flash was off before: nothing changed.
+/// - `Cut` if power failed: the unit holds any bytes, so it may count or not. All other bytes are
+///   unchanged.
+/// - `Off` if the flash was off before: nothing changed.
 pub fn push_status<F: Flash>(flash: &mut F, map: &SectorMap, image: u8, side: Side) -> Result<()>
     requires image { HasImage map.now image (F.chip flash.old) }
     requires room { status_count_of map.now (F.chip flash.old) image side

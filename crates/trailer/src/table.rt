@@ -5,12 +5,12 @@ ghost use Rattle.trailer.specs.SwapTable.{swap_type_of};
 
 use crate::kinds::{Magic, SwapType, Trailer};
 
-/// What the trailers of an image ask of a boot, as MCUboot reads them (its design document,
-/// "Swapping"): the first that fits of a request to try, a request for good, and a trial that
-/// wasn't confirmed.
+/// Returns the swap type of an image, as MCUboot reads its trailers (MCUboot design document,
+/// "Swapping"). The first case that applies counts: a test request, a permanent request, a trial
+/// that wasn't confirmed.
 ///
-/// A request that was withdrawn is told like any other; [`crate::standing`] tells the request that
-/// stands.
+/// A withdrawn request counts like any other. [`standing`](crate::standing) returns the pending
+/// request.
 pub fn swap_type(primary: &Trailer, secondary: &Trailer) -> SwapType
     ensures { result ≡ swap_type_of primary.now secondary.now }
 {

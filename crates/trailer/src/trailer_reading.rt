@@ -1,4 +1,4 @@
-//! Reading the fields of a trailer.
+//! Reads the fields of a trailer.
 
 ghost use Rattle.std.specs.Prelude.{◌≡◌};
 ghost use Rattle.sector_map.specs.Map.{HasImage};
@@ -11,7 +11,7 @@ use crate::units::{is_unit_set, read_bytes};
 use flash_model::{Flash, Result, are_erased};
 use sector_map::{SectorMap, Side};
 
-/// What the bytes of a magic say.
+/// Returns what the bytes of a magic say.
 fn magic_in(bytes: &[u8; 16]) -> Magic
     ensures { result ≡ magic_in bytes.now }
 {
@@ -24,12 +24,12 @@ fn magic_in(bytes: &[u8; 16]) -> Magic
     }
 }
 
-/// Reads the fields of the trailer behind a slot.
+/// Reads the magic, `copy_done`, `image_ok` and withdrawn of the trailer of a slot.
 ///
-/// The map is laid out on the flash, and has the image, which is told by its number from 0.
+/// The map is laid out on the flash. Images are numbered from 0, and the map has this image.
 ///
 /// # Errors
-/// `Off` where the flash was off. Nothing changes in any case.
+/// `Off` if the flash was off. The flash never changes.
 #[tactic(auto, unfolding(crate::specs::Fields::fields_at, crate::specs::Fields::fields_in))]
 pub fn read_trailer<F: Flash>(
     flash: &mut F,

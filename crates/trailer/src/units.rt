@@ -1,4 +1,5 @@
-//! The units of a trailer, read and written by their places.
+//! Reads and writes units of a trailer by their places: the number of bytes before the trailer's
+//! end.
 
 ghost use Rattle.std.specs.Prelude.{◌≡◌, ◌+◌, ◌<◌, ◌≤◌, true, length, slice_range};
 ghost use Rattle.flash_model.specs.Units.{are_erased};
@@ -9,7 +10,7 @@ ghost use Rattle.trailer.specs.Writes.{HasUnits, WritesUnits};
 use flash_model::{Flash, Result, are_erased, is_erased};
 use sector_map::{SectorMap, Side};
 
-/// The address of what begins so many bytes before the end of a trailer.
+/// Returns the address `from_end` bytes before the end of a trailer.
 #[tactic(auto, using(crate::proofs::Places::trailer_addressed))]
 pub(crate) fn place_of(map: &SectorMap, image: u8, side: Side, from_end: u32) -> u32
     requires there { image < map.now.images }
@@ -19,7 +20,7 @@ pub(crate) fn place_of(map: &SectorMap, image: u8, side: Side, from_end: u32) ->
     map.trailer_start(image, side) + (map.sector_size - from_end)
 }
 
-/// Reads the `N` bytes that begin so many bytes before the end of a trailer.
+/// Reads the `N` bytes that begin `from_end` bytes before the end of a trailer.
 pub(crate) fn read_bytes<F: Flash, const N: usize>(
     flash: &mut F,
     map: &SectorMap,
@@ -36,7 +37,7 @@ pub(crate) fn read_bytes<F: Flash, const N: usize>(
     Ok(bytes)
 }
 
-/// Whether a unit is set.
+/// Returns whether the unit that begins `from_end` bytes before the end of a trailer is set.
 pub(crate) fn is_unit_set<F: Flash>(
     flash: &mut F,
     map: &SectorMap,
@@ -52,7 +53,7 @@ pub(crate) fn is_unit_set<F: Flash>(
     Ok(!are_erased(&unit))
 }
 
-/// Whether so many bytes of a trailer are erased, from an offset in its sector on.
+/// Returns whether `length` bytes of a trailer are erased, from `offset` in its sector on.
 pub(crate) fn is_range_erased<F: Flash>(
     flash: &mut F,
     map: &SectorMap,
@@ -69,7 +70,7 @@ pub(crate) fn is_range_erased<F: Flash>(
     is_erased(flash, map.trailer_start(image, side) + offset, length)
 }
 
-/// Writes whole units, so many bytes before the end of a trailer, where the trailer is erased.
+/// Programs whole units that begin `from_end` bytes before the end of a trailer. They are erased.
 pub(crate) fn write_units<F: Flash>(
     flash: &mut F,
     map: &SectorMap,

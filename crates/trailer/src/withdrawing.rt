@@ -1,4 +1,4 @@
-//! Taking a request back.
+//! Withdraws a request.
 
 ghost use Rattle.sector_map.specs.Map.{HasImage};
 ghost use Rattle.sector_map.specs.declared.layout.Side.TheVariants.{Secondary};
@@ -11,7 +11,7 @@ use crate::units::write_units;
 use flash_model::{FLAG, Flash, Result};
 use sector_map::{SectorMap, Side};
 
-/// Sets the withdrawn unit, where a request stands.
+/// Sets the withdrawn unit if a request is pending.
 fn take_back<F: Flash>(flash: &mut F, map: &SectorMap, image: u8) -> Result<()>
     requires { HasImage map.now image (F.chip flash.old) }
     ensures { TakesBack map.now image (F.chip flash.old) (F.chip flash.new) result }
@@ -33,16 +33,19 @@ fn erase_front<F: Flash>(flash: &mut F, map: &SectorMap, image: u8) -> Result<()
     flash.erase(map.slot(image, Side::Secondary))
 }
 
-/// Takes back the request of an image, if one stands: sets the withdrawn unit, then erases the
-/// first sector of the secondary slot unless its first unit is erased, and then the secondary
-/// trailer unless it is all erased. Where no request stands only what is left of these erases is
-/// made.
+/// Withdraws the pending request of an image, in three steps:
+/// - It sets the withdrawn unit.
+/// - It erases the first sector of the secondary slot, unless the slot's first unit is erased.
+/// - It erases the secondary trailer, unless each of its bytes is erased.
 ///
-/// The map is laid out on the flash, and has the image, which is told by its number from 0.
+/// If no request is pending, only the last two steps are made.
+///
+/// The map is laid out on the flash. Images are numbered from 0, and the map has this image.
 ///
 /// # Errors
-/// `Cut` where power failed: the request is as it was, slot and trailer, or none stands. `Off`
-/// where the flash was off before: nothing changed.
+/// - `Cut` if power failed: the slot and the fields of the trailer are as they were, or no request
+///   is pending.
+/// - `Off` if the flash was off before: nothing changed.
 pub fn withdraw<F: Flash>(flash: &mut F, map: &SectorMap, image: u8) -> Result<()>
     requires { HasImage map.now image (F.chip flash.old) }
     ensures { Withdraws map.now image (F.chip flash.old) (F.chip flash.new) result }
