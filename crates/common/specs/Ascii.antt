@@ -14,7 +14,7 @@ number_of text =
     let value = digits_value 10 text in
     if bytes_eq (decimal value) text && nat_lt value (2 ^ 32) then Some value else None
 
--- The number below a limit that a text spells.
+-- The number that a text spells, if it is below a limit.
 abbrev pub number_below : ℕ → List ℕ → Option ℕ
 number_below limit text =
     option_and_then (λ value. if nat_lt value limit then Some value else None) (number_of text)
@@ -23,7 +23,7 @@ number_below limit text =
 abbrev pub LacksByte : ℕ → List ℕ → Type 0
 LacksByte byte text = AllByRecursion (λ b. b ≢ byte) text
 
--- The text before the first separator, and the text after it where there is a separator.
+-- The text before the first separator, and the text after it if there is a separator.
 unfoldable pub cut : ℕ → List ℕ → List ℕ × Option (List ℕ)
 cut separator [] = ([], None)
 cut separator (b ∷ bs) =

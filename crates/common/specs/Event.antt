@@ -1,8 +1,8 @@
--- Events over other bytes.
+-- Events with other bytes.
 use Rattle.common.specs.declared.event.Event.{Event}
 use Rattle.common.specs.declared.event.Event.TheVariants as event
 
--- The same event, with what a function gives in the place of its bytes.
+-- The same event, with a function applied to its bytes.
 abbrev pub event_map : {A B : Type 0} → (A → B) → Event A → Event B
 event_map f (event.Accept bytes) = event.Accept (f bytes)
 event_map f (event.Piece image bytes) = event.Piece image (f bytes)

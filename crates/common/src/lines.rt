@@ -1,4 +1,4 @@
-//! Texts of lines: cutting them, and reading them into a state that takes one line after another.
+//! Splits a text into lines, and reads them one by one into a state.
 
 ghost use Rattle.std.specs.Prelude.{◌≡◌, ◌<◌, ◌∷◌, ℕ, List, Option, Some, None, Ok, Err, length, MatchBool, MatchResult};
 ghost use Rattle.common.specs.Lines.{lines_of};
@@ -8,12 +8,13 @@ use crate::ascii::cut;
 
 /// A state that takes the lines of a text, one after another.
 pub trait TakesLines {
-    // The state with one more line, if the lines so far go on with it.
+    // The state after one more line, or none if the line can't follow the lines so far.
     ghost with_line: { Self → List ℕ → Option Self };
 
     /// Takes one more line, given without its line feed.
     ///
-    /// `false` where the lines so far don't go on with it; the state is of no use then.
+    /// Returns `false` if the line can't follow the lines so far. The state can't be used
+    /// afterwards.
     fn take_line(&mut self, line: &[u8]) -> bool
         ensures { MatchBool result (with_line self.old line.now ≡ Some self.new)
             (with_line self.old line.now ≡ None) };
@@ -23,8 +24,8 @@ pub trait TakesLines {
 /// the end of the text.
 ///
 /// # Errors
-/// The number of the first line, counted from 1, that the state doesn't take. The state is of no
-/// use then.
+/// The number of the first line, counted from 1, that the state doesn't take. The state can't be
+/// used afterwards.
 pub fn read_lines<S: TakesLines>(state: &mut S, text: &[u8]) -> Result<(), usize>
     ensures { MatchResult result
         (λ done. read_lines S.with_line state.old 1 (lines_of text.now) ≡ Ok state.new)
@@ -43,7 +44,8 @@ pub fn read_lines<S: TakesLines>(state: &mut S, text: &[u8]) -> Result<(), usize
     Ok(())
 }
 
-/// The first line of a text that isn't empty, without its line feed, and the text after it.
+/// Returns the first line of a text, without its line feed, and the text after it. The text isn't
+/// empty.
 pub fn first_line(text: &[u8]) -> (&[u8], &[u8])
     requires { 0 < length text.now }
     ensures lines { lines_of text.now ≡ result.0.now ∷ lines_of result.1.now }

@@ -1,20 +1,23 @@
-//! Texts from outside: the name of standard input, and a text that is safe to print in one line.
+//! The argument for standard input, and a `Display` that makes a text safe to print in one line.
 
 use std::fmt;
 
-/// The argument that names standard input.
+/// The argument for standard input.
 pub const STANDARD_INPUT: &str = "-";
 
-/// The most bytes that are printed of a text. No name of a file has more.
+/// The most bytes that are printed of a text. No file name is longer.
 const MOST_PRINTED: usize = 1 << 12;
 
-/// A text to print in which characters that change how a terminal shows a line are escaped as
-/// Rust's `char::escape_default` does: `\n`, `\u{1b}`, `\u{2028}`, `\u{202e}`. These are the
-/// control characters, line feeds among them, the separators of lines and of paragraphs, and those
-/// that turn the direction of what follows. All else stays as it is.
+/// A text that is printed in one line, with each character escaped that could change how a terminal
+/// shows the line.
 ///
-/// Where more than 4,096 bytes would be printed, `...` stands for the middle: at most 2,048 bytes
-/// stand before it, and as many after it.
+/// These are the control characters, line feeds included, the separators of lines and of
+/// paragraphs, and the characters that change the direction of the text after them. They are
+/// escaped as `char::escape_default` does: `\n`, `\u{1b}`, `\u{2028}`, `\u{202e}`. All other
+/// characters are printed unchanged.
+///
+/// If more than 4,096 bytes would be printed, `...` replaces the middle. At most 2,048 bytes are
+/// printed before it, and at most 2,048 bytes after it.
 #[derive(Clone, Copy)]
 pub struct Escaped<'a>(pub &'a str);
 
@@ -40,13 +43,13 @@ impl fmt::Display for Escaped<'_> {
     }
 }
 
-/// Whether a character that is no control character ends a line: the line separator or the paragraph
-/// separator (Unicode Standard Annex #14, class BK).
+/// Returns whether a character is the line separator or the paragraph separator. They end a line
+/// and aren't control characters (Unicode Standard Annex #14, class BK).
 fn ends_line(character: char) -> bool {
     matches!(character, '\u{2028}'..='\u{2029}')
 }
 
-/// Prints a character, escaped where it has to be.
+/// Prints a character, escaped if necessary.
 fn print<W: fmt::Write>(character: char, f: &mut fmt::Formatter<W>) -> fmt::Result {
     if is_escaped(character) {
         write!(f, "{}", character.escape_default())
@@ -55,7 +58,7 @@ fn print<W: fmt::Write>(character: char, f: &mut fmt::Formatter<W>) -> fmt::Resu
     }
 }
 
-/// How many bytes would be printed of a text, if none were left out.
+/// Returns the number of bytes that would be printed of a text if none were left out.
 fn all_printed_bytes(text: &str) -> usize {
     let mut all = 0usize;
     for character in text.chars() {
@@ -64,7 +67,7 @@ fn all_printed_bytes(text: &str) -> usize {
     all
 }
 
-/// How many bytes are printed of a character.
+/// Returns the number of bytes that are printed of a character.
 fn printed_bytes(character: char) -> usize {
     if is_escaped(character) {
         character.escape_default().count()
@@ -73,12 +76,12 @@ fn printed_bytes(character: char) -> usize {
     }
 }
 
-/// Whether a character changes how a terminal shows a line.
+/// Returns whether a character changes how a terminal shows a line.
 fn is_escaped(character: char) -> bool {
     character.is_control() || ends_line(character) || turns_direction(character)
 }
 
-/// Whether a character turns the direction in which what follows is shown: a mark, an embedding, an
+/// Returns whether a character changes the direction of the text after it: a mark, an embedding, an
 /// override, an isolate, or the end of one (Unicode Standard Annex #9, section 2).
 fn turns_direction(character: char) -> bool {
     matches!(
