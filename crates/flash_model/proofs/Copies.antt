@@ -1,10 +1,10 @@
--- Copies of ranges, made piece by piece.
+-- Lemmas about copies of ranges that are made piece by piece.
 use Rattle.std.proofs.Common.{◌≡◌, ◌≢◌, ◌⊎◌, ℕ, ◌+◌, ◌-◌, ◌*◌, ◌≤◌, List, length}
 use Rattle.std.proofs.Common.{sym, ◌∙◌, ap, subst, arith}
 use Rattle.flash_model.specs.Chip.{Chip, Reads, IsCopy, SameOutside, SectorIs}
 use Rattle.flash_model.proofs.Frame.{products_apart}
 
--- What was read there and stands here is a copy.
+-- Bytes that were read at one place and written at another are a copy.
 pub copy_of_reads : (from to n : ℕ) (old new : Chip) (bytes : List ℕ)
     → Reads old from bytes → Reads new to bytes → n ≡ length bytes → IsCopy from to n old new
 copy_of_reads from to n old new bytes read written is = record {
@@ -12,7 +12,7 @@ copy_of_reads from to n old new bytes read written is = record {
       written.each k (k - to) (omega arith) (omega arith) ∙ sym (read.each j (k - to) (omega arith) (omega arith));
 }
 
--- A copy goes on by n bytes.
+-- A copy grows by n bytes.
 pub copied_more : (from to done n all : ℕ) (first mid last : Chip)
     → IsCopy from to done first mid → IsCopy (from + done) (to + done) n mid last
     → SameOutside to done first mid → SameOutside (to + done) n mid last
@@ -23,7 +23,7 @@ copied_more from to done n all first mid last so_far here kept same apart is = r
       grind (arith, so_far.each, here.each, kept.before, kept.after, same.before, same.after);
 }
 
--- A copy of what stood there before another range was written.
+-- A copy of the old bytes, made after another range was written.
 pub copy_after : (from to n m at size : ℕ) (old mid new : Chip)
     → IsCopy from to n mid new → SameOutside at size old mid
     → (from + n ≤ at) ⊎ (at + size ≤ from) → m ≡ n → IsCopy from to m old new
@@ -39,7 +39,7 @@ copy_kept from to n at size old mid new copied same apart = record {
   each = λ k j low high e. grind (arith, copied.each, same.before, same.after);
 }
 
--- A sector is copied to another one, which was erased first.
+-- A sector was copied to another one, which was erased first.
 pub copy_after_erase : (a b e size m : ℕ) (old mid new : Chip)
     → IsCopy (a * size) (b * size) m mid new → SameOutside (b * e) e old mid
     → a ≢ b → size ≡ e → m ≡ size → IsCopy (a * e) (b * e) e old new
@@ -48,7 +48,7 @@ copy_after_erase a b e size m old mid new copied same other is all =
     (subst (λ x. IsCopy (a * x) (b * x) m mid new) is copied) same
     (grind (arith, products_apart a b e other)) (omega arith)
 
--- The contents of a sector, at another one to which it was copied.
+-- A sector that another one was copied to has the contents of that one.
 pub sector_copied : (a b e n : ℕ) (contents : ℕ → ℕ) (old new : Chip) → SectorIs old a contents
     → IsCopy (a * e) (b * e) n old new → e ≡ old.sector_size → n ≡ old.sector_size
     → new.sector_size ≡ old.sector_size → SectorIs new b contents

@@ -1,4 +1,4 @@
--- How calls end that come one after the other.
+-- Lemmas about how a call on a flash ends that makes several calls in turn.
 use Rattle.std.proofs.Common.{◌≡◌, ◌+◌, true, false, Result, Ok, Err, OnOk, refl, sym, ◌∙◌, ap}
 use Rattle.std.specs.Prelude.{IsErr, IsErrAnd, IsErrOf}
 use Rattle.std.proofs.Common.{true≢false}
@@ -24,7 +24,7 @@ on_ok : {T : Type 0} (result : Result T FlashError) (P Q : Type 0) → (P → Q)
 on_ok (Ok value) P Q step holds = step holds
 on_ok (Err error) P Q step holds = tt
 
--- A call that ends so, after others that weren't cut.
+-- A call after others that weren't interrupted.
 pub ends_after : {T : Type 0} (result : Result T FlashError) (old mid new : Chip) → IsUncut old mid
     → (old.is_on ≡ false → mid ≡ old) → Ends result mid new → Ends result old new
 ends_after result old mid new so_far asleep last = record {
@@ -34,16 +34,16 @@ ends_after result old mid new so_far asleep last = record {
   off = λ is. sym so_far.on ∙ last.off is;
 }
 
--- What a call promises where it ends, at an error.
+-- A promise on success holds at an error.
 pub at_error : {T E : Type 0} (P : Type 0) (result : Result T E) → IsErr result → OnOk result P
 at_error P (Ok value) is = absurd (true≢false (sym is))
 at_error P (Err error) is = tt
 
--- A call that ended well gave no error,
+-- A successful call returned no error.
 pub no_error : {T E : Type 0} (value : T) (error : E) → IsErrOf (Ok value) error → ⊥
 no_error value error e = cc
 
--- so the flash was on, where it refuses else.
+-- If a call returns `Off` whenever the flash is off, its success means that the flash was on.
 pub was_on : {T : Type 0} (value : T) (on : Bool) → (on ≡ false → IsErrOf (Ok value) Off) → on ≡ true
 was_on value true off = refl
 was_on value false off = absurd (no_error value Off (off refl))
@@ -54,7 +54,7 @@ same_error a b kind same e = ap (λ x. Err x) (sym same ∙ one a kind e) where
   one : {U : Type 0} (a b : FlashError) → IsErrOf {T = U} (Err a) b → a ≡ b
   one a b e = cc
 
--- A call ends by the error of one that it made.
+-- A call ends with the error of a call that it made.
 pub ends_passed : {T U : Type 0} (result : Result T FlashError) (error : FlashError) (old new : Chip)
     → IsErrAnd result (λ passed. passed ≡ error) → Ends {T = U} (Err error) old new → Ends result old new
 ends_passed (Ok value) error old new is ends = absurd is
@@ -65,7 +65,7 @@ ends_passed (Err passed) error old new is ends = record {
   off = λ was. ends.off (same_error passed error Off is was);
 }
 
--- No call was cut so far.
+-- A successful call, of whose writes none was interrupted.
 pub ends_well : {T : Type 0} (value : T) (old new : Chip) → IsUncut old new → (old.is_on ≡ false → new ≡ old)
     → Ends (Ok value) old new
 ends_well value old new uncut asleep = record {
@@ -75,17 +75,17 @@ ends_well value old new uncut asleep = record {
   off = λ is. absurd (no_error value Off is);
 }
 
--- A call with another value.
+-- A successful call with another value.
 pub ends_done : {T U : Type 0} (value : T) (done : U) (old new : Chip) → Ends (Ok value) old new
     → Ends (Ok done) old new
 ends_done value done old new ends = ends_well done old new ends.uncut ends.asleep
 
--- A call that ends so behind one that ended.
+-- A call after a successful one.
 pub ends_then : {T U : Type 0} (value : T) (result : Result U FlashError) (old mid new : Chip)
     → Ends (Ok value) old mid → Ends result mid new → Ends result old new
 ends_then value result old mid new first last = ends_after result old mid new first.uncut first.asleep last
 
--- A write that is cut.
+-- A write that is interrupted.
 pub ends_cut : {T : Type 0} {old new : Chip} → old.is_on ≡ true → new.cuts ≡ old.cuts + 1 → new.is_on ≡ false
     → Ends {T = T} (Err Cut) old new
 ends_cut on cuts off = record {

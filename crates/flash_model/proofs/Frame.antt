@@ -1,10 +1,10 @@
--- What a write leaves of all else, and of what stood beside its range.
+-- Lemmas about what a write leaves outside its range.
 use Rattle.std.proofs.Common.{◌≡◌, ◌≢◌, ◌⊎◌, ℕ, ◌+◌, ◌*◌, ◌/◌, ◌%◌, ◌<◌, ◌≤◌, List, length}
 use Rattle.std.proofs.Common.{refl, sym, ◌∙◌, ap, arith, inl, inr, ⊎_elim}
 use Rattle.std.proofs.lemmas.Bool.{cases_lt}
 use Rattle.flash_model.specs.Chip.{Chip, Reads, SameOutside, SameSector, SectorIs}
 
--- Nothing was written.
+-- Without a write nothing changes.
 pub same_outside_refl : (at n : ℕ) (chip : Chip) → SameOutside at n chip chip
 same_outside_refl at n chip = record {
   sector_size = refl;
@@ -15,7 +15,7 @@ same_outside_refl at n chip = record {
   after = λ k high. refl;
 }
 
--- Each of the two chips is as the other outside the range.
+-- Each of the two chips is as the other one outside the range.
 pub same_outside_sym : (at n : ℕ) (old new : Chip) → SameOutside at n old new → SameOutside at n new old
 same_outside_sym at n old new same = record {
   sector_size = sym same.sector_size;
@@ -26,7 +26,7 @@ same_outside_sym at n old new same = record {
   after = λ k high. sym (same.after k high);
 }
 
--- The range was written twice.
+-- Two writes of the same range leave all bytes outside it unchanged.
 pub same_outside_trans : (at n : ℕ) (old mid new : Chip)
     → SameOutside at n old mid → SameOutside at n mid new → SameOutside at n old new
 same_outside_trans at n old mid new first second = record {
@@ -38,7 +38,7 @@ same_outside_trans at n old mid new first second = record {
   after = λ k high. second.after k high ∙ first.after k high;
 }
 
--- The write was in a wider range.
+-- A write leaves all bytes outside a wider range unchanged.
 pub same_outside_wider : (at n from m : ℕ) (old new : Chip)
     → SameOutside at n old new → from ≤ at → at + n ≤ from + m → SameOutside from m old new
 same_outside_wider at n from m old new same low high = record {
@@ -50,14 +50,14 @@ same_outside_wider at n from m old new same low high = record {
   after = λ k above. same.after k (omega arith);
 }
 
--- Two ranges were written, one behind the other.
+-- Writes of two adjacent ranges leave all bytes outside both unchanged.
 pub same_outside_joined : (at n m : ℕ) (old mid new : Chip)
     → SameOutside at n old mid → SameOutside (at + n) m mid new → SameOutside at (n + m) old new
 same_outside_joined at n m old mid new first second = same_outside_trans at (n + m) old mid new
     (same_outside_wider at n at (n + m) old mid first (omega arith) (omega arith))
     (same_outside_wider (at + n) m at (n + m) mid new second (omega arith) (omega arith))
 
--- What reads as it did, beside the range that was written.
+-- Bytes beside the written range read as before.
 pub reads_kept : (at from m : ℕ) (bytes : List ℕ) (old new : Chip)
     → Reads old at bytes → SameOutside from m old new
     → (at + length bytes ≤ from) ⊎ (from + m ≤ at) → Reads new at bytes
@@ -72,27 +72,26 @@ reads_kept at from m bytes old new reads same apart = record {
 pub product_le : (a b e : ℕ) → a < b → a * e + e ≤ b * e
 product_le a b e lt = grind arith
 
--- Two sectors lie apart.
+-- Two different sectors don't overlap.
 pub products_apart : (a b e : ℕ) → a ≢ b → (a * e + e ≤ b * e) ⊎ (b * e + e ≤ a * e)
 products_apart a b e other = ⊎_elim
     (λ lt. inl (product_le a b e lt)) (λ le. inr (product_le b a e (omega arith))) (cases_lt a b)
 
--- Sectors in their order begin in that order.
+-- Sectors begin in the order of their numbers.
 pub mul_le : (a b e : ℕ) → a ≤ b → a * e ≤ b * e
 mul_le a b e le = grind arith
 
--- The sector of an address that is written so isn't before one that begins at or before the address
--- ..
+-- If a sector begins at or before an address, it isn't after the sector of that address.
 pub sector_from : (a s e o : ℕ) → a * e ≤ s * e + o → o < e → a ≤ s
 sector_from a s e o low small = ⊎_elim
     (λ (before : s < a). absurd (omega (arith, product_le s a e before))) (λ (le : a ≤ s). le) (cases_lt s a)
 
--- .. and is before one that begins behind the address.
+-- If a sector begins after an address, it is after the sector of that address.
 pub sector_below : (s b e o : ℕ) → s * e + o < b * e → s < b
 sector_below s b e o high = ⊎_elim
     (λ (lt : s < b). lt) (λ (behind : b ≤ s). absurd (omega (arith, mul_le b s e behind))) (cases_lt s b)
 
--- An address, by its sector and the offset in it.
+-- An address is given by its sector and the offset in it.
 pub sector_at : (a n e k : ℕ) → 0 < e → a * e ≤ k → k < (a + n) * e
     → (a ≤ k / e) × (k / e < a + n) × (k ≡ k / e * e + k % e) × (k % e < e)
 sector_at a n e k some low high =
@@ -116,7 +115,7 @@ same_sector_trans sector old mid new first second size =
           second.each k o (omega (arith, place)) (omega (arith, size)) ∙ first.each k o is below;
     }
 
--- A sector beside the one that was written.
+-- A sector other than the written one is unchanged.
 pub same_sector : (s t e n : ℕ) (old new : Chip) → SameOutside (t * e) n old new
     → e ≡ old.sector_size → n ≡ old.sector_size → s ≢ t → SameSector s old new
 same_sector s t e n old new same size whole other =
@@ -125,7 +124,7 @@ same_sector s t e n old new same size whole other =
       each = λ k o is below. grind (arith, same.before, same.after, products_apart s t old.sector_size other, place);
     }
 
--- A sector that is as it was has the contents that it had.
+-- An unchanged sector has the same contents.
 pub sector_kept : (s : ℕ) (contents : ℕ → ℕ) (old new : Chip) → SectorIs old s contents
     → SameSector s old new → new.sector_size ≡ old.sector_size → SectorIs new s contents
 sector_kept s contents old new was same size =

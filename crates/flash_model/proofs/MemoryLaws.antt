@@ -1,4 +1,4 @@
--- What a write of a flash in memory leaves.
+-- Lemmas about what a write of a flash in memory leaves.
 use Rattle.std.proofs.Common.{◌≡◌, ℕ, zero, suc, ◌+◌, ◌-◌, ◌^◌, ◌<◌, ◌≤◌, ◌==◌, Bool, true, false, List, [], ◌∷◌, ◌++◌}
 use Rattle.std.proofs.Common.{Some, None, Ok, Err}
 use Rattle.std.proofs.Common.{refl, sym, ◌∙◌, ap, arith, subst, ⊎_elim}
@@ -14,7 +14,7 @@ use Rattle.flash_model.specs.Chip.{Chip, unarmed}
 use Rattle.flash_model.specs.Memory.{Writes, armed_with, next_torn, one_more, torn}
 use Rattle.flash_model.specs.Torn.{torn_for}
 
--- No write is armed from a number on, below which all armed ones are.
+-- If all armed numbers are below a limit, no number from the limit on is armed.
 pub none_behind : (armed : List Armed) (limit number : ℕ) → All (λ write. write.at < limit) armed
     → limit ≤ number → torn_for number armed ≡ None
 none_behind [] limit number below past = refl
@@ -23,7 +23,7 @@ none_behind (write ∷ armed) limit number below past =
     let other : (write.at == number) ≡ false = ne_eqb write.at number (λ same. absurd (omega (arith, same, first))) in
     rw other (none_behind armed limit number (λ k d lt. below (suc k) d (omega arith)) past)
 
--- All armed ones are below it, also with one more.
+-- All armed numbers are below a limit, also after one more was armed.
 pub below_pushed : (pushed : Bool) (armed new : List Armed) (limit : ℕ) (write : Armed)
     → new ≡ (if pushed then armed ++ write ∷ [] else armed) → All (λ w. w.at < limit) armed → write.at < limit
     → All (λ w. w.at < limit) new
@@ -35,7 +35,7 @@ below_pushed true armed new limit write is below last =
     one (suc k) d lt = absurd (omega (arith, lt))
 below_pushed false armed new limit write is below last = subst (λ all. All (λ w. w.at < limit) all) (sym is) below
 
--- The number at which counting stops isn't armed, and so it stands for all that follow.
+-- The number at which counting stops isn't armed, and neither is any later one.
 pub torn_for_next : (armed : List Armed) (writes next : ℕ) → All (λ write. write.at < 2 ^ 64 - 1) armed
     → next ≡ one_more writes → torn_for next armed ≡ torn_for (writes + 1) armed
 torn_for_next armed writes next below is = ⊎_elim
@@ -47,7 +47,7 @@ torn_for_next armed writes next below is = ⊎_elim
     ∙ sym (none_behind armed (2 ^ 64 - 1) (writes + 1) below stopped))
     (cases_lt (writes + 1) (2 ^ 64 - 1))
 
--- A flash in memory, put together.
+-- The chip of a flash in memory, by its parts.
 abbrev memory : ℕ → ℕ → Bool → List Armed → List ℕ → List ℕ → ℕ → ℕ → ℕ → Chip
 memory size sectors on armed first bytes cuts erases writes = record {
   sector_size = size;
@@ -61,7 +61,7 @@ memory size sectors on armed first bytes cuts erases writes = record {
   fixed = armed_with armed (record unarmed { first = first });
 }
 
--- It is the same where its parts are.
+-- Two such chips are the same if their parts are.
 pub same_memory : (size sectors : ℕ) (on : Bool) (armed : List Armed) (first bytes bytes' : List ℕ)
     (cuts cuts' erases erases' writes writes' : ℕ)
     → bytes ≡ bytes' → cuts ≡ cuts' → erases ≡ erases' → writes ≡ writes'
@@ -82,7 +82,7 @@ writes_done at range done old new on unarmed is = record {
   armed = λ left _ armed. absurd (none-some left (sym unarmed ∙ armed));
 }
 
--- A write that is armed is cut.
+-- A write that is armed is interrupted.
 pub writes_cut : (at : ℕ) (range : List ℕ) (left : Torn) (done old new : Chip) → old.is_on ≡ true
     → next_torn old ≡ Some left → new ≡ torn at range left old → Writes (Err Cut) at range done old new
 writes_cut at range left done old new on armed is = record {

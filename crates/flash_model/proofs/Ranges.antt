@@ -1,4 +1,4 @@
--- Ranges of a flash as lists of bytes.
+-- Lemmas about ranges of a flash as lists of bytes.
 use Rattle.std.proofs.Common.{◌≡◌, ◌⊎◌, ℕ, ◌+◌, ◌-◌, ◌<◌, ◌≤◌, List, ◌++◌, length, get_or, slice_index, slice_range}
 use Rattle.std.proofs.Common.{drop, min, replicate, refl, sym, ◌∙◌, ap, arith, ⊎_elim, length-drop}
 use Rattle.std.proofs.lemmas.Bool.{cases_lt}
@@ -6,15 +6,15 @@ use Rattle.std.proofs.lemmas.List.{get_or_append_left, get_or-append_right, get_
 use Rattle.std.proofs.lemmas.List.{ext_get_or, get_or-drop, get_or-replicate, get_or-take, length-replicate, length-take}
 use Rattle.flash_model.specs.Chip.{Chip, Reads, IsErased, SameOutside}
 
--- How long a range is.
+-- The length of a range.
 pub length_range : (xs : List ℕ) (a b : ℕ) → length (slice_range xs a b) ≡ min (b - a) (length xs - a)
 length_range xs a b = length-take (b - a) (drop a xs) ∙ ap (λ n. min (b - a) n) (length-drop a xs)
 
--- The elements of a range, by their places in all.
+-- An element of a range, by its index in the complete list.
 pub range_at : (xs : List ℕ) (a b i : ℕ) → i < b - a → get_or (slice_range xs a b) i 0 ≡ get_or xs (a + i) 0
 range_at xs a b i lt = get_or-take (b - a) (drop a xs) i 0 lt ∙ get_or-drop a xs i 0
 
--- Two ranges are the same where their bytes are.
+-- Two ranges are the same if their bytes are.
 pub range_same : (a b : ℕ) (old new : List ℕ) → length new ≡ length old
     → ((k : ℕ) → a ≤ k → k < b → slice_index new k ≡ slice_index old k)
     → slice_range new a b ≡ slice_range old a b
@@ -32,7 +32,7 @@ range_kept a b from m old new same apart = range_same a b old.bytes new.bytes sa
     (λ (behind : from + m ≤ a). same.after k (omega arith))
     apart)
 
--- A range is what it reads ..
+-- A range is the list of the bytes that are read from it.
 pub range_of_reads : (chip : Chip) (at : ℕ) (bytes : List ℕ) → Reads chip at bytes
     → at + length bytes ≤ length chip.bytes → slice_range chip.bytes at (at + length bytes) ≡ bytes
 range_of_reads chip at bytes reads fits =

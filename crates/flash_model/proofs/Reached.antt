@@ -1,4 +1,5 @@
--- How many armed writes a flash took, one write further.
+-- Lemmas about `reached`, the number of armed writes that a flash took, when the flash takes one
+-- more.
 use Rattle.std.proofs.Common.{◌≡◌, ℕ, zero, suc, ◌+◌, ◌-◌, ◌^◌, ◌<◌, ◌≤◌, ◌==◌, ◌||◌, true, false, List, [], ◌∷◌, ◌++◌}
 use Rattle.std.proofs.Common.{Bool, Some, None, refl, sym, ◌∙◌, ap, arith, ⊎_elim}
 use Rattle.std.specs.Prelude.{find, if◌then◌else◌, map, option_map}
@@ -13,17 +14,17 @@ use Rattle.flash_model.specs.Chip.{numbers_of, reached}
 use Rattle.flash_model.specs.Memory.{one_more}
 use Rattle.flash_model.specs.Torn.{torn_for}
 
--- One that is among the numbers counts ..
+-- A write whose number is in the list counts.
 pub reached_one : (numbers : List ℕ) (n : ℕ) → list_any (λ number. number == suc n) numbers ≡ true
     → reached numbers (suc n) ≡ reached numbers n + 1
 reached_one numbers n is = rw is refl
 
--- .. and another doesn't.
+-- A write whose number isn't in the list doesn't count.
 pub reached_none : (numbers : List ℕ) (n : ℕ) → list_any (λ number. number == suc n) numbers ≡ false
     → reached numbers (suc n) ≡ reached numbers n
 reached_none numbers n is = rw is refl
 
--- A number behind those that count changes nothing, and neither does 0.
+-- A number after the counted writes changes nothing, and neither does 0.
 pub reached_beside : (numbers : List ℕ) (k n : ℕ) → (1 ≤ k → n < k)
     → reached (numbers ++ k ∷ []) n ≡ reached numbers n
 reached_beside numbers k zero beside = refl
@@ -40,11 +41,11 @@ reached_beside numbers k (suc n) beside =
     both [] n other = rw other refl
     both (first ∷ rest) n other = ap (λ b. (first == suc n) || b) (both rest n other)
 
--- The numbers with one armed write more.
+-- The numbers after one more write was armed.
 pub numbers_more : (armed : List Armed) (write : Armed) → numbers_of (armed ++ write ∷ []) ≡ numbers_of armed ++ write.at ∷ []
 numbers_more armed write = map-append (λ (w : Armed). w.at) armed (write ∷ [])
 
--- A number is among those of some rows where a row of it is found.
+-- A number is in a list of keys exactly if a row with this key is found.
 pub any_of_rows : {X Y : Type 0} (key : X → ℕ) (value : X → Y) (number : ℕ) (rows : List X)
     → list_any (λ n. n == number) (map key rows)
     ≡ is_some (option_map value (find (λ row. key row == number) rows))
@@ -54,12 +55,12 @@ any_of_rows key value number (row ∷ rows) = ⊎_elim
     (λ (isnt : (key row == number) ≡ false). rw isnt (any_of_rows key value number rows))
     (cases_Bool (key row == number))
 
--- So it is among those of the armed writes where a cut of that write leaves something.
+-- The number of a write is in the list of armed numbers exactly if the write leaves something.
 pub any_number : (number : ℕ) (armed : List Armed)
     → list_any (λ n. n == number) (numbers_of armed) ≡ is_some (torn_for number armed)
 any_number number armed = any_of_rows (λ (write : Armed). write.at) (λ (write : Armed). write.torn) number armed
 
--- A write that isn't armed ..
+-- A write that isn't armed adds nothing to the count.
 pub reached_unarmed : (armed : List Armed) (writes next : ℕ) → writes < 2 ^ 64 → next ≡ one_more writes
     → torn_for next armed ≡ None → reached (numbers_of armed) next ≡ reached (numbers_of armed) writes
 reached_unarmed armed writes next below is none = ⊎_elim
@@ -69,7 +70,8 @@ reached_unarmed armed writes next below is none = ⊎_elim
     (λ (stopped : 2 ^ 64 ≤ writes + 1). ap (λ n. reached (numbers_of armed) n) (omega (arith, is)))
     (cases_lt (writes + 1) (2 ^ 64))
 
--- .. and one that is, below where counting stops.
+-- A write that is armed adds one to the count. No write is armed from the number at which counting
+-- ends.
 pub reached_armed : (armed : List Armed) (writes next : ℕ) (left : Torn) → next ≡ one_more writes
     → (2 ^ 64 - 1 ≤ next → torn_for next armed ≡ None) → torn_for next armed ≡ Some left
     → reached (numbers_of armed) next ≡ reached (numbers_of armed) writes + 1
@@ -81,7 +83,7 @@ reached_armed armed writes next left is past some = ⊎_elim
     absurd (none-some left (sym (past (omega (arith, is))) ∙ some)))
     (cases_lt (writes + 1) (2 ^ 64 - 1))
 
--- Where one that is to come is armed, as many are taken.
+-- Arming a write that is yet to come doesn't change the count.
 pub reached_pushed : (pushed : Bool) (armed new : List Armed) (write : Armed) (writes : ℕ)
     → new ≡ (if pushed then armed ++ write ∷ [] else armed) → (1 ≤ write.at → writes < write.at)
     → reached (numbers_of new) writes ≡ reached (numbers_of armed) writes

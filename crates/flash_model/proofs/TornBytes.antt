@@ -1,4 +1,4 @@
--- Bytes of which a range was replaced, and ranges that a cut left.
+-- Lemmas about bytes of which a range was replaced, by a write that was done or torn.
 use Rattle.std.proofs.Common.{◌≡◌, ◌*◌, ℕ, ◌+◌, ◌-◌, ◌/◌, ◌%◌, ◌<◌, ◌≤◌, List, [], ◌∷◌, ◌++◌, length, take, drop}
 use Rattle.std.proofs.Common.{slice_index, slice_range, replicate, refl, sym, ◌∙◌, ap, arith}
 use Rattle.std.proofs.lemmas.List.{ext_get_or, get_or-drop, get_or-take, get_or_append_left, get_or-append_right}
@@ -12,12 +12,12 @@ use Rattle.flash_model.proofs.Frame.{product_le}
 use Rattle.flash_model.proofs.Ranges.{length_range}
 use Rattle.flash_model.specs.Torn.{half_done, repeated, replaced, torn_at, torn_bytes, with_pattern}
 
--- No bytes are put over what was there.
+-- An empty pattern leaves the old bytes.
 pub with_pattern_none : (pattern old : List ℕ) → length pattern ≡ 0 → old ≡ with_pattern pattern old
 with_pattern_none [] old none = refl
 with_pattern_none (b ∷ bs) old none = absurd (omega (arith, none))
 
--- Bytes that are those of the pattern, one by one.
+-- Bytes that are those of the pattern, one by one, are the old bytes with the pattern over them.
 pub with_pattern_each : (pattern old new : List ℕ) → 0 < length pattern → length new ≡ length old
     → ((k : ℕ) → k < length old → slice_index new k ≡ slice_index pattern (k % length pattern))
     → new ≡ with_pattern pattern old
@@ -35,12 +35,12 @@ length-with_pattern [] old = refl
 length-with_pattern (b ∷ bs) old =
     length-map-range_with_len (λ i. slice_index (b ∷ bs) (i % length (b ∷ bs))) 0 (length old)
 
--- Half of a write leaves as many bytes as there were.
+-- Half of a write leaves the length unchanged.
 length-half_done : (old done : List ℕ) → length old ≡ length done
     → length (half_done old done) ≡ length done
 length-half_done old done same = simp (length-append, length-take, length-drop) (omega (arith, same))
 
--- A cut leaves as many bytes as there were.
+-- An interrupted write leaves the length unchanged.
 pub length-torn_bytes : (torn : Torn) (old done : List ℕ) → length old ≡ length done
     → length (torn_bytes torn old done) ≡ length done
 length-torn_bytes Keep old done same = same
@@ -52,7 +52,7 @@ pub length-replaced : (at : ℕ) (range bytes : List ℕ) → at + length range 
     → length (replaced at range bytes) ≡ length bytes
 length-replaced at range bytes inside = simp (length-append, length-take, length-drop) (omega arith)
 
--- A range is put where it stands.
+-- A range that is replaced by its own bytes doesn't change.
 pub same_replaced : (at n : ℕ) (bytes : List ℕ) → at + n ≤ length bytes
     → bytes ≡ replaced at (slice_range bytes at (at + n)) bytes
 same_replaced at n bytes inside =
@@ -65,7 +65,7 @@ same_replaced at n bytes inside =
     sym (take-append-drop at bytes) ∙ ap (λ all. take at bytes ++ all)
     (sym (take-append-drop n behind) ∙ ap (λ r. r ++ drop n behind) is ∙ ap (λ r. range ++ r) rest)
 
--- All other bytes are as they were.
+-- A replaced range leaves all other bytes unchanged.
 pub outside_of_replaced : (at n : ℕ) (range : List ℕ) (old new : Chip) → length range ≡ n
     → at + n ≤ length old.bytes → new.bytes ≡ replaced at range old.bytes
     → new.sector_size ≡ old.sector_size → new.sectors ≡ old.sectors → new.fixed ≡ old.fixed
@@ -86,7 +86,7 @@ outside_of_replaced at n range old new long inside is size sectors fixed =
           ∙ ap (λ i. slice_index old.bytes i) (omega arith);
     }
 
--- The range has the bytes that were put there ..
+-- The range has the new bytes.
 pub reads_of_replaced : (at : ℕ) (range old : List ℕ) (new : Chip) → at + length range ≤ length old
     → new.bytes ≡ replaced at range old → Reads new at range
 reads_of_replaced at range old new inside is =
@@ -100,7 +100,7 @@ reads_of_replaced at range old new inside is =
           ∙ get_or_append_left range _ 0 i below;
     }
 
--- .. and so is erased where these are.
+-- The range is erased if the new bytes are.
 pub erased_of_replaced : (at n : ℕ) (old : List ℕ) (new : Chip) → at + length {A = ℕ} (replicate n 255) ≤ length old
     → new.bytes ≡ replaced at (replicate n 255) old → IsErased new at n
 erased_of_replaced at n old new inside is =
@@ -111,20 +111,20 @@ erased_of_replaced at n old new inside is =
           reads.each k (k - at) (omega arith) (omega arith) ∙ get_or-replicate n (k - at) 255 0 (omega arith);
     }
 
--- A cut leaves as many bytes in its range as there were ..
+-- An interrupted write leaves the length of its range unchanged.
 pub length-torn_range : (torn : Torn) (at : ℕ) (bytes done : List ℕ) → at + length done ≤ length bytes
     → length (torn_bytes torn (slice_range bytes at (at + length done)) done) ≡ length done
 length-torn_range torn at bytes done inside = length-torn_bytes torn _ done
     (length_range bytes at (at + length done) ∙ omega arith)
 
--- .. and as many in all.
+-- An interrupted write leaves the length of all bytes unchanged.
 pub length-torn_at : (torn : Torn) (at : ℕ) (done bytes : List ℕ) → at + length done ≤ length bytes
     → length (torn_at at done torn bytes) ≡ length bytes
 length-torn_at torn at done bytes inside =
     let long = length-torn_range torn at bytes done inside in
     length-replaced at _ bytes (omega (arith, long, inside))
 
--- All other bytes are as they were.
+-- An interrupted write leaves all bytes outside its range unchanged.
 pub outside_of_torn : (torn : Torn) (at n : ℕ) (done : List ℕ) (old new : Chip) → length done ≡ n
     → at + length done ≤ length old.bytes → new.bytes ≡ torn_at at done torn old.bytes
     → new.sector_size ≡ old.sector_size → new.sectors ≡ old.sectors → new.fixed ≡ old.fixed
@@ -132,7 +132,7 @@ pub outside_of_torn : (torn : Torn) (at n : ℕ) (done : List ℕ) (old new : Ch
 outside_of_torn torn at n done old new long inside is size sectors fixed = outside_of_replaced at n _ old new
     (length-torn_range torn at old.bytes done inside ∙ long) (omega (arith, long, inside)) is size sectors fixed
 
--- The bytes of an erase that was cut.
+-- The bytes after an interrupted erase.
 pub torn_blank : (torn : Torn) (at n : ℕ) (old new : List ℕ)
     → new ≡ replaced at (torn_bytes torn (slice_range old at (at + n)) (replicate n 255)) old
     → new ≡ torn_at at (replicate n 255) torn old
@@ -141,7 +141,7 @@ torn_blank torn at n old new is =
     let long : n ≡ length blank = sym (length-replicate {A = ℕ} n 255) in
     is ∙ ap (λ m. replaced at (torn_bytes torn (slice_range old at (at + m)) blank) old) long
 
--- The items of a vector of which all were lent and came back as others, just as many.
+-- The items of a vector after all of them were borrowed and replaced by the same number of others.
 pub items_after : (len : ℕ) (old new whole : List ℕ) → new ≡ whole → length whole ≡ length old
     → length old ≡ len → take len (new ++ drop (length new) old) ≡ whole
 items_after len old new whole is long all =
@@ -157,7 +157,7 @@ blank_inside sector sectors size bytes below whole =
     let within = product_le sector sectors size below in
     omega (arith, long, within, whole)
 
--- The items after an erase that was cut.
+-- The items of a vector after an interrupted erase.
 pub items_after_torn_blank : (torn : Torn) (len at n : ℕ) (old new : List ℕ)
     → new ≡ replaced at (torn_bytes torn (slice_range old at (at + n)) (replicate n 255)) old
     → at + length {A = ℕ} (replicate n 255) ≤ length old → length old ≡ len
@@ -167,9 +167,9 @@ items_after_torn_blank torn len at n old new is inside all =
     items_after len old new (torn_at at blank torn old) (torn_blank torn at n old new is)
     (length-torn_at torn at blank old inside) all
 
--- ---- a half of a write
+-- ---- half of a write
 
--- The front of a range is written as the whole of it is whose rest is what was there.
+-- Writing the front of a range has the same result as writing the complete range with its old rest.
 front_put : (at n : ℕ) (range bytes : List ℕ) → n ≤ length range → at + length range ≤ length bytes
     → replaced at (take n range) bytes
     ≡ replaced at (take n range ++ drop n (slice_range bytes at (at + length range))) bytes
@@ -196,13 +196,13 @@ front_put at n range bytes front inside =
     ∙ ap (λ all. take at bytes ++ all)
     (sym (append_assoc (take n range) (drop n (slice_range bytes at (at + m))) (drop (at + length written) bytes)))
 
--- The first half of these bytes is put at their place.
+-- The first half of these bytes is written.
 pub half_put : (at : ℕ) (range bytes new : List ℕ) → at + length range ≤ length bytes
     → new ≡ replaced at (take (length range / 2) range) bytes → new ≡ torn_at at range Half bytes
 half_put at range bytes new inside is =
     is ∙ front_put at (length range / 2) range bytes (omega arith) inside
 
--- The first half of so many bytes is erased.
+-- The first half of n bytes is erased.
 pub half_blank : (at n : ℕ) (bytes new : List ℕ) → at + n ≤ length bytes
     → new ≡ replaced at (replicate (n / 2) 255) bytes
     → new ≡ replaced at (half_done (slice_range bytes at (at + n)) (replicate n 255)) bytes

@@ -1,4 +1,4 @@
--- A flash that keeps what its writes made keeps it through one write more.
+-- Lemmas about `IsWrittenBy`: one more write keeps it, and so does arming a write.
 use Rattle.std.proofs.Common.{◌≡◌, ℕ, ◌+◌, ◌-◌, ◌^◌, ◌<◌, ◌≤◌, ◌==◌, ◌*◌, Bool, true, false, List, [], ◌∷◌, ◌++◌, length, min, replicate, slice_range}
 use Rattle.std.proofs.Common.{Option, Some, None, refl, sym, ◌∙◌, ap, subst, arith, ⊎_elim}
 use Rattle.std.specs.Prelude.{if◌then◌else◌, map}
@@ -18,12 +18,12 @@ use Rattle.flash_model.proofs.Frame.{product_le}
 use Rattle.flash_model.proofs.MemoryLaws.{none_behind}
 use Rattle.flash_model.proofs.Reached.{any_number}
 
--- A flash was just made: it took no write.
+-- A new flash took no write.
 pub written_new : (size : ℕ) (fixed : Fixed) (bytes : List ℕ) → fixed.first ≡ bytes → IsWrittenBy size fixed bytes 0
 written_new size fixed bytes first = record { journal = []; counted = refl; replayed = first; taken = tt }
 
--- With one write more that a driver takes. `range` is what it left, whichever number it has of those
--- that are counted as so many.
+-- The fact after one more write that a driver accepts. `range` is what the write left. It is the
+-- same for each number that the count of writes can stand for.
 pub written_next : (size : ℕ) (fixed : Fixed) (bytes after range : List ℕ) (writes next : ℕ) (write : Write)
     → IsWrite size write bytes
     → ((k : ℕ) → writes ≡ min k (2 ^ 64 - 1)
@@ -46,16 +46,16 @@ pub written_more : (size : ℕ) (fixed : Fixed) (bytes after range : List ℕ) (
 written_more size fixed bytes after range writes next write is left put counts was =
     ∥∥₁_map was (written_next size fixed bytes after range writes next write is left put counts)
 
--- A write behind where numbers end leaves what it was to.
+-- A write after the last number leaves the new bytes.
 pub leaves_behind : (fixed : Fixed) (k : ℕ) (old done : List ℕ) → 2 ^ 64 ≤ k → leaves fixed k old done ≡ done
 leaves_behind fixed k old done past = rw (le-ltb k (2 ^ 64) past) refl
 
--- One before that is torn where its number is among them ..
+-- A write before the last number is torn if its number is armed.
 pub leaves_torn : (fixed : Fixed) (k : ℕ) (old done : List ℕ) → k < 2 ^ 64
     → list_any (λ number. number == k) fixed.numbers ≡ true → leaves fixed k old done ≡ left_at fixed.cuttings k old done
 leaves_torn fixed k old done below is = rw (lt-ltb k (2 ^ 64) below, is) refl
 
--- .. and else done.
+-- A write whose number isn't armed is done.
 pub leaves_done : (fixed : Fixed) (k : ℕ) (old done : List ℕ)
     → list_any (λ number. number == k) fixed.numbers ≡ false → leaves fixed k old done ≡ done
 leaves_done fixed k old done isnt = ⊎_elim
@@ -63,7 +63,7 @@ leaves_done fixed k old done isnt = ⊎_elim
     (λ (past : 2 ^ 64 ≤ k). leaves_behind fixed k old done past)
     (cases_lt k (2 ^ 64))
 
--- The cut of an armed write leaves what it says.
+-- An armed write leaves what its `Torn` says.
 cutting_leaves : (write : Armed) (old done : List ℕ) (torn : Torn) → write.torn ≡ torn
     → left_by (cutting_of write) old done ≡ torn_bytes torn old done
 cutting_leaves write old done Keep is = rw is refl
@@ -79,7 +79,7 @@ left_armed (write ∷ armed) k old done = ⊎_elim
     (λ (isnt : (write.at == k) ≡ false). rw isnt (left_armed armed k old done))
     (cases_Bool (write.at == k))
 
--- What the armed writes leave.
+-- A write leaves what `torn_for` says of its number.
 leaves_at : (armed : List Armed) (fixed : Fixed) (k : ℕ) (old done : List ℕ) (torn : Option Torn) → k < 2 ^ 64
     → torn_for k armed ≡ torn → leaves (armed_with armed fixed) k old done ≡ left_of torn old done
 leaves_at armed fixed k old done None below is =
@@ -88,7 +88,8 @@ leaves_at armed fixed k old done (Some torn) below is =
     leaves_torn (armed_with armed fixed) k old done below (any_number k armed ∙ ap is_some is)
     ∙ left_armed armed k old done ∙ ap (λ (t : Option Torn). left_of t old done) is
 
--- Of a flash in memory a write leaves what `torn_for` says of the number that is counted for it.
+-- On a flash in memory, a write leaves what `torn_for` says of the number under which it is
+-- counted.
 pub leaves_armed : (armed : List Armed) (fixed : Fixed) (writes next : ℕ) (torn : Option Torn) (old done : List ℕ)
     → All (λ write. write.at < 2 ^ 64 - 1) armed → next ≡ one_more writes → torn_for next armed ≡ torn
     → (k : ℕ) → writes ≡ min k (2 ^ 64 - 1)
@@ -104,7 +105,7 @@ leaves_armed armed fixed writes next torn old done below counts is k counted = �
     ∙ ap (λ (t : Option Torn). left_of t old done) (sym none ∙ is))
     (cases_lt k (2 ^ 64 - 1))
 
--- Two lists of cuts that leave the same of these writes make the same of them.
+-- If two flashes leave the same of each write in a list, the list makes the same bytes on both.
 pub performed_same : (a b : Fixed) (journal : List Write) → a.first ≡ b.first
     → ((k : ℕ) (old done : List ℕ) → 1 ≤ k → k ≤ length journal → leaves a k old done ≡ leaves b k old done)
     → performed a journal ≡ performed b journal
@@ -126,7 +127,7 @@ are_writes_same size a b (write ∷ before) first same (is, are) =
       are_writes_same size a b before first less are,
     )
 
--- A write that is armed behind others has no say in the cut of another number.
+-- Arming a write after others doesn't change what a write of another number leaves.
 torn_beside : (armed : List Armed) (write : Armed) (k : ℕ) → (write.at == k) ≡ false
     → torn_for k (armed ++ write ∷ []) ≡ torn_for k armed
 torn_beside [] write k other = rw other refl
@@ -147,7 +148,7 @@ leaves_beside armed write fixed k old done other = ⊎_elim
     ∙ sym (leaves_behind (armed_with (armed ++ write ∷ []) fixed) k old done past))
     (cases_lt k (2 ^ 64))
 
--- Where a write that is to come is armed, what the others made stays.
+-- Arming a write that is yet to come doesn't change what the earlier writes made.
 written_beside : (size : ℕ) (fixed : Fixed) (bytes : List ℕ) (writes : ℕ) (armed : List Armed) (write : Armed)
     → write.at < 2 ^ 64 - 1 → (1 ≤ write.at → writes < write.at)
     → IsWrittenBy size (armed_with armed fixed) bytes writes
@@ -192,7 +193,7 @@ pub erase_taken : (sector sectors size : ℕ) (bytes : List ℕ) → sector < se
 erase_taken sector sectors size bytes below whole =
     Erase sector refl (omega (arith, whole, product_le sector sectors size below)) refl
 
--- A write of these bytes that was done or torn, which `torn_for` tells, of a flash of these armed writes.
+-- On a flash with these armed writes, a write of these bytes was done or torn, as `torn_for` says.
 pub written_armed : (armed : List Armed) (fixed : Fixed) (size at : ℕ) (range bytes after : List ℕ) (writes next : ℕ)
     (torn : Option Torn) → IsWrite size (record { at = at; done = range }) bytes
     → All (λ write. write.at < 2 ^ 64 - 1) armed → next ≡ one_more writes → torn_for next armed ≡ torn

@@ -1,4 +1,4 @@
--- `of` makes the empty struct, whose ghost field has the bytes that it is lent. Assumes `Logic`.
+-- `of` makes the empty struct, whose ghost field holds the borrowed bytes. Assumes `Logic`.
 use Rattle.std.proofs.Common.{List, [], ◌∷◌, refl}
 use Rattle.std.proofs.raw_atomic.Walks.{proved}
 use base.Fml.{ftrue, flft}
