@@ -1,4 +1,4 @@
--- A flash over borrowed bytes keeps what its writes made through one write more.
+-- Lemmas about `IsWrittenBy` of a flash over borrowed bytes: one more write keeps it.
 use Rattle.std.proofs.Common.{◌≡◌, ℕ, ◌+◌, ◌-◌, ◌^◌, ◌<◌, ◌≤◌, ◌==◌, true, false, List, [], ◌∷◌, map, length, min, slice_range}
 use Rattle.std.proofs.Common.{Option, Some, None, refl, sym, ◌∙◌, ap, arith, ⊎_elim}
 use Rattle.std.specs.List.{list_any}
@@ -15,7 +15,7 @@ use Rattle.slice_flash.specs.declared.table.Left.TheVariants.{Keep, Done, Bytes}
 use Rattle.slice_flash.specs.Rows.{cutting_of, fixed_by, left_after, left_for, left_of, numbers_in, torn_bytes}
 use Rattle.slice_flash.proofs.Reaching.{any_number}
 
--- The cut of a row leaves what the row says.
+-- An interrupted write leaves what its row says.
 cutting_leaves : (cut : ArmedCut) (old done : List ℕ) (left : Left) → cut.left ≡ left
     → left_by (cutting_of cut) old done ≡ torn_bytes left old done
 cutting_leaves cut old done Keep is = rw is refl
@@ -30,7 +30,7 @@ left_in (cut ∷ table) k old done = ⊎_elim
     (λ (isnt : (cut.write == k) ≡ false). rw isnt (left_in table k old done))
     (cases_Bool (cut.write == k))
 
--- What the rows of a table leave.
+-- A write leaves what the table says of its number.
 leaves_at : (table : List ArmedCut) (first : List ℕ) (name k : ℕ) (old done : List ℕ) (left : Option Left) → k < 2 ^ 64
     → left_for k table ≡ left → leaves (fixed_by table first name) k old done ≡ left_of left old done
 leaves_at table first name k old done None below is =
@@ -39,7 +39,7 @@ leaves_at table first name k old done (Some left) below is =
     leaves_torn (fixed_by table first name) k old done below (any_number k table ∙ ap is_some is)
     ∙ left_in table k old done ∙ ap (λ (l : Option Left). left_of l old done) is
 
--- A write leaves what the table says of the next one after this number.
+-- A write leaves what the table says of the next number after the count of writes.
 leaves_by_table : (table : List ArmedCut) (first : List ℕ) (name writes : ℕ) (left : Option Left) (old done : List ℕ)
     → left_after writes table ≡ left → (k : ℕ) → writes ≡ min k (2 ^ 64 - 1)
     → leaves (fixed_by table first name) (k + 1) old done ≡ left_of left old done
@@ -55,7 +55,7 @@ leaves_by_table table first name writes left old done is k counted = ⊎_elim
     ∙ ap (λ (l : Option Left). left_of l old done) (sym none ∙ is))
     (cases_lt k (2 ^ 64 - 1))
 
--- A write of these bytes that was done or torn, as the table says.
+-- A write of these bytes was done or torn, as the table says.
 pub written_by_table : (table : List ArmedCut) (first : List ℕ) (name size at n : ℕ) (range bytes after : List ℕ)
     (writes next : ℕ) (left : Option Left) → IsWrite size (record { at = at; done = range }) bytes
     → next ≡ one_more writes → left_after writes table ≡ left → length range ≡ n
@@ -67,7 +67,7 @@ written_by_table table first name size at n range bytes after writes next left i
     (leaves_by_table table first name writes left (slice_range bytes at (at + length range)) range torn)
     (put ∙ ap (λ (m : ℕ). replaced at (left_of left (slice_range bytes at (at + m)) range) bytes) (sym long)) counts was
 
--- The number of a write that the table cuts is in it.
+-- The table has the number of each write that it interrupts.
 pub number_of_cut : (table : List ArmedCut) (writes next : ℕ) (left : Left) → next ≡ one_more writes
     → left_after writes table ≡ Some left → list_any (λ number. number == next) (numbers_in table) ≡ true
 number_of_cut table writes next left is some = ⊎_elim

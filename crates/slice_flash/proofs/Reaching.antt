@@ -1,4 +1,4 @@
--- How many writes of the table a flash took, one write further.
+-- Lemmas about the number of writes in the table that a flash took, when the flash takes one more.
 use Rattle.std.proofs.Common.{◌≡◌, ℕ, suc, ◌+◌, ◌-◌, ◌^◌, ◌<◌, ◌≤◌, ◌==◌, List}
 use Rattle.std.proofs.Common.{Some, None, ◌∙◌, ap, arith, ⊎_elim}
 use Rattle.std.specs.List.{list_any}
@@ -12,12 +12,12 @@ use Rattle.slice_flash.specs.declared.table.ArmedCut.{ArmedCut}
 use Rattle.slice_flash.specs.declared.table.Left.{Left}
 use Rattle.slice_flash.specs.Rows.{left_after, left_for, numbers_in}
 
--- A number is among those of the table where a cut of that write leaves something.
+-- The table has a number exactly if a write with this number leaves something.
 pub any_number : (number : ℕ) (table : List ArmedCut)
     → list_any (λ n. n == number) (numbers_in table) ≡ is_some (left_for number table)
 any_number number table = any_of_rows (λ (cut : ArmedCut). cut.write) (λ (cut : ArmedCut). cut.left) number table
 
--- A write that isn't in the table ..
+-- A write that isn't in the table adds nothing to the count.
 pub reached_uncut : (table : List ArmedCut) (writes next : ℕ) → writes < 2 ^ 64 → next ≡ one_more writes
     → left_after writes table ≡ None → reached (numbers_in table) next ≡ reached (numbers_in table) writes
 reached_uncut table writes next below is none = ⊎_elim
@@ -29,7 +29,7 @@ reached_uncut table writes next below is none = ⊎_elim
     (λ (stopped : 2 ^ 64 - 1 ≤ writes). ap (λ n. reached (numbers_in table) n) (omega (arith, is)))
     (cases_lt writes (2 ^ 64 - 1))
 
--- .. and one that is.
+-- A write that is in the table adds one to the count.
 pub reached_cut : (table : List ArmedCut) (writes next : ℕ) (left : Left) → next ≡ one_more writes
     → left_after writes table ≡ Some left
     → reached (numbers_in table) next ≡ reached (numbers_in table) writes + 1

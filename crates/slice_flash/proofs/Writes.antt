@@ -1,4 +1,4 @@
--- Ranges that a pattern fills, and erases by way of the writes that they are.
+-- Lemmas about ranges that a pattern fills, and about erases as writes of such a pattern.
 use Rattle.std.proofs.Common.{◌≡◌, ℕ, zero, suc, ◌+◌, ◌++◌, drop, take, ◌-◌, ◌*◌, ◌%◌, ◌<◌, List, [], ◌∷◌, length, replicate, slice_index, slice_range}
 use Rattle.std.proofs.Common.{Ok, Err, refl, sym, ◌∙◌, ap, subst, arith}
 use Rattle.std.specs.Result.{is_ok}
@@ -18,7 +18,7 @@ use Rattle.slice_flash.specs.declared.table.Left.TheVariants.{Keep, Done, Bytes}
 use Rattle.slice_flash.specs.Rows.{torn_bytes}
 use Rattle.slice_flash.specs.SliceFlash.{Slice, Writes, done, erased}
 
--- A pattern as long as the range.
+-- A pattern that is as long as the range.
 pub pattern_once : (pattern old : List ℕ) → length pattern ≡ length old → pattern ≡ with_pattern pattern old
 pattern_once [] [] same = refl
 pattern_once [] (o ∷ os) same = absurd (omega (arith, same))
@@ -41,7 +41,7 @@ blank_pattern sector sectors n bytes below whole =
     let long = length_range bytes (sector * n) (sector * n + n) in
     pattern_of_one 255 n _ (long ∙ omega (arith, whole, product_le sector sectors n below))
 
--- An erase that was done, which is counted after its write, ..
+-- A completed erase, which is counted after its write.
 pub erase_done : (sector m : ℕ) (old new : Chip) → m ≡ new.erases + 1
     → Programs (sector * old.sector_size) (replicate old.sector_size 255) old new {T = Unit {0}} (Ok tt)
     → Erases sector old (record new { erases = m }) {T = Unit {0}} (Ok tt)
@@ -73,7 +73,7 @@ erase_done sector m old new counted write =
       };
     }
 
--- .. or was cut or refused.
+-- An erase that was interrupted or refused.
 pub erase_failed : (sector : ℕ) (error : FlashError) (old new : Chip)
     → Programs (sector * old.sector_size) (replicate old.sector_size 255) old new {T = Unit {0}} (Err error)
     → Erases sector old new {T = Unit {0}} (Err error)
@@ -87,7 +87,7 @@ erase_failed sector error old new write = record {
   ends = write.ends;
 }
 
--- An erase that was done ..
+-- A completed erase, by the table.
 pub erase_is_done : (at : ℕ) (range : List ℕ) (old mid new : Slice)
     → Writes (Ok tt) at range (done at range old) old mid
     → new ≡ record mid { chip = record (mid.chip) { erases = mid.chip.erases + 1 } }
@@ -100,7 +100,7 @@ erase_is_done at range old mid new write counted = record {
   cut = λ left on some. absurd (false≢true (sym (ap is_ok (write.cut left on some).0)));
 }
 
--- .. or wasn't, by the table.
+-- An erase that wasn't completed, by the table.
 pub erase_is_failed : (at : ℕ) (range : List ℕ) (error : FlashError) (old new : Slice)
     → Writes (Err error) at range (done at range old) old new
     → Writes (Err error) at range (erased at range old) old new
@@ -112,7 +112,7 @@ erase_is_failed at range error old new write = record {
 
 -- ---- a range that was borrowed and is put back
 
--- After a range was borrowed, the bytes are those with the range's new contents.
+-- After a range was borrowed, the bytes are the old ones with the range's new contents.
 pub put_back : (at n : ℕ) (bytes new range : List ℕ) → new ≡ range → length range ≡ n
     → take at bytes ++ (new ++ drop (at + n - at) (drop at bytes)) ≡ replaced at range bytes
 put_back at n bytes new range is long =
@@ -138,7 +138,7 @@ bytes_joined [] ys first second k = second k
 bytes_joined (x ∷ xs) ys first second zero = first zero
 bytes_joined (x ∷ xs) ys first second (suc k) = bytes_joined xs ys (λ j. first (suc j)) second k
 
--- They are bytes still.
+-- After a range was borrowed, each element is still below 256.
 pub bytes_back : (at n : ℕ) (bytes new : List ℕ) → ((k : ℕ) → slice_index bytes k < 256)
     → ((k : ℕ) → slice_index new k < 256) → (k : ℕ)
     → slice_index (take at bytes ++ (new ++ drop n (drop at bytes))) k < 256
@@ -146,7 +146,7 @@ bytes_back at n bytes new below also =
     bytes_joined (take at bytes) (new ++ drop n (drop at bytes)) (bytes_taken at bytes below)
     (bytes_joined new (drop n (drop at bytes)) also (bytes_dropped n (drop at bytes) (bytes_dropped at bytes below)))
 
--- What a cut leaves is as long as the range.
+-- An interrupted write leaves as many bytes as its range has.
 pub length-torn : (left : Left) (old done : List ℕ) {n : ℕ} → length old ≡ n → length done ≡ n
     → length (torn_bytes left old done) ≡ n
 length-torn Keep old done first second = first
