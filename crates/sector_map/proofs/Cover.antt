@@ -1,4 +1,4 @@
--- Each sector lies in one part and no other.
+-- Lemmas for the law that each sector lies in exactly one part.
 use Rattle.std.proofs.Common.{◌≡◌, ℕ, zero, suc, ◌+◌, ◌-◌, ◌*◌, ◌<◌, ◌≤◌, ◌==◌, ◌&&◌, Bool, true, false, List, slice_index, arith, sym, ◌∙◌, ap, refl, ⊎_elim}
 use Rattle.std.proofs.lemmas.Bool.{cases_lt, eqb-true}
 use Rattle.sector_map.specs.declared.layout.Side.{Side}
@@ -19,7 +19,7 @@ side_is Primary Secondary e = cc
 side_is Secondary Primary e = cc
 side_is Secondary Secondary e = refl
 
--- a part alone is no other
+-- The test for one part holds for no other part.
 pub only_is : (p q : Part) → only p q ≡ true → p ≡ q
 only_is (Slot j on) (Slot i side) e = let both = both_true (i == j) (same_side side on) e in
     ap (λ k. Slot k on) (sym (eqb-true i j both.0)) ∙ ap (λ s. Slot i s) (sym (side_is side on both.1))
@@ -40,7 +40,7 @@ only_is Log (TrailerOf i side) e = cc
 only_is Log Scratch e = cc
 only_is Log Log e = refl
 
--- a sector lies in one part at most
+-- A sector lies in one part at most.
 pub one_part : (map : SectorMap) (p q : Part) (s : ℕ) → IsMap map → IsIn map p s → IsIn map q s → p ≡ q
 one_part map p q s fits in_p in_q = at (only p q) refl
   where
@@ -48,7 +48,7 @@ one_part map p q s fits in_p in_q = at (only p q) refl
     at true e = only_is p q e
     at false e = absurd (apart map p q s fits e in_p in_q)
 
--- a sector of a side is one of some image
+-- An image that a sector of a side belongs to.
 record IsOf (sectors : List ℕ) (images s : ℕ) : Type 0 where
   pub image : ℕ
   pub there : image < images
@@ -69,7 +69,7 @@ image_of sectors (suc n) s lt = ⊎_elim
     })
     (cases_lt s (before sectors n))
 
--- a sector of a side is a slot's or a trailer's
+-- A sector of a side is a slot's or a trailer's.
 on_side : (map : SectorMap) (side : Side) (s : ℕ) → IsMap map → s < before map.sectors map.images
     → (part : Part) × IsIn map part (side_start map side + s)
 on_side map side s fits lt =
@@ -87,7 +87,7 @@ on_side map side s fits lt =
     ))
     (cases_lt s (before map.sectors of.image + slot_sectors map of.image))
 
--- each sector lies in a part
+-- Each sector lies in a part.
 pub covered : (map : SectorMap) (s : ℕ) → IsMap map → s < sectors_of map → (part : Part) × IsIn map part s
 covered map s fits lt = ⊎_elim
     (λ (primary : s < before map.sectors map.images). moved Primary s primary (omega arith))

@@ -1,11 +1,11 @@
--- What makes a map.
+-- Lemmas about the sizes that make a map.
 use Rattle.std.proofs.Common.{◌≡◌, ℕ, zero, suc, ◌+◌, ◌*◌, ◌^◌, ◌<◌, ◌≤◌, arith, ⊎_elim, length, slice_index, List, EachIndex, sym, ◌∙◌, subst}
 use Rattle.std.proofs.lemmas.Bool.{cases_lt}
 use Rattle.std.proofs.lemmas.List.{get_or_past}
 use Rattle.sector_map.specs.Sizes.{before, IsSectorSize, AreImages, HoldTrailers, AreAddressed, MakeMap}
 use Rattle.sector_map.proofs.Places.{before_none, before_step}
 
--- images past the counts have no sectors
+-- The trailers of all images fit, because images without a count have no sectors.
 pub trailers_of_all : (size : ℕ) (counts : List ℕ) → 56 ≤ size
     → EachIndex counts (λ k. 24 * slice_index counts k + 56 ≤ size) → HoldTrailers size counts
 trailers_of_all size counts room each i = ⊎_elim (λ (lt : i < length counts). each i lt)
@@ -15,7 +15,7 @@ before_same : (xs ys : List ℕ) (n : ℕ) → ((k : ℕ) → slice_index xs k �
 before_same xs ys zero same = before_none xs ∙ sym (before_none ys)
 before_same xs ys (suc n) same = omega (arith, before_step xs n, before_step ys n, before_same xs ys n same, same n)
 
--- a table that begins with the counts
+-- A table that begins with the counts makes the same map.
 pub of_table : (size n : ℕ) (counts table : List ℕ) → ((k : ℕ) → slice_index table k ≡ slice_index counts k)
     → MakeMap size n counts → MakeMap size n table
 of_table size n counts table same map = record {
@@ -31,7 +31,7 @@ of_table size n counts table same map = record {
   lacks = λ i le. same i ∙ map.lacks i le;
 }
 
--- sizes that pass each check
+-- Sizes that pass each check make a map.
 pub passed : (size : ℕ) (counts : List ℕ) → AreImages (length counts) counts → HoldTrailers size counts
     → AreAddressed size (length counts) counts
     → IsSectorSize size → MakeMap size (length counts) counts

@@ -1,5 +1,4 @@
--- Masks that have no image from some number on: nothing is left of them when they are shifted by
--- it.
+-- Lemmas about masks: a mask whose images are all below a number is 0 when it is shifted by it.
 use Rattle.std.proofs.Common.{◌≡◌, ℕ, zero, suc, ◌+◌, ◌-◌, ◌/◌, ◌%◌, ◌^◌, ◌<◌, ◌≤◌, Bool, true, false, ◌*◌, ◌==◌, List, [], ◌∷◌, length, get_or, if◌then◌else◌, arith, ap, ⊎_elim, sym, ◌∙◌, refl}
 use Rattle.std.proofs.lemmas.Bool.{cases_lt}
 use Rattle.std.proofs.lemmas.Bool.Decides.{nat_tests}
@@ -7,11 +6,11 @@ use Rattle.std.proofs.lemmas.Nat.{pow-add}
 use Rattle.std.proofs.Math.Nat.{div-one, div-le_self, div-div-eq-div-mul, pow-succ'}
 use Rattle.sector_map.specs.Part.{is_member}
 
--- what stands from a bit on is the shifted mask
+-- Shifting a shifted mask is one shift by the sum.
 shifted : (mask n i : ℕ) → mask / 2 ^ n / 2 ^ i ≡ mask / 2 ^ (n + i)
 shifted mask n i = div-div-eq-div-mul mask (2 ^ n) (2 ^ i) ∙ ap (λ p. mask / p) (sym (pow-add 2 n i))
 
--- a mask of which nothing is left has no image from there on
+-- If a shifted mask is 0, each image of the mask is below the shift.
 pub below_shift : (mask n i : ℕ) → mask / 2 ^ n ≡ 0 → is_member mask i ≡ true → i < n
 unfolding is_member
 below_shift mask n i none member = ⊎_elim (λ (below : i < n). below)
@@ -23,7 +22,7 @@ below_shift mask n i none member = ⊎_elim (λ (below : i < n). below)
     absurd (grind (arith, nat_tests, ap (λ q. q % 2) (gone ∙ zero_is), member)))
     (cases_lt i n)
 
--- a number without bits is 0
+-- A number without bits is 0.
 no_bits : (k q : ℕ) → q < 2 ^ k → ((i : ℕ) → q / 2 ^ i % 2 ≡ 0) → q ≡ 0
 no_bits zero q lt none = omega arith
 no_bits (suc k) q lt none =
@@ -39,7 +38,7 @@ not_member : (mask i : ℕ) (b : Bool) → is_member mask i ≡ b → b ≡ fals
 unfolding is_member
 not_member mask i b is clear = grind (arith, nat_tests, is, clear)
 
--- of a mask whose images are all below a number nothing is left
+-- If each image of a mask is below the shift, the shifted mask is 0.
 pub shift_below : (mask n : ℕ) → mask < 2 ^ 8 → ((i : ℕ) → is_member mask i ≡ true → i < n) → mask / 2 ^ n ≡ 0
 shift_below mask n small all = no_bits 8 (mask / 2 ^ n) (omega (arith, div-le_self mask (2 ^ n)))
     (λ i. ap (λ x. x % 2) (shifted mask n i) ∙ at i (is_member mask (n + i)) refl)
@@ -57,7 +56,7 @@ bit_small : (b : Bool) → (if b then 1 else 0) < 2
 bit_small true = omega arith
 bit_small false = omega arith
 
--- It is below the power of its length.
+-- This number is below 2 to the power of the list's length.
 pub mask_below : (n : ℕ) (bs : List Bool) → length bs ≤ n → mask_in bs < 2 ^ n
 mask_below zero [] le = omega arith
 mask_below zero (b ∷ bs) le = absurd (omega (arith, le))
@@ -77,7 +76,7 @@ none_behind : (i : ℕ) → get_or {A = Bool} [] i false ≡ false
 none_behind zero = refl
 none_behind (suc i) = refl
 
--- Its members are those of the list.
+-- The members of this mask are those of the list.
 pub members_in : (bs : List Bool) (i : ℕ) → is_member (mask_in bs) i ≡ get_or bs i false
 unfolding is_member
 members_in [] i =
@@ -94,7 +93,7 @@ members_in (b ∷ bs) (suc i) =
 same_bit : (x y : ℕ) → (x % 2 == 1) ≡ (y % 2 == 1) → x % 2 ≡ y % 2
 same_bit x y is = grind (arith, nat_tests, is)
 
--- Numbers with the same bits are the same.
+-- Numbers with the same bits are equal.
 same_bits : (k a b : ℕ) → a < 2 ^ k → b < 2 ^ k → ((i : ℕ) → (a / 2 ^ i % 2 == 1) ≡ (b / 2 ^ i % 2 == 1)) → a ≡ b
 same_bits zero a b small less same = omega arith
 same_bits (suc k) a b small less same =

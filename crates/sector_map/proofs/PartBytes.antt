@@ -1,4 +1,4 @@
--- The bytes of a part by offset, and what a write leaves of them.
+-- Lemmas about the bytes of a part by offset, and about what a write leaves of them.
 use Rattle.std.proofs.Common.{◌≡◌, ◌⊎◌, ℕ, ◌+◌, ◌-◌, ◌*◌, ◌<◌, ◌≤◌, List, length, slice_index, slice_range, arith, sym, ◌∙◌, ap, subst, ⊎_elim}
 use Rattle.std.proofs.lemmas.Bool.{cases_lt}
 use Rattle.std.proofs.lemmas.List.{ext_get_or}
@@ -12,12 +12,12 @@ use Rattle.sector_map.proofs.Products.{mul_le}
 use Rattle.sector_map.proofs.Places.{within}
 use Rattle.sector_map.proofs.Parts.{keeps_others}
 
--- where a part ends
+-- The address at which a part ends.
 pub end_of : (map : SectorMap) (part : Part)
     → (first_of map part + count_of map part) * map.sector_size ≡ start_of map part + length_of map part
 end_of map part = grind arith
 
--- a part that has sectors ends in the flash
+-- A part that has sectors ends in the flash.
 pub part_inside : (map : SectorMap) (chip : Chip) (part : Part) → IsLaidOut map chip → 0 < count_of map part
     → start_of map part + length_of map part ≤ size_of chip
 part_inside map chip part laid some =
@@ -29,7 +29,7 @@ part_inside map chip part laid some =
     mul_le (first_of map part + count_of map part) chip.sectors map.sector_size sectors in
     omega (arith, inside, end_of map part, ap (λ e. chip.sectors * e) laid.sector_size)
 
--- a range of a part lies in the flash
+-- A range of a part lies in the flash.
 pub range_inside : (map : SectorMap) (chip : Chip) (part : Part) (o n : ℕ) → IsLaidOut map chip
     → o + n ≤ length_of map part → 0 < n → start_of map part + o + n ≤ size_of chip
 range_inside map chip part o n laid le some = ⊎_elim
@@ -38,7 +38,7 @@ range_inside map chip part o n laid le some = ⊎_elim
     ap (λ k. k * map.sector_size) (omega arith) in absurd (omega arith))
     (cases_lt 0 (count_of map part))
 
--- a part has the bytes of its sectors
+-- A part has the bytes of its sectors.
 pub length_part : (map : SectorMap) (chip : Chip) (part : Part) → IsLaidOut map chip
     → length (part_of map chip part) ≡ length_of map part
 unfolding part_of
@@ -48,13 +48,13 @@ length_part map chip part laid = length_range chip.bytes (start_of map part) _ �
     ap (λ k. k * map.sector_size) (omega arith) in omega (arith, end_of map part))
     (cases_lt 0 (count_of map part))
 
--- a part's byte at an offset is the flash's at the part's start and as much further
+-- The byte at an offset of a part is the flash's byte at the part's start plus this offset.
 pub part_at : (map : SectorMap) (chip : Chip) (part : Part) (o : ℕ) → o < length_of map part
     → slice_index (part_of map chip part) o ≡ slice_index chip.bytes (start_of map part + o)
 unfolding part_of
 part_at map chip part o lt = range_at chip.bytes (start_of map part) _ o (omega (arith, end_of map part))
 
--- a range of a part is a range of the flash
+-- A range of a part is a range of the flash.
 pub range_of_part : (map : SectorMap) (chip : Chip) (part : Part) (a b : ℕ) → IsLaidOut map chip
     → b ≤ length_of map part
     → slice_range (part_of map chip part) a b ≡ slice_range chip.bytes (start_of map part + a) (start_of map part + b)
@@ -87,7 +87,7 @@ range_of_part map chip part a b laid le = ⊎_elim
         ∙ ap (λ k. slice_index chip.bytes k) there
         ∙ sym (range_at chip.bytes (start_of map part + a) (start_of map part + b) i (omega arith)))
 
--- outside the range of a write a part's bytes are as they were
+-- A write leaves the bytes of a part outside its range unchanged.
 pub part_kept_at : (map : SectorMap) (part : Part) (at n o : ℕ) (old new : Chip) → SameOutside at n old new
     → o < length_of map part
     → (start_of map part + o < at) ⊎ (at + n ≤ start_of map part + o)
@@ -98,7 +98,7 @@ part_kept_at map part at n o old new same lt outside =
     (λ (behind : at + n ≤ start_of map part + o). same.after _ behind) outside
     ∙ sym (part_at map old part o lt)
 
--- what stands in the flash stands in the part
+-- Bytes that are read from the flash are those of the part.
 pub part_reads : (map : SectorMap) (chip : Chip) (part : Part) (o at i : ℕ) (bytes : List ℕ)
     → Reads chip at bytes → at ≡ start_of map part + o
     → o + length bytes ≤ length_of map part → i < length bytes
@@ -106,21 +106,21 @@ pub part_reads : (map : SectorMap) (chip : Chip) (part : Part) (o at i : ℕ) (b
 part_reads map chip part o at i bytes reads is le lt = part_at map chip part (o + i) (omega arith)
     ∙ reads.each (start_of map part + (o + i)) i (omega arith) lt
 
--- what is erased in the flash is erased in the part
+-- A byte in an erased range of the flash is erased in the part.
 pub part_erased_at : (map : SectorMap) (chip : Chip) (part : Part) (at n o : ℕ) → IsErased chip at n
     → o < length_of map part
     → at ≤ start_of map part + o → start_of map part + o < at + n → slice_index (part_of map chip part) o ≡ 0xff
 part_erased_at map chip part at n o erased lt low high = part_at map chip part o lt
     ∙ erased.each (start_of map part + o) low high
 
--- a write into a part keeps all others
+-- A write into a part leaves all other parts unchanged.
 pub keeps_write : (map : SectorMap) (part : Part) (o at n : ℕ) (old new : Chip) → IsLaidOut map old
     → SameOutside at n old new
     → at ≡ start_of map part + o → o + n ≤ length_of map part → Keeps map (only part) old new
 keeps_write map part o at n old new laid same is le =
     keeps_others map part at n old new laid same (omega arith) (omega (arith, end_of map part))
 
--- an erase of one of a part's sectors keeps all other parts
+-- An erase of one of a part's sectors leaves all other parts unchanged.
 pub keeps_erase : (map : SectorMap) (part : Part) (sector : ℕ) (old new : Chip) → IsLaidOut map old
     → SameOutside (sector * old.sector_size) old.sector_size old new → IsIn map part sector
     → Keeps map (only part) old new
@@ -133,7 +133,7 @@ keeps_erase map part sector old new laid same at =
     keeps_others map part (sector * old.sector_size) old.sector_size old new laid same (omega arith)
     (omega (arith, laid.sector_size))
 
--- an erased sector, by the map's length of a sector
+-- An erased sector, by the map's length of a sector.
 pub sector_erased : (map : SectorMap) (sector : ℕ) (old new : Chip) → IsLaidOut map old
     → IsErased new (sector * old.sector_size) old.sector_size → IsErased new (sector * map.sector_size) map.sector_size
 sector_erased map sector old new laid erased = subst (λ e. IsErased new (sector * e) e) laid.sector_size erased

@@ -1,4 +1,4 @@
--- A part after a write, as a list.
+-- Lemmas about a part after a write, as a list of bytes.
 use Rattle.std.proofs.Common.{◌≡◌, ℕ, ◌+◌, ◌-◌, ◌<◌, ◌≤◌, List, ◌++◌, length, take, drop, slice_index, get_or, arith, sym, ◌∙◌, ap, refl, ⊎_elim, length-append, length-drop, replicate, inl, inr}
 use Rattle.std.proofs.lemmas.Bool.{cases_lt}
 use Rattle.std.proofs.lemmas.List.{ext_get_or, length-take, length-replicate, get_or-replicate, get_or-take, get_or-drop, get_or_append_left, get_or-append_right}
@@ -9,7 +9,7 @@ use Rattle.sector_map.specs.Map.{start_of, length_of, IsLaidOut, part_of}
 use Rattle.sector_map.proofs.Parts.{laid_out_kept}
 use Rattle.sector_map.proofs.PartBytes.{length_part, part_kept_at, part_reads, part_erased_at, keeps_write}
 
--- bytes that stand in the place of others
+-- A list of which a range was replaced, by its elements.
 after_write : (old new bytes : List ℕ) (o : ℕ) → length new ≡ length old → o + length bytes ≤ length old
     → ((i : ℕ) → i < o → slice_index new i ≡ slice_index old i)
     → ((i : ℕ) → i < length bytes → slice_index new (o + i) ≡ slice_index bytes i)
@@ -53,7 +53,7 @@ after_write old new bytes o long le before inside after = ext_get_or 0 new (take
             ∙ get_or-drop (o + length bytes) old (i - o - length bytes) 0 ∙ ap (λ k. get_or old k 0) is))
             (cases_lt (i - o) (length bytes))
 
--- a write changes a part in its range alone, to the bytes that were written
+-- A write changes a part only in its range, to the bytes that were written.
 pub part_written : (map : SectorMap) (part : Part) (o at : ℕ) (bytes : List ℕ) (old new : Chip) → IsLaidOut map old
     → SameOutside at (length bytes) old new → Reads new at bytes → at ≡ start_of map part + o
     → o + length bytes ≤ length_of map part
@@ -68,7 +68,7 @@ part_written map part o at bytes old new laid same reads is le =
     (λ i lt. part_reads map new part o at i bytes reads is le lt)
     (λ i low lt. part_kept_at map part at (length bytes) i old new same (omega (arith, old_long)) (inr (omega arith)))
 
--- a part that is erased throughout
+-- An erased part is 0xFF throughout.
 pub part_erased : (map : SectorMap) (chip : Chip) (part : Part) → IsLaidOut map chip
     → IsErased chip (start_of map part) (length_of map part)
     → part_of map chip part ≡ replicate (length_of map part) 0xff

@@ -1,4 +1,4 @@
--- What a write leaves of the parts.
+-- Lemmas about the parts that a write leaves unchanged.
 use Rattle.std.proofs.Common.{◌≡◌, ℕ, ◌+◌, ◌-◌, ◌*◌, ◌/◌, ◌%◌, ◌^◌, ◌<◌, ◌≤◌, Bool, false, arith, sym, ◌∙◌, ap, subst, refl, ⊎_elim, length, slice_index, slice_range, get_or}
 use Rattle.std.proofs.lemmas.Bool.{cases_lt}
 use Rattle.flash_model.specs.Chip.{Chip, SameOutside, SameSector, size_of}
@@ -10,7 +10,7 @@ use Rattle.sector_map.specs.Map.{start_of, first_of, count_of, sectors_of, end_o
 use Rattle.sector_map.proofs.Places.{apart, within}
 use Rattle.sector_map.proofs.Products.{mul_le, lower, upper, sector_at}
 
--- what is the same sector by sector is the same part by part
+-- If the sectors of each untouched part are unchanged, so is each untouched part.
 pub keeps_of_sectors : (map : SectorMap) (touched : Part → Bool) (old new : Chip) → IsLaidOut map old
     → new.sector_size ≡ old.sector_size → new.sectors ≡ old.sectors → new.fixed ≡ old.fixed
     → length new.bytes ≡ length old.bytes
@@ -34,7 +34,7 @@ keeps_of_sectors map touched old new laid size sectors fixed long same behind = 
       (subst (λ x. k % map.sector_size < x) (sym laid.sector_size) at.3));
 }
 
--- a map stays laid out, whatever a call touches
+-- A map stays laid out, whatever a call touches.
 pub laid_out_kept : (map : SectorMap) (touched : Part → Bool) (old new : Chip) → IsLaidOut map old
     → Keeps map touched old new → IsLaidOut map new
 laid_out_kept map touched old new laid keeps = record {
@@ -46,7 +46,7 @@ laid_out_kept map touched old new laid keeps = record {
   size = rw (keeps.sectors, keeps.sector_size) laid.size;
 }
 
--- what isn't written is kept
+-- A call that changes nothing leaves each part unchanged.
 pub keeps_refl : (map : SectorMap) (touched : Part → Bool) (chip : Chip) → Keeps map touched chip chip
 keeps_refl map touched chip = record {
   sector_size = refl;
@@ -57,7 +57,7 @@ keeps_refl map touched chip = record {
   behind = λ k le. refl;
 }
 
--- the same bytes have the same parts, whatever the power and the counts
+-- A call that changes no byte leaves each part unchanged, whatever happens to power and counts.
 pub keeps_bytes : (map : SectorMap) (touched : Part → Bool) (old new : Chip) → new.sector_size ≡ old.sector_size
     → new.sectors ≡ old.sectors → new.fixed ≡ old.fixed → new.bytes ≡ old.bytes
     → Keeps map touched old new
@@ -73,7 +73,7 @@ keeps_bytes map touched old new size sectors fixed same = record {
   behind = λ k le. ap (λ bytes. slice_index bytes k) same;
 }
 
--- two calls in turn
+-- Two calls in turn touch only what either of them may touch.
 pub keeps_trans : (map : SectorMap) (touched : Part → Bool) (old mid new : Chip) → Keeps map touched old mid
     → Keeps map touched mid new → Keeps map touched old new
 keeps_trans map touched old mid new a b = record {
@@ -85,7 +85,7 @@ keeps_trans map touched old mid new a b = record {
   behind = λ k le. b.behind k le ∙ a.behind k le;
 }
 
--- what touches less touches no more
+-- A call that touches fewer parts touches no others.
 pub keeps_wider : (map : SectorMap) (less more : Part → Bool) (old new : Chip)
     → ((part : Part) → more part ≡ false → less part ≡ false) → Keeps map less old new → Keeps map more old new
 keeps_wider map less more old new wider a =
@@ -99,7 +99,7 @@ keeps_wider map less more old new wider a =
       behind = a.behind;
     }
 
--- no part reaches behind the map
+-- No part extends beyond the end of the map.
 behind_parts : (map : SectorMap) (part : Part) (k : ℕ) → IsMap map → end_of_map map ≤ k
     → first_of map part * map.sector_size ≤ k
     → k < (first_of map part + count_of map part) * map.sector_size → ⊥
@@ -109,7 +109,7 @@ behind_parts map part k is_map le low high =
     let there = within map part (k / map.sector_size) is_map (record { low = at.0; high = at.1 }) in
     omega (arith, le, at.2, at.3, product_le (k / map.sector_size) (sectors_of map) map.sector_size there)
 
--- a write inside one part keeps all other parts
+-- A write inside one part leaves all other parts unchanged.
 pub keeps_others : (map : SectorMap) (part : Part) (at n : ℕ) (old new : Chip) → IsLaidOut map old
     → SameOutside at n old new
     → first_of map part * map.sector_size ≤ at
@@ -142,7 +142,7 @@ keeps_others map part at n old new laid same low high =
               upper s (first_of map part + count_of map part) map.sector_size o (omega arith);
         }
 
--- the sectors of a part that is as it was
+-- The sectors of an unchanged part are unchanged.
 pub sector_of_keeps : (map : SectorMap) (touched : Part → Bool) (old new : Chip) (part : Part) (s : ℕ)
     → IsLaidOut map old → Keeps map touched old new → touched part ≡ false → IsIn map part s → SameSector s old new
 unfolding part_of
@@ -168,7 +168,7 @@ sector_of_keeps map touched old new part s laid keeps e at = record {
       ∙ ap (λ j. slice_index old.bytes j) is;
 }
 
--- a flash that fits
+-- A map is laid out on a flash that fits.
 pub laid_out_by : (map : SectorMap) (chip : Chip) → IsMap map → chip.sector_size ≡ map.sector_size
     → sectors_of map ≤ chip.sectors → length chip.bytes ≡ chip.sectors * chip.sector_size
     → size_of chip < 2 ^ 32 → IsLaidOut map chip

@@ -1,4 +1,4 @@
--- Parts lie apart, and in the flash.
+-- Lemmas about the places of parts: parts don't overlap, and lie in the map's sectors.
 use Rattle.std.proofs.Common.{◌≡◌, ℕ, zero, suc, ◌+◌, ◌*◌, ◌/◌, ◌^◌, ◌<◌, ◌≤◌, ◌==◌, ◌&&◌, Bool, true, false, List, [], ◌∷◌, take, get_or, slice_index, arith, sym, ◌∙◌, ap, subst, refl, ⊎_elim, add-one}
 use Rattle.std.specs.List.{sum}
 use Rattle.std.proofs.lemmas.List.Sums.{sum-map, sum_by-cons}
@@ -35,7 +35,7 @@ before_step sectors i = omega (arith, sum_step sectors i)
 pub before_more : (sectors : List ℕ) (i : ℕ) → before sectors (i + 1) ≡ before sectors i + slice_index sectors i + 1
 before_more sectors i = ap (λ k. before sectors k) (add-one i) ∙ before_step sectors i
 
--- an image's region ends before the next one's
+-- The region of an image, its slot and trailer on one side, ends before the next one begins.
 pub before_lt : (sectors : List ℕ) (i j : ℕ) → i < j → before sectors i + slice_index sectors i + 1 ≤ before sectors j
 before_lt sectors i zero lt = absurd (omega arith)
 before_lt sectors i (suc j) lt = ⊎_elim
@@ -45,16 +45,16 @@ before_lt sectors i (suc j) lt = ⊎_elim
     (omega (arith, before_step sectors j)))
     (cases_lt i j)
 
--- a sector is whole units
+-- A sector is whole units.
 pub units_of : (map : SectorMap) → IsMap map → 8 * (map.sector_size / 8) ≡ map.sector_size
 units_of map fits = omega (arith, fits.sector.blocks)
 
--- the sectors' numbers are of 32 bits
+-- The numbers of sectors fit in 32 bits.
 pub addressed : (map : SectorMap) → IsMap map → sectors_of map < 2 ^ 32
 addressed map fits = omega
     (arith, mul_le 1 map.sector_size (sectors_of map) (omega (arith, fits.sector.least)), fits.addressed)
 
--- the regions before an image of the map have addresses
+-- The region of an image ends within its side.
 pub before_within : (map : SectorMap) (i : ℕ) → IsMap map → i < map.images
     → before map.sectors i + slot_sectors map i + 1 ≤ before map.sectors map.images
 before_within map i fits lt = before_lt map.sectors i map.images lt
@@ -64,18 +64,18 @@ pub first_fits : (map : SectorMap) (i : ℕ) (side : Side) → IsMap map → i <
 first_fits map i Primary fits lt = omega (arith, before_lt map.sectors i map.images lt, addressed map fits)
 first_fits map i Secondary fits lt = omega (arith, before_lt map.sectors i map.images lt, addressed map fits)
 
--- what counting the sectors before an image takes ..
+-- The rules for counting the sectors before an image.
 pub ruleset counting = (before_none, before_more)
 
--- .. and that their numbers are of 32 bits
+-- These rules, and those by which the numbers fit in 32 bits.
 pub ruleset placing = (counting, before_within, addressed)
 
--- an image has sectors only where the map has the image
+-- If an image has sectors, the map has the image.
 pub there : (map : SectorMap) (i : ℕ) → IsMap map → 0 < slot_sectors map i → i < map.images
 there map i fits some =
     ⊎_elim (λ lt. lt) (λ (le : map.images ≤ i). absurd (omega (arith, fits.lacks i le))) (cases_lt i map.images)
 
--- the sectors of one image on one side
+-- A sector is one of an image's on one side.
 record IsInRegion (map : SectorMap) (i : ℕ) (side : Side) (s : ℕ) : Type 0 where
   pub there : i < map.images
   pub low : side_start map side + before map.sectors i ≤ s
@@ -107,7 +107,7 @@ same_image map start i j s low high low' high' = ⊎_elim
     (cases_lt j i))
     (cases_lt i j)
 
--- one region has a sector
+-- A sector lies in one region at most.
 one_region : (map : SectorMap) (i j : ℕ) (a b : Side) (s : ℕ) → IsInRegion map i a s → IsInRegion map j b s
     → (i ≡ j) × (same_side a b ≡ true)
 one_region map i j Primary Primary s p q = (same_image map 0 i j s p.low p.high q.low q.high, refl)
@@ -118,13 +118,13 @@ one_region map i j Secondary Primary s p q =
 one_region map i j Secondary Secondary s p q =
     (same_image map (before map.sectors map.images) i j s p.low p.high q.low q.high, refl)
 
--- a region lies before scratch
+-- A region ends before the scratch sector.
 before_scratch : (map : SectorMap) (i : ℕ) (side : Side) (s : ℕ) → IsInRegion map i side s
     → s < 2 * before map.sectors map.images
 before_scratch map i Primary s p = omega (arith, p.high, before_lt map.sectors i map.images p.there)
 before_scratch map i Secondary s p = omega (arith, p.high, before_lt map.sectors i map.images p.there)
 
--- a part's sectors lie in the flash
+-- The sectors of a part are sectors of the map.
 pub within : (map : SectorMap) (part : Part) (s : ℕ) → IsMap map → IsIn map part s → s < sectors_of map
 within map (Slot i side) s fits at = omega (arith, before_scratch map i side s (in_slot map i side s fits at))
 within map (TrailerOf i side) s fits at = omega (arith, before_scratch map i side s (in_trailer map i side s fits at))
@@ -134,7 +134,7 @@ within map Log s fits at = omega (arith, at.high)
 eq_refl : (i j : ℕ) (b : Bool) → i ≡ j → b ≡ true → ((i == j) && b) ≡ false → ⊥
 eq_refl i j b e t f = grind (arith, e, t, f)
 
--- a slot and a trailer are apart
+-- A slot and a trailer don't overlap.
 slot_trailer : (map : SectorMap) (i j : ℕ) (a b : Side) (s : ℕ) → IsMap map → IsIn map (Slot i a) s
     → IsIn map (TrailerOf j b) s → ⊥
 slot_trailer map i j a b s fits p q =
@@ -149,7 +149,7 @@ slot_trailer map i j a b s fits p q =
     at i j Secondary Secondary same p q =
         omega (arith, p.high, q.low, ap (λ k. before map.sectors k + slot_sectors map k) same.0)
 
--- no sector lies in two parts
+-- No sector lies in two parts.
 pub apart : (map : SectorMap) (p q : Part) (s : ℕ) → IsMap map → only p q ≡ false → IsIn map p s → IsIn map q s → ⊥
 apart map (Slot i a) (Slot j b) s fits ne x y =
     let same = one_region map j i b a s (in_slot map j b s fits y) (in_slot map i a s fits x) in
@@ -176,7 +176,7 @@ apart map Log (TrailerOf j b) s fits ne x y =
 apart map Log Scratch s fits ne x y = omega (arith, y.high, x.low)
 apart map Log Log s fits ne x y = cc
 
--- a part that has sectors begins in the flash
+-- The first sector of a part that has sectors is a sector of the map.
 pub first_within : (map : SectorMap) (part : Part) → IsMap map → 0 < count_of map part
     → first_of map part < sectors_of map
 first_within map part fits some =

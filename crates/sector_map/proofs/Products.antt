@@ -1,4 +1,4 @@
--- Sectors as products: what lies below, and in which sector an address lies.
+-- Lemmas about sectors as products: their order, and the sector of an address.
 use Rattle.std.proofs.Common.{◌≡◌, ℕ, ◌+◌, ◌*◌, ◌/◌, ◌%◌, ◌<◌, ◌≤◌, arith, ⊎_elim}
 use Rattle.std.proofs.lemmas.Bool.{cases_lt}
 use Rattle.flash_model.proofs.Frame.{product_le}
@@ -13,7 +13,7 @@ lower a s e o le small =
 pub upper : (s b e o : ℕ) → s * e + o < b * e → s < b
 upper s b e o low = ⊎_elim (λ (lt : s < b). lt) (λ (ge : b ≤ s). absurd (omega (arith, mul_le b s e ge))) (cases_lt s b)
 
--- an address lies in the sector of its quotient
+-- An address lies in the sector of its quotient.
 pub sector_at : (a n e k : ℕ) → 0 < e → a * e ≤ k → k < (a + n) * e
     → (a ≤ k / e) × (k / e < a + n) × (k ≡ k / e * e + k % e) × (k % e < e)
 sector_at a n e k some low high =

@@ -1,12 +1,12 @@
--- Which tests of parts hold what others do. Each says that a part which the wider test leaves is
--- left by the narrower one too, as keeps_wider takes it.
+-- Lemmas about tests of parts that hold wherever others do. Each says that a part which the wider
+-- test leaves out is left out by the narrower one too, as `keeps_wider` needs it.
 use Rattle.std.proofs.Common.{◌≡◌, ℕ, Bool, true, false, ◌==◌, ◌&&◌, sym, ◌∙◌, ap, refl}
 use Rattle.std.proofs.lemmas.Bool.{eqb-true, false≢true}
 use Rattle.sector_map.specs.declared.layout.Side.{Side}
 use Rattle.sector_map.specs.declared.layout.Side.TheVariants.{Secondary}
 use Rattle.sector_map.specs.Part.{Part, Slot, TrailerOf, Scratch, Log, only, same_side, is_member, trailers_of, trailers_on, trailers_in, incoming_of, swap_one, swap_of}
 
--- Each part that the first test leaves is left by the second.
+-- The second test leaves out each part that the first one leaves out.
 abbrev pub LeavesLess : (Part → Bool) → (Part → Bool) → Type 0
 LeavesLess more less = (part : Part) → more part ≡ false → less part ≡ false
 
@@ -18,7 +18,7 @@ left_false : (b c : Bool) → b ≡ false → (b && c) ≡ false
 left_false true c e = absurd (false≢true (sym e))
 left_false false c e = refl
 
--- a test that is a conjunction
+-- A conjunction with a narrower first test is false wherever the wider one is.
 and_false : (a b c : Bool) → (a ≡ true → b ≡ true) → (b && c) ≡ false → (a && c) ≡ false
 and_false true b c le e = not_left b c e (le refl)
 and_false false b c le e = refl
@@ -30,14 +30,14 @@ other_image : (mask i j : ℕ) (b : Bool) → (i == j) ≡ b → is_member mask 
 other_image mask i j true same member e = sym (member_of mask i j member same) ∙ e
 other_image mask i j false same member e = refl
 
--- one trailer is among the two of its image
+-- One trailer is among the two trailers of its image.
 pub trailer_of_both : (j : ℕ) (side : Side) → LeavesLess (trailers_of j) (only (TrailerOf j side))
 trailer_of_both j side (Slot i at) e = refl
 trailer_of_both j side (TrailerOf i at) e = left_false (i == j) (same_side at side) e
 trailer_of_both j side Scratch e = refl
 trailer_of_both j side Log e = refl
 
--- one trailer is among those of a side of a mask
+-- One trailer is among the trailers of its side, for a mask that has its image.
 pub trailer_on_side : (mask j : ℕ) (side : Side) → is_member mask j ≡ true
     → LeavesLess (trailers_on mask side) (only (TrailerOf j side))
 trailer_on_side mask j side member (Slot i at) e = refl
@@ -55,7 +55,7 @@ trailer_in_mask mask j side member (TrailerOf i at) e =
 trailer_in_mask mask j side member Scratch e = refl
 trailer_in_mask mask j side member Log e = refl
 
--- both trailers of an image are among those of a mask
+-- Both trailers of an image are among the trailers of a mask that has the image.
 pub trailers_in_mask : (mask j : ℕ) → is_member mask j ≡ true → LeavesLess (trailers_in mask) (trailers_of j)
 trailers_in_mask mask j member (Slot i at) e = refl
 trailers_in_mask mask j member (TrailerOf i at) e = other_image mask i j (i == j) refl member e
@@ -69,14 +69,14 @@ side_in_mask mask side (TrailerOf i at) e = left_false (is_member mask i) (same_
 side_in_mask mask side Scratch e = refl
 side_in_mask mask side Log e = refl
 
--- the secondary slot is where images come in
+-- The secondary slot is one of the parts that an incoming image is written to.
 pub slot_of_incoming : (j : ℕ) → LeavesLess (incoming_of j) (only (Slot j Secondary))
 slot_of_incoming j (Slot i at) e = e
 slot_of_incoming j (TrailerOf i at) e = refl
 slot_of_incoming j Scratch e = refl
 slot_of_incoming j Log e = refl
 
--- .. and so is its trailer
+-- The secondary trailer is one of the parts that an incoming image is written to.
 pub trailer_of_incoming : (j : ℕ) → LeavesLess (incoming_of j) (only (TrailerOf j Secondary))
 trailer_of_incoming j (Slot i at) e = refl
 trailer_of_incoming j (TrailerOf i at) e = e
@@ -90,7 +90,7 @@ slot_of_swap j side on (TrailerOf i at) e = refl
 slot_of_swap j side on Scratch e = refl
 slot_of_swap j side on Log e = refl
 
--- .. its trailer on the side that keeps the progress ..
+-- The trailer that counts the swap is one of the parts that a swap of an image writes.
 pub trailer_of_swap : (j : ℕ) (side : Side) → LeavesLess (swap_one j side) (only (TrailerOf j side))
 trailer_of_swap j side (Slot i at) e = refl
 trailer_of_swap j side (TrailerOf i at) e = e
