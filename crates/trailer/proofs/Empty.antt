@@ -1,4 +1,4 @@
--- Trailers that say nothing.
+-- Lemmas about blank trailers.
 use Rattle.std.proofs.Common.{◌≡◌, ℕ, ◌*◌, true, None, refl, sym, ap, slice_range}
 use Rattle.flash_model.specs.Chip.{Chip}
 use Rattle.flash_model.specs.Units.{are_erased}
@@ -8,14 +8,14 @@ use Rattle.sector_map.specs.Map.{slot_sectors}
 use Rattle.trailer.specs.Fields.{Fields, erased_fields, fields_at, fields_in, trailer_bytes, trailer_of}
 use Rattle.trailer.specs.declared.kinds.Trailer.{Trailer}
 
--- the status units of a trailer
+-- No status unit is set exactly if the range of the status units is erased.
 pub fresh_is : (map : SectorMap) (chip : Chip) (image n : ℕ) (side : Side) → n ≡ 24 * slot_sectors map image
     → (fields_at map chip image side).is_fresh ≡ are_erased (slice_range (trailer_bytes map chip image side) 0 n)
 unfolding fields_at fields_in
 fresh_is map chip image n side is =
     ap (λ m. are_erased (slice_range (trailer_bytes map chip image side) 0 m)) (sym is)
 
--- a trailer is blank where each of its fields is
+-- A trailer is blank if each of its fields is.
 pub blank_fields : (fields : Fields) → trailer_of fields ≡ trailer_of erased_fields → fields.size ≡ None
     → fields.is_fresh ≡ true → fields ≡ erased_fields
 blank_fields fields same none fresh = rw (

@@ -1,4 +1,4 @@
--- Erased bytes, and what they say in a trailer.
+-- Lemmas about erased bytes, and about what they say in a trailer.
 use Rattle.std.proofs.Common.{◌≡◌, ℕ, ◌+◌, ◌-◌, ◌*◌, ◌<◌, ◌≤◌, ◌&&◌, Bool, true, false, arith, sym, ◌∙◌, ap, refl, List, [], ◌∷◌, length, get_or, slice_index, slice_range, take, drop, Some, None, if◌then◌else◌, nat_lt, nat_le, IsTrue, ◌↔◌, take_all}
 use Rattle.std.proofs.lemmas.List.{get_or-drop}
 use Rattle.std.proofs.lemmas.Slice.Eq.{bytes_eq-Decides}
@@ -21,14 +21,14 @@ pub not_true : (b : Bool) → (b ≡ true → ⊥) → b ≡ false
 not_true true never = absurd (never refl)
 not_true false never = refl
 
--- a range of erased bytes is erased
+-- A range of erased bytes is erased.
 pub erased_range : (bytes : List ℕ) (a b : ℕ) → are_erased bytes ≡ true → are_erased (slice_range bytes a b) ≡ true
 erased_range bytes a b all = each_erased (slice_range bytes a b) (λ k lt.
     let in_range : k < b - a = omega (arith, length_range bytes a b) in
     let below : a + k < length bytes = omega (arith, length_range bytes a b) in
     range_at bytes a b k in_range ∙ erased_each bytes (a + k) all below)
 
--- erased bytes as a magic
+-- Erased bytes are an unset magic.
 pub magic_erased : (bytes : List ℕ) → are_erased bytes ≡ true → magic_in bytes ≡ Unset
 magic_erased bytes all = by (bytes_eq bytes good_magic) refl
   where
@@ -45,7 +45,7 @@ and_false true true c e = e
 and_false true false c e = refl
 and_false false b c e = refl
 
--- erased bytes as a size
+-- Erased bytes are no size.
 pub size_erased : (limit : ℕ) (unit : List ℕ) → 4 < length unit → are_erased unit ≡ true → size_in limit unit ≡ None
 size_erased limit unit long all =
     ap (λ (t : Bool). if t then Some (little_number 4 unit) else None)
@@ -60,7 +60,7 @@ size_erased limit unit long all =
         absurd (omega (arith, first, erased_each unit 4 all long))
     by false e = e
 
--- erased bytes as a trailer
+-- Erased bytes of a trailer have the fields of an erased one.
 pub fields_erased : (n e : ℕ) (bytes : List ℕ) → are_erased bytes ≡ true → length bytes ≡ e → 56 ≤ e
     → fields_in n e bytes ≡ erased_fields
 unfolding fields_in
@@ -77,7 +77,7 @@ fields_erased n e bytes all long large =
       here 0 (24 * n),
     ) refl
 
--- erased bytes of the flash in a part ..
+-- An erased range of the flash is an erased range of the part.
 pub range_erased : (map : SectorMap) (chip : Chip) (part : Part) (at n a b : ℕ) → IsErased chip at n
     → IsLaidOut map chip → b ≤ length_of map part
     → at ≤ start_of map part + a → start_of map part + b ≤ at + n → are_erased
@@ -88,7 +88,7 @@ range_erased map chip part at n a b erased laid le low high = each_erased (slice
     range_at (part_of map chip part) a b k in_range ∙ part_erased_at map chip part at n (a + k) erased (omega arith)
     (omega arith) (omega arith))
 
--- .. and back
+-- An erased range of a part is an erased range of the flash.
 pub range_is_erased : (map : SectorMap) (chip : Chip) (part : Part) (at n a b : ℕ)
     → are_erased (slice_range (part_of map chip part) a b) ≡ true
     → IsLaidOut map chip → b ≤ length_of map part → at ≡ start_of map part + a → a + n ≡ b → IsErased chip at n
@@ -102,7 +102,7 @@ range_is_erased map chip part at n a b all laid le is width = record {
       (omega (arith, length_range (part_of map chip part) a b, length_part map chip part laid));
 }
 
--- a test of bytes of the flash is a test of the part's
+-- A test of erased bytes of the flash is a test of the part's bytes.
 pub tells_range : (map : SectorMap) (chip : Chip) (part : Part) (at n a b : ℕ) (told : Bool)
     → (IsTrue told ↔ IsErased chip at n) → IsLaidOut map chip → b ≤ length_of map part
     → at ≡ start_of map part + a → a + n ≡ b → told ≡ are_erased (slice_range (part_of map chip part) a b)
@@ -112,7 +112,7 @@ tells_range map chip part at n a b false tells laid le is width = sym
     (not_true (are_erased (slice_range (part_of map chip part) a b)) (λ all.
     let wrong : false ≡ true = tells.1 (range_is_erased map chip part at n a b all laid le is width) in cc))
 
--- a trailer has the bytes of its sector
+-- A trailer has the bytes of its sector.
 pub trailer_length : (map : SectorMap) (chip : Chip) (image : ℕ) (side : Side) → IsLaidOut map chip
     → image < map.images → length (trailer_bytes map chip image side) ≡ map.sector_size
 trailer_length map chip image side laid lt = length_part map chip (TrailerOf image side) laid ∙ trailer_size map image
@@ -127,7 +127,7 @@ whole_trailer : (map : SectorMap) (chip : Chip) (image : ℕ) (side : Side) → 
 whole_trailer map chip image side laid lt = whole_range (trailer_bytes map chip image side) map.sector_size
     (trailer_length map chip image side laid lt)
 
--- so a test of all bytes of its sector is a test of it
+-- A test of all bytes of a trailer's sector is a test of the trailer.
 pub whole_erased : (map : SectorMap) (chip : Chip) (image : ℕ) (side : Side) → IsLaidOut map chip
     → image < map.images → are_erased (slice_range (trailer_bytes map chip image side) 0 (0 + map.sector_size))
     ≡ are_erased (trailer_bytes map chip image side)
@@ -136,7 +136,7 @@ whole_erased map chip image side laid lt =
     (let all : 0 + map.sector_size ≡ map.sector_size = omega arith in all)
     ∙ ap (λ (xs : List ℕ). are_erased xs) (whole_trailer map chip image side laid lt)
 
--- a trailer is erased where its sector is
+-- A trailer is erased if its sector is.
 pub trailer_erased : (map : SectorMap) (chip : Chip) (image sector n : ℕ) (side : Side) → IsErased chip (sector * n) n
     → IsLaidOut map chip → image < map.images
     → sector ≡ first_of map (TrailerOf image side) → n ≡ map.sector_size → are_erased
@@ -148,7 +148,7 @@ trailer_erased map chip image sector n side erased laid lt is width =
     ∙ range_erased map chip (TrailerOf image side) (sector * n) n 0 map.sector_size erased laid
     (omega (arith, trailer_size map image side laid.is_map lt)) (omega (arith, start)) (omega (arith, start))
 
--- erased units of a trailer are erased on the flash
+-- Erased units of a trailer are erased on the flash.
 pub units_erased : (map : SectorMap) (chip : Chip) (image at from_end n : ℕ) (side : Side)
     → are_erased (bytes_at map chip image side from_end n) ≡ true → IsLaidOut map chip → image < map.images
     → at ≡ place_of map image side from_end → n ≤ from_end → from_end ≤ map.sector_size → IsErased chip at n
@@ -156,7 +156,7 @@ units_erased map chip image at from_end n side all laid lt is room le =
     range_is_erased map chip (TrailerOf image side) at n (map.sector_size - from_end) (map.sector_size - from_end + n)
     all laid (omega (arith, trailer_size map image side laid.is_map lt)) (omega arith) (omega arith)
 
--- an erased trailer has the fields of one
+-- The fields of an erased trailer are `erased_fields`.
 pub erased_fields_at : (map : SectorMap) (chip : Chip) (image : ℕ) (side : Side)
     → are_erased (trailer_bytes map chip image side) ≡ true → IsLaidOut map chip → image < map.images
     → fields_at map chip image side ≡ erased_fields

@@ -1,4 +1,4 @@
--- What a call promises that could not read, and what one on a flash without power answers.
+-- Lemmas about calls that could not read, and about calls on a flash that is off.
 use Rattle.std.proofs.Common.{◌≡◌, ◌↔◌, ◌+◌, ℕ, ◌∙◌, Bool, true, false, Result, Ok, Err, IsErr, IsErrOf, IsTrue, IfOk, OnOk}
 use Rattle.std.proofs.Common.{ap, arith, refl, sym}
 use Rattle.std.proofs.lemmas.Bool.{false≢true}
@@ -11,8 +11,8 @@ use Rattle.trailer.specs.Reads.{Decides, Tells}
 one_more : (n : ℕ) → n ≡ n + 1 → ⊥
 one_more n e = omega (arith, e)
 
--- A call that ends only on a flash that is on answers Off where it is off: a cut is counted, and a
--- flash that is off stays as it is.
+-- If a call succeeds only on a flash that is on, it returns `Off` on a flash that is off. It can't
+-- return `Cut`, because a cut is counted and a flash that is off doesn't change.
 pub refuses : {T : Type 0} (result : Result T FlashError) (old new : Chip) → OnOk result (old.is_on ≡ true)
     → Ends result old new → old.is_on ≡ false → IsErrOf result Off
 refuses (Ok value) old new on ends off = absurd (false≢true (sym off ∙ on))
@@ -20,12 +20,12 @@ refuses (Err Off) old new on ends off = refl
 refuses (Err Cut) old new on ends off = absurd (one_more old.cuts
     (sym (ap (λ (chip : Chip). chip.cuts) (ends.asleep off)) ∙ (ends.cut refl).cuts))
 
--- A call that failed.
+-- A call that failed on a flash that is off returned `Off`.
 pub refuses_failed : {T : Type 0} (result : Result T FlashError) (old new : Chip) → IsErr result
     → Ends result old new → old.is_on ≡ false → IsErrOf result Off
 refuses_failed result old new is ends = refuses result old new (at_error (old.is_on ≡ true) result is) ends
 
--- A call whose first call on the flash ended: a flash without power would have refused that one.
+-- If the first call that a call makes succeeded, the flash was on.
 pub refuses_first : {T U : Type 0} (value : T) (result : Result U FlashError) (P : Type 0)
     → (P → IsErrOf (Ok value) Off) → P → IsErrOf result Off
 refuses_first value result P off p = absurd (no_error value Off (off p))
@@ -53,7 +53,7 @@ decides_nothing fact old new result same is ends = record {
   ends = ends;
 }
 
--- What holds anyway holds where the call ends.
+-- A fact that always holds also holds on success.
 pub at_any : {T E : Type 0} (P : Type 0) (result : Result T E) → P → OnOk result P
 at_any P (Ok value) holds = holds
 at_any P (Err error) holds = tt

@@ -1,4 +1,4 @@
--- What fields say of the units that they are read from.
+-- Lemmas about the units that fields are read from.
 use Rattle.std.proofs.Common.{◌≡◌, ◌⊎◌, ℕ, Bool, true, false, not, sym, ◌∙◌, ap, refl, inl, inr, List, if◌then◌else◌}
 use Rattle.std.specs.Str.{bytes_eq}
 use Rattle.flash_model.specs.Chip.{Chip}
@@ -11,7 +11,7 @@ use Rattle.flash_model.specs.Units.{are_erased}
 use Rattle.trailer.specs.Fields.{Fields, is_set, flag, good_magic, magic_in, bytes_at, fields_in, fields_at, trailer_of}
 use Rattle.trailer.specs.Standing.{is_good}
 
--- a unit that isn't set is erased
+-- A unit that isn't set is erased.
 pub not_set : (unit : List ℕ) → is_set unit ≡ false → are_erased unit ≡ true
 not_set unit e = by (are_erased unit) refl
   where
@@ -19,7 +19,7 @@ not_set unit e = by (are_erased unit) refl
     by true all = all
     by false not_all = let wrong : true ≡ false = sym (ap not not_all) ∙ e in cc
 
--- a magic that is unset is erased
+-- An unset magic is erased.
 pub unset_magic : (bytes : List ℕ) → magic_in bytes ≡ Unset → are_erased bytes ≡ true
 unset_magic bytes e = by (bytes_eq bytes good_magic) (are_erased bytes) refl refl
   where
@@ -31,9 +31,9 @@ unset_magic bytes e = by (bytes_eq bytes good_magic) (are_erased bytes) refl ref
         let wrong : magic_in bytes ≡ Bad = ap (λ t. if t then Good else if are_erased bytes then Unset else Bad)
         not_good ∙ ap (λ t. if t then Unset else Bad) not_all in absurd (cc (wrong, e))
 
--- the units of the fields of a trailer
+-- The units of a trailer's fields.
 module _ (map : SectorMap) (chip : Chip) (image : ℕ) (side : Side) where
-  -- each field but the size and the status units
+  -- Each field except the size and the status units.
   fields_are : trailer_of (fields_at map chip image side) ≡ record {
     magic = magic_in (bytes_at map chip image side 16 16);
     copy_done = is_set (bytes_at map chip image side 32 8);
@@ -79,7 +79,7 @@ module _ (map : SectorMap) (chip : Chip) (image : ℕ) (side : Side) where
   pub withdrawn_of_flag : bytes_at map chip image side 56 8 ≡ flag → (fields_at map chip image side).withdrawn ≡ true
   withdrawn_of_flag e = withdrawn_is ∙ ap (λ (unit : List ℕ). is_set unit) e
 
--- a field that is written stands as before or as asked
+-- A field that is written is as it was or as asked.
 pub either_image_ok : (f g : Fields) → g ≡ record f { image_ok = g.image_ok } → f.image_ok ≡ false
     → (g ≡ f) ⊎ (g ≡ record f { image_ok = true })
 either_image_ok f g own was = by g.image_ok refl
@@ -96,7 +96,7 @@ either_withdrawn f g own was = by g.withdrawn refl
     by true e = inr e
     by false e = inl (own ∙ ap (λ b. record f { withdrawn = b }) (e ∙ sym was))
 
--- a magic is good or it isn't
+-- The magic that was written is good or it isn't.
 pub either_magic : (f g : Fields) → g ≡ record f { magic = g.magic }
     → (g ≡ record f { magic = Good }) ⊎ (is_good g.magic ≡ false)
 either_magic f g own = by g.magic refl
@@ -106,6 +106,6 @@ either_magic f g own = by g.magic refl
     by Unset e = inr (ap is_good e)
     by Bad e = inr (ap is_good e)
 
--- a field that is set already
+-- A field that is set already.
 pub kept_image_ok : (f g : Fields) → g ≡ f → f.image_ok ≡ true → g ≡ record f { image_ok = true }
 kept_image_ok f g same was = same ∙ ap (λ b. record f { image_ok = b }) was

@@ -1,4 +1,4 @@
--- A field is written by writing its units.
+-- Lemmas about calls that write a field by writing its units.
 use Rattle.std.proofs.Common.{◌≡◌, ℕ, ◌≤◌, arith, List, Result, length, refl}
 use Rattle.std.proofs.lemmas.Result.{on_ok_weaker}
 use Rattle.flash_model.specs.declared.error.FlashError.{FlashError}

@@ -1,4 +1,4 @@
--- When no request stands, and what keeps it so.
+-- Lemmas about when no request is pending, and about what keeps it so.
 use Rattle.std.proofs.Common.{◌≡◌, ◌⊎◌, ℕ, ◌&&◌, Bool, true, false, not, sym, ◌∙◌, ap, subst, refl, inl, inr, ⊎_elim, Some, None, if◌then◌else◌}
 use Rattle.flash_model.specs.Chip.{Chip}
 use Rattle.sector_map.specs.declared.layout.SectorMap.{SectorMap}
@@ -9,7 +9,7 @@ use Rattle.trailer.specs.declared.kinds.Kind.TheVariants.{Test, Permanent}
 use Rattle.trailer.specs.Fields.{fields_at, trailer_of}
 use Rattle.trailer.specs.Standing.{is_good, kind_of, first_is_set, standing_kind, standing_of, incoming_slot, requested_fields}
 
--- no request stands where the magic isn't good ..
+-- No request is pending if the magic isn't good.
 pub none_without_magic : (trailer : Trailer) (front : Bool) → is_good trailer.magic ≡ false
     → standing_kind trailer front ≡ None
 none_without_magic trailer front e = ap (λ b. if b && (not trailer.withdrawn && front) then Some
@@ -19,26 +19,26 @@ and_never : (a : Bool) → (a && false) ≡ false
 and_never true = refl
 and_never false = refl
 
--- .. or where it was withdrawn ..
+-- No request is pending if the withdrawn unit is set.
 pub none_withdrawn : (trailer : Trailer) (front : Bool) → trailer.withdrawn ≡ true → standing_kind trailer front ≡ None
 none_withdrawn trailer front e =
     ap (λ b. if is_good trailer.magic && (not b && front) then Some (kind_of trailer.image_ok) else None) e
     ∙ ap (λ b. if b then Some (kind_of trailer.image_ok) else None) (and_never (is_good trailer.magic))
 
--- .. or where the slot's first unit is erased
+-- No request is pending if the slot's first unit is erased.
 pub none_without_front : (trailer : Trailer) (front : Bool) → front ≡ false → standing_kind trailer front ≡ None
 none_without_front trailer front e =
     ap (λ b. if is_good trailer.magic && (not trailer.withdrawn && b) then Some (kind_of trailer.image_ok) else None) e
     ∙ ap (λ b. if b then Some (kind_of trailer.image_ok) else None)
     (ap (λ b. is_good trailer.magic && b) (and_never (not trailer.withdrawn)) ∙ and_never (is_good trailer.magic))
 
--- where the first unit is set, it is for another reason
+-- If no request is pending with the first unit set, none is pending in any case.
 pub none_whatever_front : (trailer : Trailer) (front : Bool) → standing_kind trailer true ≡ None
     → standing_kind trailer front ≡ None
 none_whatever_front trailer true none = none
 none_whatever_front trailer false none = none_without_front trailer false refl
 
--- a request that stands has a good magic, and wasn't withdrawn
+-- A pending request has a good magic, and wasn't withdrawn.
 both : (a b : Bool) → (a && b) ≡ true → (a ≡ true) × (b ≡ true)
 both true b e = (refl, e)
 both false b e = (e, cc)
@@ -64,7 +64,7 @@ stands_with trailer front kind stands = by (is_good trailer.magic && (not traile
     by false e =
         let none = ap (λ b. if b then Some (kind_of trailer.image_ok) else None) e in absurd (cc (none, stands))
 
--- the same of the flash
+-- The same conditions, by the contents of the flash.
 pub gone_without_magic : (map : SectorMap) (chip : Chip) (image : ℕ)
     → is_good (fields_at map chip image Secondary).magic ≡ false → standing_of map chip image ≡ None
 gone_without_magic map chip image e = none_without_magic (trailer_of (fields_at map chip image Secondary))
@@ -80,7 +80,7 @@ pub gone_without_front : (map : SectorMap) (chip : Chip) (image : ℕ)
 gone_without_front map chip image e = none_without_front (trailer_of (fields_at map chip image Secondary))
     (first_is_set (incoming_slot map chip image)) e
 
--- a request that is asked for stands where the slot's first unit is set
+-- A complete request is pending with its kind, or no request is pending.
 pub requested_stands : (kind : Kind) (front : Bool) → (standing_kind (trailer_of (requested_fields kind)) front ≡ None)
     ⊎ (standing_kind (trailer_of (requested_fields kind)) front ≡ Some kind)
 requested_stands Test true = inr refl
@@ -88,7 +88,7 @@ requested_stands Test false = inl refl
 requested_stands Permanent true = inr refl
 requested_stands Permanent false = inl refl
 
--- so the request stands that was asked for, or none, where the trailer is whole or its magic isn't good
+-- If the request is complete or the magic isn't good, the requested kind is pending or none is.
 pub stands_or_none : (map : SectorMap) (chip : Chip) (image : ℕ) (kind : Kind)
     → (fields_at map chip image Secondary ≡ requested_fields kind)
     ⊎ (is_good (fields_at map chip image Secondary).magic ≡ false)

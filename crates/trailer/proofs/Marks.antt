@@ -1,4 +1,4 @@
--- The units that settling writes, one after the other.
+-- Lemmas about the units that settling writes, one after the other.
 use Rattle.std.proofs.Common.{◌≡◌, ◌⊎◌, ℕ, ◌+◌, ◌-◌, ◌<◌, ◌≤◌, Bool, true, false, not, arith, sym, ◌∙◌, ap, subst, refl, inl, inr, ⊎_elim, List, IsTrue, ◌↔◌, ◌||◌}
 use Rattle.std.specs.Str.{bytes_eq}
 use Rattle.std.proofs.lemmas.Slice.Eq.{bytes_eq-Decides}
@@ -20,12 +20,12 @@ use Rattle.trailer.proofs.Erased.{erased_range}
 use Rattle.trailer.proofs.OwnFields.{unit_kept, fields_kept}
 use Rattle.trailer.proofs.FieldUnits.{good_of_bytes, copy_done_of_flag, image_ok_of_flag, image_ok_is}
 
--- a unit that is free and not erased holds its value
+-- A unit that isn't torn and isn't erased holds its value.
 pub holds_value : (units bytes : List ℕ) → IsFree units bytes → are_erased units ≡ false → units ≡ bytes
 holds_value units bytes free not_all = ⊎_elim (λ (all : are_erased units ≡ true). let wrong : true ≡ false = sym all ∙
     not_all in absurd (cc wrong)) (λ (is : units ≡ bytes). is) free
 
--- what tells that units aren't torn
+-- The test by which units aren't torn.
 pub tells_free : (units bytes : List ℕ) (told : Bool) → told ≡ (bytes_eq units bytes || are_erased units)
     → IsTrue told ↔ IsFree units bytes
 tells_free units bytes told tells = by (bytes_eq units bytes) (are_erased units) refl refl
@@ -46,7 +46,7 @@ tells_free units bytes told tells = by (bytes_eq units bytes) (are_erased units)
               free,
         )
 
--- an erased trailer has no torn unit
+-- An erased trailer has no torn unit.
 pub erased_whole : (map : SectorMap) (chip : Chip) (image : ℕ) (side : Side) (confirmed : Bool)
     → are_erased (trailer_bytes map chip image side) ≡ true → IsWhole map chip image side confirmed
 erased_whole map chip image side confirmed all =
@@ -58,7 +58,7 @@ erased_whole map chip image side confirmed all =
     }
 
 module _ (map : SectorMap) (image : ℕ) (side : Side) (fits : IsMap map) (lt : image < map.images) where
-  -- units beside those of `width` bytes at the place `own` stay when these are written
+  -- Units stay unchanged by a write of the `width` bytes that begin `own` bytes before the end.
   abbrev Stays : ℕ → ℕ → ℕ → ℕ → Type 0
   Stays own width from_end n = (old new : Chip) → SameOutside (place_of map image side own) width old new
       → bytes_at map new image side from_end n ≡ bytes_at map old image side from_end n
@@ -87,7 +87,7 @@ module _ (map : SectorMap) (image : ℕ) (side : Side) (fits : IsMap map) (lt : 
       → bytes_at map new image side 24 8 ≡ bytes_at map old image side 24 8
   ok_beside_magic = stays 16 16 24 8 (omega arith) (omega arith) (omega arith) (omega arith) (inr (omega arith))
 
-  -- what is still free after the first unit, and after the second
+  -- The units that still aren't torn after the first write, and after the second one.
   pub ok_still_free : (old new : Chip) (confirmed : Bool) → IsWhole map old image side confirmed → SameOutside
       (place_of map image side 32) 8 old new
       → IsOkFree confirmed (bytes_at map new image side 24 8)
@@ -101,7 +101,7 @@ module _ (map : SectorMap) (image : ℕ) (side : Side) (fits : IsMap map) (lt : 
       subst (λ (units : List ℕ). IsFree units good_magic) (sym
       (magic_beside_ok mid new b ∙ magic_beside_copy_done old mid a)) whole.magic
 
-  -- all are written
+  -- After the three writes the units hold their values.
   pub marked : (old first second new : Chip) (confirmed : Bool) → IsWhole map old image side confirmed
       → SameOutside (place_of map image side 32) 8 old first → bytes_at map first image side 32 8 ≡ flag
       → SameOutside (place_of map image side 24) 8 first second →
@@ -117,7 +117,7 @@ module _ (map : SectorMap) (image : ℕ) (side : Side) (fits : IsMap map) (lt : 
     magic = good;
   }
 
--- the writes of the three units leave all other parts
+-- The writes of the three units leave all other parts unchanged.
 pub two_alone : (map : SectorMap) (old mid new : Chip) (image : ℕ) (side : Side)
     → SameOutside (place_of map image side 32) 8 old mid → SameOutside (place_of map image side 24) 8 mid new
     → IsLaidOut map old → image < map.images
@@ -136,7 +136,7 @@ three_alone map old first second new image side a b c laid lt =
     keeps_trans map _ old second new two (units_alone map second new image _ 16 16 side c
     (laid_out_kept map _ old second laid two) lt refl (omega arith) (omega arith))
 
--- .. and all bytes before them
+-- The writes of the three units leave all bytes outside these units unchanged.
 pub two_of_units : (map : SectorMap) (old mid new : Chip) (image : ℕ) (side : Side)
     → SameOutside (place_of map image side 32) 8 old mid → SameOutside (place_of map image side 24) 8 mid new
     → IsMap map → SameOutside (place_of map image side 32) 32 old new
@@ -155,7 +155,7 @@ three_of_units map old first second new image side a b c fits =
     same_outside_trans _ 32 old second new (two_of_units map old first second image side a b fits)
     (same_outside_wider _ 16 (place_of map image side 32) 32 second new c (omega (arith, room)) (omega (arith, room)))
 
--- so what is erased before them stays erased
+-- Erased bytes before these units stay erased.
 pub still_erased : (map : SectorMap) (old new : Chip) (image : ℕ) (side : Side)
     → SameOutside (place_of map image side 32) 32 old new → IsMap map → image < map.images
     → are_erased (trailer_bytes map old image side) ≡ true
@@ -165,7 +165,7 @@ still_erased map old new image side same fits lt all =
     (map.sector_size - 32) same (omega (arith, trailer_size map image side fits lt)) (inl (omega arith)))
     ∙ erased_range (trailer_bytes map old image side) 0 (map.sector_size - 32) all
 
--- trailers of the same bytes are whole alike ..
+-- If a trailer has no torn unit, neither has a trailer with the same bytes.
 whole_alike : (map : SectorMap) (old new : Chip) (image : ℕ) (side : Side) (confirmed : Bool)
     → trailer_bytes map old image side ≡ trailer_bytes map new image side
     → IsWhole map old image side confirmed → IsWhole map new image side confirmed
@@ -177,7 +177,7 @@ whole_alike map old new image side confirmed here whole =
       magic = subst (λ (u : List ℕ). IsFree u good_magic) (unit 16 16) whole.magic;
     }
 
--- .. and needn't be erased alike
+-- If a trailer doesn't have to be erased, neither has a trailer with the same bytes.
 pub spared_alike : (map : SectorMap) (old new : Chip) (image : ℕ) (side : Side) (settling : Settling)
     → trailer_bytes map old image side ≡ trailer_bytes map new image side
     → IsSpared map old image side settling → IsSpared map new image side settling
@@ -186,7 +186,7 @@ spared_alike map old new image side settling here spared = record {
   whole = whole_alike map old new image side (is_confirmed settling) here spared.whole;
 }
 
--- what the units say as fields
+-- The fields that the units say.
 ok_field : (map : SectorMap) (chip : Chip) (image : ℕ) (side : Side) (confirmed : Bool)
     → HasMarks map chip image side confirmed → (fields_at map chip image side).image_ok ≡ confirmed
 ok_field map chip image side true marks = image_ok_of_flag map chip image side (marks.image_ok refl)
@@ -202,14 +202,14 @@ settled map chip image confirmed marks erased = record {
   erased = erased;
 }
 
--- the trailers of an image are two
+-- The two trailers of an image are different parts.
 pub beside : (i : ℕ) → only (TrailerOf i Primary) (TrailerOf i Secondary) ≡ false
 beside i = grind arith
 
 pub across : (i : ℕ) → only (TrailerOf i Secondary) (TrailerOf i Primary) ≡ false
 across i = grind arith
 
--- the secondary trailer stays as the primary one is written
+-- The secondary trailer stays erased while the primary one is written.
 pub secondary_kept : (map : SectorMap) (old mid new : Chip) (image : ℕ)
     → fields_at map old image Secondary ≡ erased_fields → Keeps map (only (TrailerOf image Primary)) old mid
     → Keeps map (only (TrailerOf image Primary)) mid new
@@ -217,7 +217,7 @@ pub secondary_kept : (map : SectorMap) (old mid new : Chip) (image : ℕ)
 secondary_kept map old mid new image erased a b = fields_kept map _ mid new image Secondary b (beside image) ∙
     fields_kept map _ old mid image Secondary a (beside image) ∙ erased
 
--- the trailers of one image
+-- A write to one trailer of an image touches only the trailers of that image.
 pub one_of_trailers : (map : SectorMap) (old new : Chip) (image : ℕ) (side : Side)
     → Keeps map (only (TrailerOf image side)) old new → Keeps map (trailers_of image) old new
 one_of_trailers map old new image side a = keeps_wider map _ (trailers_of image) old new (trailer_of_both image side) a

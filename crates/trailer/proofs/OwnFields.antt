@@ -1,4 +1,4 @@
--- A write of a unit of a trailer changes its own field alone.
+-- Lemmas by which a write of a unit of a trailer changes only its own field.
 use Rattle.std.proofs.Common.{◌≡◌, ◌⊎◌, ℕ, ◌+◌, ◌*◌, ◌<◌, ◌≤◌, Bool, false, Option, arith, ◌∙◌, ap, refl, inl, inr, ⊎_elim, slice_range}
 use Rattle.flash_model.specs.Chip.{Chip, SameOutside}
 use Rattle.sector_map.specs.declared.layout.SectorMap.{SectorMap}
@@ -13,7 +13,7 @@ use Rattle.trailer.proofs.Places.{range_besides, trailer_size}
 fields : Magic → Bool → Bool → Bool → Option ℕ → Bool → Fields
 fields m c o w s f = record { magic = m; copy_done = c; image_ok = o; withdrawn = w; size = s; is_fresh = f }
 
--- the same field by field is the same
+-- Fields that are the same one by one are the same.
 pub same_fields : (a b : Fields) → a.magic ≡ b.magic → a.copy_done ≡ b.copy_done → a.image_ok ≡ b.image_ok
     → a.withdrawn ≡ b.withdrawn → a.size ≡ b.size → a.is_fresh ≡ b.is_fresh → a ≡ b
 unfolding fields
@@ -25,7 +25,7 @@ same_fields a b m c o w s f =
     ∙ ap (λ x. fields b.magic b.copy_done b.image_ok b.withdrawn x a.is_fresh) s
     ∙ ap (λ x. fields b.magic b.copy_done b.image_ok b.withdrawn b.size x) f
 
--- a unit beside the one that is written
+-- A unit beside the written one is unchanged.
 pub unit_kept : (map : SectorMap) (old new : Chip) (image at own size from_end n : ℕ) (side : Side)
     → SameOutside at size old new → IsMap map → image < map.images
     → at ≡ place_of map image side own → size ≤ own → own ≤ 56 → n ≤ from_end → from_end ≤ 56 → (from_end + size ≤ own)
@@ -38,7 +38,7 @@ unit_kept map old new image at own size from_end n side same fits lt is small ow
     (⊎_elim (λ (l : from_end + size ≤ own). inr (omega (arith, fits.trailers image)))
     (λ (r : own + n ≤ from_end). inl (omega (arith, fits.trailers image))) apart)
 
--- the status units lie before all others
+-- The status units are unchanged, because they lie before all other units.
 pub status_kept : (map : SectorMap) (old new : Chip) (image at own size : ℕ) (side : Side)
     → SameOutside at size old new → IsMap map → image < map.images
     → at ≡ place_of map image side own → own ≤ 56
@@ -49,7 +49,8 @@ status_kept map old new image at own size side same fits lt is own_le =
     (omega (arith, trailer_size map image side fits lt, fits.trailers image))
     (inl (omega (arith, fits.trailers image)))
 
--- the fields whose units lie beside those of `width` bytes at the place `own`, told from the end
+-- The fields whose units don't overlap the `width` bytes that begin `own` bytes before the end are
+-- unchanged.
 record BesideKept (own width : ℕ) (old new : Fields) : Type 0 where
   pub magic : (16 + width ≤ own) ⊎ (own + 16 ≤ 16) → new.magic ≡ old.magic
   pub copy_done : (32 + width ≤ own) ⊎ (own + 8 ≤ 32) → new.copy_done ≡ old.copy_done
@@ -109,7 +110,7 @@ module _ (map : SectorMap) (old new : Chip) (image at : ℕ) (side : Side) (fits
         same_fields _ _ refl (kept.copy_done (inr (omega arith))) (kept.image_ok (inr (omega arith)))
         (kept.withdrawn (inr (omega arith))) (kept.size (inr (omega arith))) kept.is_fresh
 
--- a trailer that isn't touched keeps its fields
+-- An untouched trailer keeps its fields.
 pub fields_kept : (map : SectorMap) (touched : Part → Bool) (old new : Chip) (image : ℕ) (side : Side)
     → Keeps map touched old new → touched (TrailerOf image side) ≡ false
     → fields_at map new image side ≡ fields_at map old image side

@@ -1,4 +1,4 @@
--- Where trailers and slots lie, and the bytes of a part by offset.
+-- Lemmas about the places of trailers and slots, and about the bytes of a part by offset.
 use Rattle.std.proofs.Common.{◌≡◌, ◌⊎◌, ℕ, ◌+◌, ◌-◌, ◌*◌, ◌/◌, ◌%◌, ◌^◌, ◌<◌, ◌≤◌, arith, sym, ◌∙◌, ap, List, length, slice_range, min, inl, inr, ⊎_elim}
 use Rattle.flash_model.specs.Chip.{Chip, Reads, SameOutside, size_of}
 use Rattle.flash_model.proofs.Frame.{product_le}
@@ -21,18 +21,18 @@ pub some_trailer : (map : SectorMap) (image : ℕ) (side : Side) → IsMap map �
     → 0 < count_of map (TrailerOf image side)
 some_trailer map image side fits lt = omega (arith, fits.counts.some image lt)
 
--- a trailer is one sector
+-- A trailer is one sector.
 pub trailer_size : (map : SectorMap) (image : ℕ) (side : Side) → IsMap map → image < map.images
     → length_of map (TrailerOf image side) ≡ map.sector_size
 trailer_size map image side fits lt =
     let one : count_of map (TrailerOf image side) ≡ 1 = omega (arith, fits.counts.some image lt) in
     ap (λ n. n * map.sector_size) one ∙ omega arith
 
--- a part that isn't empty has a sector at least
+-- A part that isn't empty has a sector at least.
 pub sector_of_part : (map : SectorMap) (part : Part) → 0 < count_of map part → map.sector_size ≤ length_of map part
 sector_of_part map part some = omega (arith, mul_le 1 (count_of map part) map.sector_size some)
 
--- the first sector of a part has addresses
+-- The first sector of a part has addresses of 32 bits.
 pub part_addressed : (map : SectorMap) (part : Part) → IsMap map → 0 < count_of map part
     → start_of map part + map.sector_size < 2 ^ 32
 part_addressed map part fits some = omega (
@@ -42,7 +42,7 @@ part_addressed map part fits some = omega (
   fits.addressed,
 )
 
--- a write leaves the other bytes of a part
+-- A write leaves the bytes of a part outside its range unchanged.
 pub range_besides : (map : SectorMap) (old new : Chip) (part : Part) (at n a b : ℕ) → SameOutside at n old new
     → b ≤ length_of map part
     → (start_of map part + b ≤ at) ⊎ (at + n ≤ start_of map part + a) → slice_range (part_of map new part) a b ≡
@@ -56,7 +56,7 @@ range_besides map old new part at n a b same le apart =
     (⊎_elim (λ (l : start_of map part + b ≤ at). inl (omega arith))
     (λ (r : at + n ≤ start_of map part + a). inr (omega arith)) apart))
 
--- and lies in the flash
+-- The first sector of a part lies in the flash.
 pub part_within : (map : SectorMap) (chip : Chip) (part : Part) → IsLaidOut map chip → 0 < count_of map part
     → first_of map part < chip.sectors
 part_within map chip part laid some = omega (arith, first_within map part laid.is_map some, laid.sectors)
@@ -66,14 +66,14 @@ part_fits : (map : SectorMap) (chip : Chip) (part : Part) → IsLaidOut map chip
 part_fits map chip part laid some =
     omega (arith, part_inside map chip part laid some, sector_of_part map part some)
 
--- an erase of it leaves all other parts
+-- An erase of the first sector of a part leaves all other parts unchanged.
 pub part_alone : (map : SectorMap) (old new : Chip) (part : Part) (sector : ℕ)
     → SameOutside (sector * old.sector_size) old.sector_size old new → IsLaidOut map old → 0 < count_of map part
     → sector ≡ first_of map part → Keeps map (only part) old new
 part_alone map old new part sector same laid some is =
     keeps_erase map part sector old new laid same (record { low = omega arith; high = omega arith })
 
--- so do trailers and slots
+-- Trailers, and the first sectors of slots, lie in the flash.
 pub trailer_fits : (map : SectorMap) (chip : Chip) (image : ℕ) (side : Side) → IsLaidOut map chip → image < map.images
     → start_of map (TrailerOf image side) + map.sector_size ≤ size_of chip
 trailer_fits map chip image side laid lt =
@@ -89,7 +89,7 @@ pub trailer_addressed : (map : SectorMap) (image : ℕ) (side : Side) → IsMap 
 trailer_addressed map image side fits lt = part_addressed map (TrailerOf image side) fits
     (some_trailer map image side fits lt)
 
--- a place in a trailer lies in the flash, at a whole unit
+-- A place in a trailer lies in the flash, at a whole unit.
 pub place_fits : (map : SectorMap) (chip : Chip) (image from_end : ℕ) (side : Side) → IsLaidOut map chip
     → image < map.images → from_end ≤ 56
     → place_of map image side from_end + from_end ≤ size_of chip
@@ -105,7 +105,7 @@ place_aligned map image from_end side fits le unit =
     let units : 8 * (map.sector_size / 8) ≡ map.sector_size = omega (arith, fits.sector.blocks) in
     omega (arith, aligned (first_of map (TrailerOf image side)) map.sector_size units, units)
 
--- what is read at a place of a trailer
+-- The bytes that are read at a place of a trailer.
 pub read_of_trailer : (map : SectorMap) (chip : Chip) (image at from_end n : ℕ) (side : Side) (bytes : List ℕ)
     → Reads chip at bytes → at ≡ place_of map image side from_end
     → n ≡ length bytes → n ≤ from_end → from_end ≤ map.sector_size → IsLaidOut map chip → image < map.images → bytes_at
@@ -120,7 +120,7 @@ read_of_trailer map chip image at from_end n side bytes reads is long within_end
     ∙ ap (λ k. slice_range chip.bytes k (k + length bytes)) (sym is)
     ∙ range_of_reads chip at bytes reads (omega (arith, trailer_fits map chip image side laid lt, laid.whole))
 
--- a write of units of a trailer leaves all other parts
+-- A write of units of a trailer leaves all other parts unchanged.
 pub units_alone : (map : SectorMap) (old new : Chip) (image at from_end n : ℕ) (side : Side) → SameOutside at n old new
     → IsLaidOut map old → image < map.images
     → at ≡ place_of map image side from_end → n ≤ from_end → from_end ≤ 56 → Keeps map (only (TrailerOf image side))

@@ -1,4 +1,4 @@
--- The unit of a size, written and read.
+-- Lemmas about the unit of a size, written and read.
 use Rattle.std.proofs.Common.{◌≡◌, ℕ, ◌*◌, ◌^◌, ◌<◌, ◌≤◌, ◌&&◌, Bool, true, arith, ◌∙◌, ap, refl, List, [], ◌∷◌, Some, None, nat_lt, nat_le, if◌then◌else◌}
 use Rattle.std.proofs.lemmas.Bool.Decides.{nat_tests}
 use Rattle.byteorder.specs.Endian.{little_number}
@@ -9,7 +9,7 @@ use Rattle.sector_map.specs.declared.layout.Side.{Side}
 use Rattle.sector_map.specs.Map.{slot_sectors}
 use Rattle.trailer.specs.Fields.{bytes_at, fields_in, fields_at, size_bytes, size_in}
 
--- a size that is written is read
+-- A size that was written is read back.
 size_reads : (limit size : ℕ) → size < 2 ^ 32 → 0 < size → size ≤ limit → size_in limit (size_bytes size) ≡ Some size
 size_reads limit size fits some le =
     let number : little_number 4 (size_bytes size) ≡ size = little_number-reads_back 4 size (0 ∷ 0 ∷ 0 ∷ 0 ∷ [])

@@ -1,4 +1,4 @@
--- Status units, and how many are set.
+-- Lemmas about status units, and about how many of them are set.
 use Rattle.std.proofs.Common.{◌≡◌, ℕ, zero, suc, ◌+◌, ◌-◌, ◌*◌, ◌/◌, ◌%◌, ◌<◌, ◌≤◌, Bool, true, false, arith, sym, ◌∙◌, ap, refl, inl, inr, ⊎_elim, List, take, drop, if◌then◌else◌}
 use Rattle.std.proofs.lemmas.Bool.{cases_lt}
 use Rattle.std.proofs.lemmas.List.{drop-drop}
@@ -30,7 +30,7 @@ units_none : (bytes : List ℕ) → set_units bytes 0 ≡ 0
 unfolding set_units
 units_none bytes = refl
 
--- the units after the first
+-- The units after the first one.
 unit_behind : (bytes : List ℕ) (j : ℕ) → status_unit (drop 8 bytes) j ≡ status_unit bytes (suc j)
 unit_behind bytes j =
     let width : 8 * j + 8 - 8 * j ≡ 8 * suc j + 8 - 8 * suc j = omega arith in
@@ -41,7 +41,7 @@ unit_behind bytes j =
 unit_first : (bytes : List ℕ) → status_unit bytes 0 ≡ take 8 bytes
 unit_first bytes = refl
 
--- units that are set up to one that is erased
+-- The count of set units is c if the first c units are set and the next one is erased.
 pub units_are : (bytes : List ℕ) (n c : ℕ) → c ≤ n → ((j : ℕ) → j < c → are_erased (status_unit bytes j) ≡ false)
     → (c < n → are_erased (status_unit bytes c) ≡ true) → set_units bytes n ≡ c
 units_are bytes zero c le set free = units_none bytes ∙ omega arith
@@ -57,7 +57,7 @@ units_are bytes (suc n) (suc c) le set free =
     units_step bytes n ∙ ap (λ b. if b then 0 else set_units (drop 8 bytes) n + 1) first ∙ ap (λ m. m + 1) more ∙ omega
     arith
 
--- the count of the units goes past set ones
+-- The count of set units is at least c if the first c units are set.
 pub counts_past : (bytes : List ℕ) (n c : ℕ) → c ≤ n → ((j : ℕ) → j < c → are_erased (status_unit bytes j) ≡ false)
     → c ≤ set_units bytes n
 counts_past bytes n zero le set = omega arith
@@ -69,7 +69,7 @@ counts_past bytes (suc n) (suc c) le set =
     (λ j lt. ap (λ (xs : List ℕ). are_erased xs) (unit_behind bytes j) ∙ set (suc j) (omega (arith, lt))) in
     omega (arith, more, units_step bytes n ∙ ap (λ b. if b then 0 else set_units (drop 8 bytes) n + 1) first)
 
--- the units below a count are set ..
+-- Each unit below the count is set.
 pub set_below : (bytes : List ℕ) (n j : ℕ) → j < set_units bytes n → are_erased (status_unit bytes j) ≡ false
 set_below bytes zero j lt = absurd (omega (arith, lt, units_none bytes))
 set_below bytes (suc n) j lt = by (λ j lt. set_below (drop 8 bytes) n j lt) (are_erased (take 8 bytes)) refl j lt
@@ -89,7 +89,7 @@ set_below bytes (suc n) j lt = by (λ j lt. set_below (drop 8 bytes) n j lt) (ar
         (λ b. if b then 0 else set_units (drop 8 bytes) n + 1) e in
         ap (λ (xs : List ℕ). are_erased xs) (sym (unit_behind bytes j)) ∙ behind j (omega (arith, lt, count))
 
--- .. and the unit at it is erased
+-- The unit at the count is erased.
 pub free_at : (bytes : List ℕ) (n : ℕ) → set_units bytes n < n
     → are_erased (status_unit bytes (set_units bytes n)) ≡ true
 free_at bytes zero lt = absurd (omega (arith, lt))
@@ -109,7 +109,7 @@ free_at bytes (suc n) lt = by (λ lt. free_at (drop 8 bytes) n lt) (are_erased (
         (sym (unit_behind bytes (set_units (drop 8 bytes) n)))
         ∙ behind (omega (arith, lt, count))
 
--- the first erased status unit of a trailer is erased on the flash
+-- The first erased status unit of a trailer is erased on the flash.
 pub status_is_erased : (map : SectorMap) (chip : Chip) (image at count : ℕ) (side : Side) → IsLaidOut map chip
     → image < map.images → count ≡ status_count_of map chip image side
     → count < 3 * slot_sectors map image → at ≡ start_of map (TrailerOf image side) + 8 * count → IsErased chip at 8
@@ -127,7 +127,7 @@ status_aligned map image count side fits =
     let units : 8 * (map.sector_size / 8) ≡ map.sector_size = omega (arith, fits.sector.blocks) in
     omega (arith, aligned (first_of map (TrailerOf image side)) map.sector_size units)
 
--- a write of a status unit leaves the other parts ..
+-- A write of a status unit leaves all other parts unchanged.
 pub status_alone : (map : SectorMap) (old new : Chip) (image at count : ℕ) (side : Side) → SameOutside at 8 old new
     → IsLaidOut map old → image < map.images
     → at ≡ start_of map (TrailerOf image side) + 8 * count → count < 3 * slot_sectors map image → Keeps map
@@ -136,7 +136,7 @@ status_alone map old new image at count side same laid lt is below =
     keeps_write map (TrailerOf image side) (8 * count) at 8 old new laid same is
     (omega (arith, trailer_size map image side laid.is_map lt, laid.is_map.trailers image))
 
--- .. and the other fields
+-- A write of a status unit leaves all other fields unchanged.
 pub own_status : (map : SectorMap) (old new : Chip) (image at count : ℕ) (side : Side) → SameOutside at 8 old new
     → IsMap map → image < map.images
     → at ≡ start_of map (TrailerOf image side) + 8 * count → count < 3 * slot_sectors map image
@@ -155,7 +155,7 @@ own_status map old new image at count side same fits lt is below =
     (ap (size_in (slot_sectors map image * map.sector_size)) (kept 48 8 (omega arith) (omega arith)))
     refl
 
--- a status unit that is set counts
+-- Setting the first erased status unit increases the count.
 pub pushed : (map : SectorMap) (old new : Chip) (image at count : ℕ) (side : Side) → SameOutside at 8 old new
     → IsSet new at → IsLaidOut map old → image < map.images
     → count ≡ status_count_of map old image side → count < 3 * slot_sectors map image → at ≡ start_of map

@@ -1,4 +1,4 @@
--- What each step of a withdrawal leaves of the request.
+-- Lemmas about what each step of a withdrawal leaves of the request.
 use Rattle.std.proofs.Common.{◌≡◌, ◌⊎◌, ℕ, ◌+◌, ◌*◌, ◌<◌, ◌≤◌, Bool, true, false, not, arith, sym, ◌∙◌, ap, subst, refl, slice_index, inl, inr, ⊎_elim, List, Some, None, if◌then◌else◌}
 use Rattle.std.proofs.lemmas.Bool.{cases_lt}
 use Rattle.std.proofs.lemmas.List.{get_or_past}
@@ -22,7 +22,7 @@ use Rattle.trailer.proofs.OwnFields.{fields_kept}
 use Rattle.trailer.proofs.FieldUnits.{either_withdrawn}
 use Rattle.trailer.proofs.Gone.{stands_with, gone_withdrawn, gone_without_front, none_whatever_front}
 
--- an erased sector begins with an erased unit
+-- The first unit of a slot is erased if its first sector is.
 pub front_erased : (map : SectorMap) (chip : Chip) (image sector e : ℕ) (side : Side) → IsErased chip (sector * e) e
     → IsLaidOut map chip → image < map.images
     → sector ≡ first_of map (Slot image side) → e ≡ map.sector_size → first_is_set (part_of map chip (Slot image side))
@@ -37,7 +37,7 @@ front_erased map chip image sector e side erased laid lt is e_is =
       laid.is_map.trailers 0,
     )) (omega (arith, start)) (omega (arith, start, laid.is_map.trailers 0)))
 
--- an erased sector is erased whole
+-- Each byte of a slot's first sector is erased if the sector is erased on the flash.
 pub sector_erased : (map : SectorMap) (chip : Chip) (image sector e : ℕ) (side : Side) → IsErased chip (sector * e) e
     → IsLaidOut map chip → image < map.images → sector ≡ first_of map (Slot image side) → e ≡ map.sector_size
     → are_erased (first_sector map.sector_size (part_of map chip (Slot image side))) ≡ true
@@ -48,7 +48,7 @@ sector_erased map chip image sector e side erased laid lt is e_is =
     (omega (arith, sector_of_part map (Slot image side) (some_slot map image side laid.is_map lt)))
     (omega (arith, start)) (omega (arith, start, e_is))
 
--- the withdrawn unit was written, or not
+-- After a write of the withdrawn unit the fields are as they were, or no request is pending.
 pub taken_back : (map : SectorMap) (old new : Chip) (image : ℕ) (kind : Kind) → standing_of map old image ≡ Some kind
     → fields_at map new image Secondary ≡ record (fields_at map old image Secondary)
     { withdrawn = (fields_at map new image Secondary).withdrawn }
@@ -65,7 +65,7 @@ pub kept_when_standing : (map : SectorMap) (chip : Chip) (image : ℕ) (kind : K
 kept_when_standing map chip image kind stands = (stands_with (trailer_of (fields_at map chip image Secondary))
     (first_is_set (incoming_slot map chip image)) kind stands).kept
 
--- a trailer with a good magic isn't erased
+-- A trailer with a good magic isn't erased.
 good_not_erased : (map : SectorMap) (chip : Chip) (image : ℕ) → IsLaidOut map chip → image < map.images
     → is_good (fields_at map chip image Secondary).magic ≡ true
     → are_erased (trailer_bytes map chip image Secondary) ≡ false
@@ -90,7 +90,7 @@ still_written map old new image kind stands own laid keeps lt =
     (ap (λ (f : Fields). is_good f.magic) own ∙ was.good)
     ∙ sym (good_not_erased map old image laid lt was.good)
 
--- the slot of a withdrawal where its first unit isn't set ..
+-- A withdrawal leaves the slot unchanged if the slot's first unit isn't set.
 pub unset_kept : (map : SectorMap) (old first second : Chip) (image : ℕ)
     → Keeps map (only (TrailerOf image Secondary)) old first
     → (first_is_set (incoming_slot map first image) ≡ false → second ≡ first)
@@ -99,7 +99,7 @@ unset_kept map old first second image keeps idle unset =
     let slot = keeps.parts (Slot image Secondary) refl in
     ap (λ chip. incoming_slot map chip image) (idle (ap (λ (xs : List ℕ). first_is_set xs) slot ∙ unset)) ∙ slot
 
--- .. and where it is
+-- A withdrawal erases the slot's first sector if the slot's first unit is set.
 pub first_gone : (map : SectorMap) (old first second new : Chip) (image : ℕ)
     → Keeps map (only (TrailerOf image Secondary)) old first → Keeps map (only (TrailerOf image Secondary)) second new
     → (first_is_set (incoming_slot map first image) ≡ true
@@ -110,7 +110,7 @@ first_gone map old first second new image a b erased set =
     ap (λ (xs : List ℕ). are_erased (first_sector map.sector_size xs)) (b.parts (Slot image Secondary) refl)
     ∙ erased (ap (λ (xs : List ℕ). first_is_set xs) (a.parts (Slot image Secondary) refl) ∙ set)
 
--- after the trailer was written slot and trailer are as they were, or no request stands
+-- After the trailer was written, slot and fields are as they were, or no request is pending.
 pub slot_or_none : (map : SectorMap) (old new : Chip) (image : ℕ)
     → incoming_slot map new image ≡ incoming_slot map old image
     → (fields_at map new image Secondary ≡ fields_at map old image Secondary) ⊎ (standing_of map new image ≡ None)
@@ -120,7 +120,7 @@ slot_or_none map old new image slot = ⊎_elim
     (λ (same : fields_at map new image Secondary ≡ fields_at map old image Secondary). inl (slot, same))
     (λ (none : standing_of map new image ≡ None). inr none)
 
--- where no request stands, none stands after the slot's first sector was erased or left
+-- If no request is pending, none is after the slot's first sector was erased or left.
 pub none_after_front : (map : SectorMap) (old new : Chip) (image : ℕ) → standing_of map old image ≡ None
     → Keeps map (only (Slot image Secondary)) old new
     → (first_is_set (incoming_slot map old image) ≡ false → new ≡ old) → standing_of map new image ≡ None
@@ -137,7 +137,7 @@ none_after_front map old new image none keeps idle = by (first_is_set (incoming_
         ∙ none_whatever_front (trailer_of (fields_at map old image Secondary))
         (first_is_set (incoming_slot map new image)) set
 
--- where the slot's first unit is erased, none stands whatever becomes of the trailer
+-- If the slot's first unit is erased, no request is pending, whatever happens to the trailer.
 pub front_after_trailer : (map : SectorMap) (old new : Chip) (image : ℕ)
     → first_is_set (incoming_slot map old image) ≡ false → Keeps map (only (TrailerOf image Secondary)) old new
     → first_is_set (incoming_slot map new image) ≡ false
@@ -150,7 +150,7 @@ pub none_after_trailer : (map : SectorMap) (old new : Chip) (image : ℕ)
 none_after_trailer map old new image front keeps = gone_without_front map new image
     (front_after_trailer map old new image front keeps)
 
--- a trailer and then a slot were touched, and then the trailer again
+-- Steps in turn touch only the secondary slot and its trailer.
 pub trailer_then_slot : (map : SectorMap) (old mid new : Chip) (image : ℕ)
     → Keeps map (only (TrailerOf image Secondary)) old mid → Keeps map (only (Slot image Secondary)) mid new
     → Keeps map (incoming_of image) old new
@@ -167,7 +167,7 @@ pub trailer_of_withdrawal : (map : SectorMap) (old new : Chip) (image : ℕ)
     → Keeps map (only (TrailerOf image Secondary)) old new → Keeps map (incoming_of image) old new
 trailer_of_withdrawal map old new image a = keeps_wider map _ (incoming_of image) old new (trailer_of_incoming image) a
 
--- what lies behind the first sector of a slot, where that is erased ..
+-- An erase of a slot's first sector leaves the rest of the slot unchanged.
 pub rest_of_erase : (map : SectorMap) (old new : Chip) (image sector : ℕ) (side : Side)
     → SameOutside (sector * old.sector_size) old.sector_size old new → IsLaidOut map old → image < map.images
     → sector ≡ first_of map (Slot image side) → KeepsBehindFirst map image side old new
@@ -192,7 +192,7 @@ rest_of_erase map old new image sector side same laid lt is = record {
         let some = some_slot map image side laid.is_map lt in
         laid_out_kept map _ old new laid (part_alone map old new (Slot image side) sector same laid some is)
 
--- .. or nothing of the slot is touched ..
+-- A step that doesn't touch the slot leaves the rest of the slot unchanged.
 pub rest_refl : (map : SectorMap) (image : ℕ) (side : Side) (chip : Chip) → KeepsBehindFirst map image side chip chip
 rest_refl map image side chip = record { each = λ k high. refl }
 
@@ -202,13 +202,13 @@ rest_of_trailer map old new image keeps = record {
   each = λ k high. ap (λ (bytes : List ℕ). slice_index bytes k) (keeps.parts (Slot image Secondary) refl);
 }
 
--- .. in turn.
+-- Two steps in turn leave the rest of the slot unchanged if each of them does.
 pub rest_trans : (map : SectorMap) (image : ℕ) (side : Side) (old mid new : Chip)
     → KeepsBehindFirst map image side old mid → KeepsBehindFirst map image side mid new
     → KeepsBehindFirst map image side old new
 rest_trans map image side old mid new a b = record { each = λ k high. b.each k high ∙ a.each k high }
 
--- a withdrawal where nothing is left to do
+-- A withdrawal changes nothing if the slot's first unit and the trailer are erased.
 pub nothing_left : (map : SectorMap) (old first second new : Chip) (image : ℕ)
     → (standing_of map old image ≡ None → first ≡ old)
     → (first_is_set (incoming_slot map first image) ≡ false → second ≡ first)
@@ -221,7 +221,7 @@ nothing_left map old first second new image one two three front erased =
     let c = three (ap (λ chip. are_erased (trailer_bytes map chip image Secondary)) (b ∙ a) ∙ erased) in
     c ∙ b ∙ a
 
--- the erases of a withdrawal
+-- The number of erases of a withdrawal.
 pub erases_of : (map : SectorMap) (old first second new : Chip) (image : ℕ)
     → Keeps map (only (TrailerOf image Secondary)) old first → Keeps map (only (Slot image Secondary)) first second
     → are_erased (trailer_bytes map first image Secondary) ≡ are_erased (trailer_bytes map old image Secondary)

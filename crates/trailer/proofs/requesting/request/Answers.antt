@@ -15,7 +15,7 @@ use Rattle.trailer.proofs.Marks.{ok_beside_magic}
 use Rattle.trailer.proofs.FailedCalls.{refuses_failed}
 use Rattle.trailer.proofs.requesting.request.Goals as goal
 
--- a request is whole once its magic is good, and before that the magic isn't
+-- A request is complete if its magic is good. Otherwise its magic isn't good.
 whole_or_not_good : (kind : Kind) (mid new : Fields) → mid ≡ record erased_fields { image_ok = is_permanent kind }
     → new ≡ record mid { magic = new.magic } → (new ≡ requested_fields kind) ⊎ (is_good new.magic ≡ false)
 whole_or_not_good kind mid new marked own = ⊎_elim
