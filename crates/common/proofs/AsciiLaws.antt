@@ -1,4 +1,4 @@
--- Laws of numbers and separators in ASCII text.
+-- Lemmas about numbers and separators in ASCII text.
 use Rattle.std.proofs.Common.{◌≡◌, ℕ, ◌+◌, ◌%◌, ◌^◌, ◌<◌, ◌++◌, List, [], ◌∷◌, cond, eqb, ltb, ◌&&◌, Some, None, refl, sym, ap, ◌∙◌, inl, inr, arith}
 use Rattle.std.specs.Prelude.{decimal, bytes_eq}
 use Rattle.std.specs.Str.Parse.{digits_value}
@@ -10,14 +10,14 @@ use Rattle.common.specs.Ascii.{number_of, number_below, LacksByte, cut}
 
 -- ---- numbers
 
--- What is printed of a number is read back.
+-- A printed number is read back.
 pub number_of-decimal : (n : ℕ) → n < 2 ^ 32 → number_of (decimal n) ≡ Some n
 unfolding number_of
 number_of-decimal n fits =
     let value : digits_value 10 (decimal n) ≡ n = (decimal_is_IsNumeral n (omega arith)).1 in
     rw (value, (bytes_eq-Decides (decimal n) (decimal n)).1 refl, lt-ltb n (2 ^ 32) fits) refl
 
--- What is read is what is printed of the number.
+-- A number that was read is printed as the same text.
 pub number_of-spelled : (text : List ℕ) (n : ℕ) → number_of text ≡ Some n → (text ≡ decimal n) × (n < 2 ^ 32)
 unfolding number_of
 number_of-spelled text n read =
@@ -28,7 +28,7 @@ number_of-spelled text n read =
     let below : value < 2 ^ 32 = ltb-true value (2 ^ 32) tests.1 in
     (sym same ∙ ap decimal found.1, omega (arith, found.1))
 
--- The same below a limit.
+-- A printed number below a limit is read back.
 pub number_below-decimal : (limit n : ℕ) → n < limit → n < 2 ^ 32 → number_below limit (decimal n) ≡ Some n
 number_below-decimal limit n below fits = rw (number_of-decimal n fits, lt-ltb n limit below) refl
 
@@ -48,7 +48,7 @@ pub LacksByte-append : (byte : ℕ) (xs ys : List ℕ) → LacksByte byte xs →
 LacksByte-append byte [] ys front back = back
 LacksByte-append byte (x ∷ xs) ys front back = (front.0, LacksByte-append byte xs ys front.1 back)
 
--- A number is written in digits alone, and they begin at 48.
+-- A printed number lacks each byte below 48, because it has digits only.
 pub LacksByte-decimal : (byte n : ℕ) → n < 2 ^ 64 → byte < 48 → LacksByte byte (decimal n)
 LacksByte-decimal byte n fits low =
     decimal_by_steps (λ k ds. LacksByte byte ds)
@@ -58,20 +58,20 @@ LacksByte-decimal byte n fits low =
 
 -- ---- cutting at a separator
 
--- The first separator is where the text is cut.
+-- A text is split at its first separator.
 pub cut-found : (separator : ℕ) (before after : List ℕ) → LacksByte separator before
     → cut separator (before ++ separator ∷ after) ≡ (before, Some after)
 unfolding cut
 cut-found separator [] after lacks = rw (eq-eqb separator separator refl) refl
 cut-found separator (b ∷ bs) after lacks = rw (ne_eqb b separator lacks.0, cut-found separator bs after lacks.1) refl
 
--- With no separator the text is whole.
+-- A text without a separator isn't split.
 pub cut-missing : (separator : ℕ) (text : List ℕ) → LacksByte separator text → cut separator text ≡ (text, None)
 unfolding cut
 cut-missing separator [] lacks = refl
 cut-missing separator (b ∷ bs) lacks = rw (ne_eqb b separator lacks.0, cut-missing separator bs lacks.1) refl
 
--- The two parts and the separator are the text.
+-- The two parts with the separator between them are the text.
 pub cut-parts : (separator : ℕ) (text after : List ℕ) → (cut separator text).1 ≡ Some after
     → (text ≡ (cut separator text).0 ++ separator ∷ after)
 unfolding cut
@@ -95,7 +95,7 @@ cut-whole separator (b ∷ bs) missing =
       | inr other ↦ rw other (ap (λ (t : List ℕ). b ∷ t) (cut-whole separator bs (rw other at missing)))
     ]
 
--- What stands before the separator lacks it.
+-- The part before the separator lacks it.
 pub LacksByte-cut : (separator : ℕ) (text : List ℕ) → LacksByte separator (cut separator text).0
 unfolding cut
 LacksByte-cut separator [] = tt

@@ -1,4 +1,4 @@
--- Parts of lists of bytes are lists of bytes.
+-- Lemmas by which parts of lists of bytes are lists of bytes.
 use Rattle.std.proofs.Common.{ℕ, zero, suc, ◌+◌, List, [], ◌∷◌, ◌++◌, take, drop, arith}
 use Rattle.std.proofs.lemmas.List.{get_or-drop}
 use Rattle.common.specs.Bytes.{IsBytes}

@@ -1,4 +1,4 @@
--- Of checks in a row one at most is the first that fails.
+-- Lemmas about the first check of a list that fails.
 use Rattle.std.specs.Prelude.{◌≡◌, ℕ, zero, suc, ◌<◌}
 use Rattle.std.proofs.Common.{inl, inr, subst, arith}
 use Rattle.std.proofs.lemmas.Bool.{cases_lt}
@@ -16,7 +16,7 @@ passes_at check (suc place) before less pass =
           subst check here pass.1
     ]
 
--- One check at most is the first that fails.
+-- At most one check is the first that fails.
 pub FailsFirst-unique : (check : ℕ → Type 0) (first second : ℕ) → FailsFirst check first
     → FailsFirst check second
     → first ≡ second

@@ -1,4 +1,4 @@
--- A text is cut where the first separator stands.
+-- Lemmas by which a text is split at its first separator.
 use Rattle.std.proofs.Common.{◌≡◌, ℕ, ◌+◌, ◌-◌, ◌<◌, eqb, ltb, List, ◌∷◌, ◌++◌, length, get_or, take, drop, Option, Some, None, refl, sym, ap, ◌∙◌, inl, inr, arith}
 use Rattle.std.specs.Prelude.{option_map, unwrap_or}
 use Rattle.std.specs.List.{position, position_or_len}
@@ -10,7 +10,7 @@ use Rattle.std.proofs.lemmas.Option.{cond_some, none-some}
 use Rattle.common.specs.Ascii.{LacksByte, cut}
 use Rattle.common.proofs.AsciiLaws.{cut-found, cut-missing}
 
--- the first place of the separator, or the length
+-- The first index of the separator, or the length.
 abbrev place : ℕ → List ℕ → ℕ
 place separator text = position_or_len (λ b. eqb b separator) text
 
@@ -23,7 +23,7 @@ LacksByte-take separator text =
     let fails = fails_before_first (λ b. eqb b separator) text i d before in
     rw (get_or-take k text i d before) (eqb-false (get_or text i d) separator fails))
 
--- the parts on both sides of the first place
+-- The parts before and after the first separator.
 cut-Some : (separator : ℕ) (text : List ℕ) (i : ℕ) → Some i ≡ position (λ b. eqb b separator) text
     → cut separator text ≡ (take i text, Some (drop (i + 1) text))
 cut-Some separator text i found =
@@ -38,7 +38,7 @@ cut-Some separator text i found =
     let found = cut-found separator (take k text) (drop (k + 1) text) (LacksByte-take separator text) in
     rw (← at.1) (ap (cut separator) parts ∙ found)
 
--- no place, no cut
+-- A text without a separator isn't split.
 cut-None : (separator : ℕ) (text : List ℕ) → None ≡ position (λ b. eqb b separator) text
     → cut separator text ≡ (text, None)
 cut-None separator text missing =
@@ -49,7 +49,7 @@ cut-None separator text missing =
           cut-missing separator text (rw whole at (LacksByte-take separator text))
     ]
 
--- the part before the place, and the part after it
+-- The part before the separator, and the part after it.
 pub cut_before : (separator : ℕ) (text : List ℕ)
     → (cut separator text).0
     ≡ unwrap_or (option_map (λ i. take i text) (position (λ b. eqb b separator) text)) text
@@ -61,7 +61,7 @@ cut_before separator text =
       | Some i ↦ λ there. ap (λ (p : List ℕ × Option (List ℕ)). p.0) (cut-Some separator text i there)
     ] refl
 
--- a text from behind a place on
+-- The text after an index.
 abbrev behind : List ℕ → ℕ → List ℕ
 behind text i = take (length text - (i + 1)) (drop (i + 1) text)
 

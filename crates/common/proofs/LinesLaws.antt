@@ -1,4 +1,4 @@
--- Texts and their lines: what is joined is taken apart again.
+-- Lemmas about texts and their lines: lines that are joined are split again.
 use Rattle.std.proofs.Common.{◌≡◌, ◌≢◌, ℕ, zero, suc, ◌<◌, List, [], ◌∷◌, ◌++◌, take, length, Option, Some, None, refl, ap, ◌∙◌, append_assoc, inl, inr, arith}
 use Rattle.std.specs.List.{AllByRecursion}
 use Rattle.std.specs.Prelude.{unwrap_or}
@@ -29,7 +29,7 @@ AreLines-take zero lines lack = tt
 AreLines-take (suc n) [] lack = tt
 AreLines-take (suc n) (line ∷ lines) lack = (lack.0, AreLines-take n lines lack.1)
 
--- A line, a line feed and more bytes.
+-- The lines of a line, a line feed and more bytes.
 lines_of-line : (line more : List ℕ) → LacksByte 10 line → lines_of (line ++ 10 ∷ more) ≡ line ∷ lines_of more
 lines_of-line [] more lack = refl
 lines_of-line (b ∷ bs) more lack = rw (ne_eqb b 10 lack.0, lines_of-line bs more lack.1) refl
@@ -44,7 +44,7 @@ lines_of-text_of_lines (line ∷ lines) more lack =
     ap lines_of regrouped ∙ lines_of-line line (text_of_lines lines ++ more) lack.0
     ∙ ap (λ (ls : List (List ℕ)). line ∷ ls) others
 
--- The first line of a text that isn't empty, and the lines of what follows it.
+-- The lines of a text that isn't empty are its first line and the lines of the rest.
 pub lines_of-cut : (b : ℕ) (bs : List ℕ)
     → lines_of (b ∷ bs) ≡ (cut 10 (b ∷ bs)).0 ∷ option_map_or lines_of (cut 10 (b ∷ bs)).1 []
 unfolding cut
@@ -58,7 +58,7 @@ lines_of-after : (after : Option (List ℕ)) → option_map_or lines_of after []
 lines_of-after None = refl
 lines_of-after (Some rest) = refl
 
--- A text that isn't empty is its first line and what follows.
+-- The same, with an empty rest if there is no line feed.
 pub lines_of-first : (text : List ℕ) → 0 < length text
     → lines_of text ≡ (cut 10 text).0 ∷ lines_of (unwrap_or (cut 10 text).1 [])
 lines_of-first [] some = absurd (omega arith)
@@ -66,7 +66,7 @@ lines_of-first (b ∷ bs) some =
     let after = lines_of-after (cut 10 (b ∷ bs)).1 in
     lines_of-cut b bs ∙ ap (λ (ls : List (List ℕ)). (cut 10 (b ∷ bs)).0 ∷ ls) after
 
--- What follows the first line is shorter.
+-- The text after the first line is shorter.
 pub length-after_cut : (text : List ℕ) → 0 < length text → length (unwrap_or (cut 10 text).1 []) < length text
 unfolding cut
 length-after_cut [] some = absurd (omega arith)

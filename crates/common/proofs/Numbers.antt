@@ -1,4 +1,4 @@
--- What `parse` gives of a text is what the text of a number spells.
+-- Lemmas by which `parse` returns the number that a text spells.
 use Rattle.std.proofs.Common.{◌≡◌, ◌≢◌, ℕ, ◌+◌, ◌^◌, ◌<◌, List, [], ◌∷◌, length, get_or, Option, Some, None, Bor, MatchResult, Result, Ok, Err, refl, sym, ap, ◌∙◌, inl, inr, arith}
 use Rattle.std.specs.Prelude.{decimal, IsUtf8, IfSome, IfNone}
 use Rattle.std.specs.Result.{result_ok}
@@ -13,11 +13,11 @@ use Rattle.std.proofs.lemmas.Option.{none-some, same_Some}
 use Rattle.common.specs.Ascii.{IsPadded, number_of}
 use Rattle.common.proofs.AsciiLaws.{number_of-decimal, number_of-spelled}
 
--- the text is the text of no number below the limit
+-- The text isn't that of a number below the limit.
 abbrev pub IsOther : List ℕ → Type 0
 IsOther text = (n : ℕ) → n < 2 ^ 32 → text ≢ decimal n
 
--- such a text is not read
+-- Such a text isn't read.
 number_of-other : (text : List ℕ) → IsOther text → None ≡ number_of text
 number_of-other text other =
     elim (number_of text) as (λ o. ((n : ℕ) → o ≡ Some n → ⊥) → None ≡ o) [
@@ -25,18 +25,18 @@ number_of-other text other =
       | Some n ↦ λ h. absurd (h n refl)
     ] (λ n read. let spelled = number_of-spelled text n read in other n spelled.1 spelled.0)
 
--- what was read is what is printed
+-- A number that was read is printed as the text.
 pub IfSome_number : (text : List ℕ) (result : Option ℕ) → result ≡ number_of text
     → IfSome result (λ n. text ≡ decimal n)
 IfSome_number text None read = tt
 IfSome_number text (Some n) read = (number_of-spelled text n (sym read)).0
 
--- what was not read is never printed
+-- A text that wasn't read is never printed.
 pub IfNone_number : (text : List ℕ) (result : Option ℕ) → result ≡ number_of text → IfNone result (IsOther text)
 IfNone_number text None read = λ n fits e. none-some n (read ∙ ap number_of e ∙ number_of-decimal n fits)
 IfNone_number text (Some n) read = tt
 
--- nothing that is printed begins so
+-- No printed number begins so.
 decimal_begins : (n : ℕ) → n < 2 ^ 32 → IsPadded (decimal n) → ⊥
 decimal_begins n fits padded =
     elim (cases_lt 0 n) [
@@ -57,12 +57,12 @@ no_text_is_other : (text : List ℕ) → (IsUtf8 text → ⊥) → IsOther text
 no_text_is_other text no_text n fits e =
     no_text (rw e (IsUtf8-from_ascii (decimal n) (IsAscii-decimal n (omega arith))))
 
--- what `from_utf8` ensures
+-- The contract of `from_utf8`.
 abbrev pub Decodes : List ℕ → Result (Bor (List ℕ)) Utf8Error → Type 0
 Decodes text r =
     MatchResult r (λ s. (s.now ≡ text) × IsUtf8 text) (λ e. ¬ (IsUtf8 text) × IsValidUpTo text (valid_up_to e))
 
--- what it tells of a text that it refuses, and of one that it takes
+-- What `from_utf8` says of a text that it refuses, and of one that it accepts.
 no_text_at_none : (text : List ℕ) (r : Result (Bor (List ℕ)) Utf8Error) → Decodes text r → None ≡ result_ok r
     → ¬ (IsUtf8 text)
 no_text_at_none text (Ok x) decodes none = absurd (none-some x none)
@@ -77,7 +77,7 @@ same_text_at_some text (Err e) x decodes some = absurd (none-some x (sym some))
 own : IsNumeralModel (AllDigits 10) (digits_value 10)
 own = numerals_by_value (AllDigits 10) tells_digits
 
--- a text that does not begin so is read by `parse`
+-- A text that doesn't begin so is read by `parse`.
 pub number_of_parsed : {E : Type 0} (text : List ℕ) (r : Result ℕ E) → (IsPadded text → ⊥)
     → ParsesUnsigned 32 10 text r
     → result_ok r ≡ number_of text
@@ -97,7 +97,7 @@ number_of_parsed {E} text (Err e) plain parsed =
     let value : digits_value 10 text ≡ n = ap (digits_value 10) same ∙ numeral.1 in
     p (rw (← same) at numeral.0.1, rw (← same) at numeral.0.0, omega arith))
 
--- why `number` answers none before it parses
+-- The reason why `number` may return `None` before it parses.
 pub number_of_padded : (text : List ℕ) → IsPadded text → number_of text ≡ None
 number_of_padded text padded = sym (number_of-other text (padded_is_other text padded))
 

@@ -1,4 +1,4 @@
--- Reading lines one after another into a state.
+-- Lemmas about reading lines one by one into a state.
 use Rattle.std.proofs.Common.{◌≡◌, ℕ, zero, suc, ◌+◌, ◌<◌, List, [], ◌∷◌, ◌++◌, take, length, Option, Some, None, Result, Ok, Err, refl, sym, ap, ◌∙◌, append_assoc, inl, inr, arith}
 use Rattle.std.specs.Prelude.{option_and_then, option_map}
 use Rattle.std.specs.List.{AllZip}
@@ -20,7 +20,7 @@ run-append step state (x ∷ xs) ys = elim (step state x) as (λ next. option_an
   | Some s ↦ run-append step s xs ys
 ]
 
--- What was placed has a state after each of its fronts.
+-- If lines can be placed, so can each prefix of them.
 pub run_front : {S X : Type 0} (step : S → X → Option S) (state final : S) (xs ys : List X) → run step state (xs ++ ys) ≡ Some final → (middle : S) × (run step state xs ≡ Some middle)
 run_front step state final xs ys done =
     let both = sym (run-append step state xs ys) ∙ done in
@@ -33,7 +33,7 @@ wrapped_after : {S T : Type 0} (wrap : S → T) (r : Option S) (f : S → Option
 wrapped_after wrap None f g same = refl
 wrapped_after wrap (Some s) f g same = same s
 
--- Where a state is another one in a wrapping, its steps end in what the other's end in.
+-- If a state wraps another one, and so do single steps, then so do the results of all steps.
 pub run-wrapped : {S T X : Type 0} (wrap : S → T) (step : S → X → Option S) (wrapped : T → X → Option T)
     → ((state : S) (x : X) → wrapped (wrap state) x ≡ option_map wrap (step state x))
     → (state : S) (xs : List X) → run wrapped (wrap state) xs ≡ option_map wrap (run step state xs)
@@ -42,7 +42,7 @@ run-wrapped wrap step wrapped same state (x ∷ xs) =
     ap (option_and_then (λ next. run wrapped next xs)) (same state x)
     ∙ wrapped_after wrap (step state x) (λ s. run step s xs) (λ t. run wrapped t xs) (λ s. run-wrapped wrap step wrapped same s xs)
 
--- One line that can't be placed, and one that can.
+-- A line that can't be placed ends reading, and one that can doesn't.
 pub read_lines-none : {S : Type 0} (step : S → List ℕ → Option S) (state : S) (n : ℕ) (line : List ℕ) (lines : List (List ℕ)) → step state line ≡ None → read_lines step state n (line ∷ lines) ≡ Err n
 unfolding read_lines
 read_lines-none step state n line lines none = rw (none, read_lines) refl
@@ -51,7 +51,7 @@ pub read_lines-some : {S : Type 0} (step : S → List ℕ → Option S) (state n
 unfolding read_lines
 read_lines-some step state next n line lines some = rw (some, read_lines) refl
 
--- Reading that succeeds has placed every line.
+-- Reading that succeeds has placed each line.
 pub read_lines-ok : {S : Type 0} (step : S → List ℕ → Option S) (state final : S) (n : ℕ) (lines : List (List ℕ)) → read_lines step state n lines ≡ Ok final → run step state lines ≡ Some final
 unfolding read_lines
 read_lines-ok step state final n [] done = let e : state ≡ final = cc in ap Some e
@@ -60,7 +60,7 @@ read_lines-ok step state final n (line ∷ lines) done = elim (cases_option (ste
   | inr next ↦ rw next.1 (read_lines-ok step next.0 final (n + 1) lines (sym (read_lines-some step state next.0 n line lines next.1) ∙ done))
 ]
 
--- Where reading stops at a line: it can't be placed, and each line before it can.
+-- Reading stops at line n: it can't be placed, and each line before it can.
 pub record StopsAt {S : Type 0} (step : S → List ℕ → Option S) (state : S) (lines : List (List ℕ)) (n : ℕ) : Type 0 where
   pub bad : run step state (take n lines) ≡ None
   pub good : (m : ℕ) → m < n → (middle : S) × (run step state (take m lines) ≡ Some middle)
@@ -74,7 +74,7 @@ StopsAt-next {S} step state next line lines n placed stops = record {
   good zero below = (state, refl)
   good (suc m) below = rw placed (stops.good m (omega arith))
 
--- Reading that fails names the first line that can't be placed.
+-- Reading that fails returns the number of the first line that can't be placed.
 pub read_lines-err : {S : Type 0} (step : S → List ℕ → Option S) (state : S) (n k : ℕ) (lines : List (List ℕ)) → read_lines step state (n + 1) lines ≡ Err k → (m : ℕ) × (k ≡ n + m) × StopsAt step state lines m
 unfolding read_lines
 read_lines-err step state n k [] failed = cc
@@ -86,13 +86,13 @@ read_lines-err step state n k (line ∷ lines) failed = elim (cases_option (step
       (suc later.0, omega (arith, later.1), StopsAt-next step state next.0 line lines later.0 next.1 later.2)
 ]
 
--- What ties a reader of lines to what its states spell.
+-- The conditions that tie a reader of lines to what its states spell.
 pub record Spells {S L : Type 0} (line_of : List ℕ → Option L) (place : S → L → Option S) (Says : List ℕ → L → Type 0) (lines : S → List L) : Type 0 where
   pub again : (text : List ℕ) (said : L) → Says text said → line_of text ≡ Some said
   pub spelled : (text : List ℕ) (said : L) → line_of text ≡ Some said → Says text said
   pub grows : (state next : S) (said : L) → place state said ≡ Some next → lines next ≡ lines state ++ said ∷ []
 
--- Reading texts is placing what they say.
+-- Reading texts is the same as placing what they say.
 pub run-with_text : {S L : Type 0} (line_of : List ℕ → Option L) (place : S → L → Option S) (Says : List ℕ → L → Type 0) (lines : S → List L) → Spells line_of place Says lines
     → (state : S) (texts : List (List ℕ)) (said : List L) → AllZip Says texts said → run (with_text line_of place) state texts ≡ run place state said
 run-with_text line_of place Says lines spells state [] [] say = refl
@@ -101,7 +101,7 @@ run-with_text line_of place Says lines spells state (text ∷ texts) [] say = ab
 run-with_text line_of place Says lines spells state (text ∷ texts) (l ∷ said) say =
     rw (spells.again text l say.0) (same_after (place state l) (λ next. run (with_text line_of place) next texts) (λ next. run place next said) (λ next. run-with_text line_of place Says lines spells next texts said say.1))
 
--- What was read says the lines that the state has gained.
+-- The texts that were read say the lines that the state has gained.
 pub said_by_run : {S L : Type 0} (line_of : List ℕ → Option L) (place : S → L → Option S) (Says : List ℕ → L → Type 0) (lines : S → List L) → Spells line_of place Says lines
     → (state final : S) (texts : List (List ℕ)) → run (with_text line_of place) state texts ≡ Some final → (said : List L) × (lines final ≡ lines state ++ said) × AllZip Says texts said
 said_by_run line_of place Says lines spells state final [] done = let e : state ≡ final = cc in ([], rw (← e) (sym (append-nil (lines state))), tt)
@@ -112,8 +112,9 @@ said_by_run line_of place Says lines spells state final (text ∷ texts) done =
     let grown = spells.grows state first.0 placed.0 placed.2 in
     (placed.0 ∷ others.0, others.1 ∙ ap (λ (ls : List _). ls ++ others.0) grown ∙ simp append_assoc, (spells.spelled text placed.0 placed.1, others.2))
 
--- The number of the line at which reading stops is the one that a refusal names: a text of the kind
--- is read whole, and what was read goes on to a text of the kind.
+-- The number of the line at which reading stops is the one that a refusal names. This needs that a
+-- text of the kind is read completely, and that each text that was read is a prefix of one of the
+-- kind.
 pub IsFirstBadLine-stops : {S : Type 0} (IsText : List ℕ → Type 0) (step : S → List ℕ → Option S) (state : S)
     → ((bytes : List ℕ) → IsText bytes → (final : S) × (run step state (lines_of bytes) ≡ Some final))
     → ((lines : List (List ℕ)) (final : S) → AreLines lines → run step state lines ≡ Some final → Begins IsText lines)
@@ -134,7 +135,7 @@ IsFirstBadLine-stops IsText step state reads goes_on bytes n failed =
           goes_on (take m (lines_of bytes)) good.0 (AreLines-take m (lines_of bytes) (AreLines-lines_of bytes)) good.1,
     ))
 
--- What can be placed whole is read.
+-- Lines that can all be placed are read.
 pub read_lines-run : {S : Type 0} (step : S → List ℕ → Option S) (state final : S) (n : ℕ) (lines : List (List ℕ)) → run step state lines ≡ Some final → read_lines step state n lines ≡ Ok final
 unfolding read_lines
 read_lines-run step state final n [] done = let e : state ≡ final = cc in ap Ok e
@@ -142,7 +143,7 @@ read_lines-run step state final n (line ∷ lines) done =
     let first = and_then_some (step state line) (λ next. run step next lines) final done in
     read_lines-some step state first.0 n line lines first.1 ∙ read_lines-run step first.0 final (n + 1) lines first.2
 
--- ---- one line after the other, as a loop goes
+-- ---- one line after another, as in a loop
 
 pub read_lines-stops : {S : Type 0} (step : S → List ℕ → Option S) (state : S) (n : ℕ) (lines later : List (List ℕ)) (line : List ℕ) (total : Result S ℕ) → lines ≡ line ∷ later → step state line ≡ None → read_lines step state n lines ≡ total → total ≡ Err n
 read_lines-stops step state n lines later line total is none so_far = sym so_far ∙ rw is (read_lines-none step state n line later none)

@@ -1,10 +1,10 @@
--- A word is the one that is looked for, or another.
+-- A case split: a word is the sought one or another.
 use Rattle.std.proofs.Common.{◌≡◌, true, false, List, ℕ, inl, inr, subst, sym}
 use Rattle.std.specs.Str.{bytes_eq}
 use Rattle.std.proofs.lemmas.Bool.{cases_Bool}
 use Rattle.std.proofs.lemmas.Slice.Eq.{bytes_eq-Decides}
 
--- What is shown of the word that is looked for, and of any other word.
+-- A fact of a word, shown for the sought word and for any other one.
 pub on_word : (word sought : List ℕ) (P : List ℕ → Type 0) → (bytes_eq word sought ≡ true → P sought)
     → (bytes_eq word sought ≡ false → P word) → P word
 on_word word sought P same other =

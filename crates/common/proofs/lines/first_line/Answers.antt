@@ -3,7 +3,7 @@ use Rattle.std.specs.Prelude.{option_copied, unwrap_or}
 use Rattle.common.proofs.LinesLaws.{lines_of-first, length-after_cut}
 use Rattle.common.proofs.lines.first_line.Goals as goal
 
--- What stands behind the reference, or behind the default.
+-- The contents of the reference that was found, or of the default.
 now-unwrap_or : (found : Option (Bor (List ℕ))) (default : Bor (List ℕ)) → default.now ≡ []
     → (unwrap_or found default).now ≡ unwrap_or (option_copied found) []
 now-unwrap_or None default empty = empty

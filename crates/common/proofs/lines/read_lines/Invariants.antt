@@ -3,7 +3,7 @@ use Rattle.common.specs.Lines.{lines_of}
 use Rattle.common.specs.Reading.{read_lines}
 use Rattle.common.proofs.lines.read_lines.Given as goal
 
--- what is left is read to the end that the whole text is read to
+-- Reading the rest has the same result as reading the complete text.
 abbrev pub invariant-loop-rest : goal.invariant-loop-rest
 invariant-loop-rest g l = record {
   counted : l.number + length l.rest ≤ length l.text;
