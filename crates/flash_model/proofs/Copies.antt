@@ -31,14 +31,6 @@ copy_after from to n m at size old mid new copied same apart is = record {
   each = λ k j low high e. grind (arith, copied.each, same.before, same.after);
 }
 
--- A copy, once more is written beside it.
-pub copy_kept : (from to n at size : ℕ) (old mid new : Chip)
-    → IsCopy from to n old mid → SameOutside at size mid new
-    → (to + n ≤ at) ⊎ (at + size ≤ to) → IsCopy from to n old new
-copy_kept from to n at size old mid new copied same apart = record {
-  each = λ k j low high e. grind (arith, copied.each, same.before, same.after);
-}
-
 -- A sector was copied to another one, which was erased first.
 pub copy_after_erase : (a b e size m : ℕ) (old mid new : Chip)
     → IsCopy (a * size) (b * size) m mid new → SameOutside (b * e) e old mid

@@ -1,5 +1,5 @@
 -- Lemmas about what a write leaves outside its range.
-use Rattle.std.proofs.Common.{◌≡◌, ◌≢◌, ◌⊎◌, ℕ, ◌+◌, ◌*◌, ◌/◌, ◌%◌, ◌<◌, ◌≤◌, List, length}
+use Rattle.std.proofs.Common.{◌≡◌, ◌≢◌, ◌⊎◌, ℕ, ◌+◌, ◌*◌, ◌<◌, ◌≤◌, List, length}
 use Rattle.std.proofs.Common.{refl, sym, ◌∙◌, ap, arith, inl, inr, ⊎_elim}
 use Rattle.std.proofs.lemmas.Bool.{cases_lt}
 use Rattle.flash_model.specs.Chip.{Chip, Reads, SameOutside, SameSector, SectorIs}
@@ -81,40 +81,6 @@ products_apart a b e other = ⊎_elim
 pub mul_le : (a b e : ℕ) → a ≤ b → a * e ≤ b * e
 mul_le a b e le = grind arith
 
--- If a sector begins at or before an address, it isn't after the sector of that address.
-pub sector_from : (a s e o : ℕ) → a * e ≤ s * e + o → o < e → a ≤ s
-sector_from a s e o low small = ⊎_elim
-    (λ (before : s < a). absurd (omega (arith, product_le s a e before))) (λ (le : a ≤ s). le) (cases_lt s a)
-
--- If a sector begins after an address, it is after the sector of that address.
-pub sector_below : (s b e o : ℕ) → s * e + o < b * e → s < b
-sector_below s b e o high = ⊎_elim
-    (λ (lt : s < b). lt) (λ (behind : b ≤ s). absurd (omega (arith, mul_le b s e behind))) (cases_lt s b)
-
--- An address is given by its sector and the offset in it.
-pub sector_at : (a n e k : ℕ) → 0 < e → a * e ≤ k → k < (a + n) * e
-    → (a ≤ k / e) × (k / e < a + n) × (k ≡ k / e * e + k % e) × (k % e < e)
-sector_at a n e k some low high =
-    let is : k ≡ k / e * e + k % e = omega arith in
-    let below : k % e < e = omega arith in (
-      sector_from a (k / e) e (k % e) (omega arith) below,
-      sector_below (k / e) (a + n) e (k % e) (omega arith),
-      is,
-      below,
-    )
-
-pub same_sector_refl : (sector : ℕ) (chip : Chip) → SameSector sector chip chip
-same_sector_refl sector chip = record { each = λ k o is below. refl }
-
-pub same_sector_trans : (sector : ℕ) (old mid new : Chip) → SameSector sector old mid
-    → SameSector sector mid new → mid.sector_size ≡ old.sector_size → SameSector sector old new
-same_sector_trans sector old mid new first second size =
-    let place : sector * mid.sector_size ≡ sector * old.sector_size = ap (λ e. sector * e) size in
-    record {
-      each = λ k o is below.
-          second.each k o (omega (arith, place)) (omega (arith, size)) ∙ first.each k o is below;
-    }
-
 -- A sector other than the written one is unchanged.
 pub same_sector : (s t e n : ℕ) (old new : Chip) → SameOutside (t * e) n old new
     → e ≡ old.sector_size → n ≡ old.sector_size → s ≢ t → SameSector s old new
@@ -134,10 +100,3 @@ sector_kept s contents old new was same size =
           let at : k ≡ s * old.sector_size + o = is ∙ ap (λ x. x + o) place in
           same.each k o at (omega arith) ∙ was.each k o at (omega arith);
     }
-
--- The contents of a sector beside the one that was written.
-pub sector_kept_outside : (s t e n : ℕ) (contents : ℕ → ℕ) (old new : Chip) → SectorIs old s contents
-    → SameOutside (t * e) n old new → e ≡ old.sector_size → n ≡ old.sector_size → s ≢ t
-    → SectorIs new s contents
-sector_kept_outside s t e n contents old new was same size whole other =
-    sector_kept s contents old new was (same_sector s t e n old new same size whole other) same.sector_size

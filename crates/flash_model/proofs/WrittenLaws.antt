@@ -18,10 +18,6 @@ use Rattle.flash_model.proofs.Frame.{product_le}
 use Rattle.flash_model.proofs.MemoryLaws.{none_behind}
 use Rattle.flash_model.proofs.Reached.{any_number}
 
--- A new flash took no write.
-pub written_new : (size : ℕ) (fixed : Fixed) (bytes : List ℕ) → fixed.first ≡ bytes → IsWrittenBy size fixed bytes 0
-written_new size fixed bytes first = record { journal = []; counted = refl; replayed = first; taken = tt }
-
 -- The fact after one more write that a driver accepts. `range` is what the write left. It is the
 -- same for each number that the count of writes can stand for.
 pub written_next : (size : ℕ) (fixed : Fixed) (bytes after range : List ℕ) (writes next : ℕ) (write : Write)
