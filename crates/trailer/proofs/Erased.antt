@@ -164,10 +164,3 @@ unfolding fields_at
 erased_fields_at map chip image side all laid lt = fields_erased (slot_sectors map image) map.sector_size
     (trailer_bytes map chip image side) all (trailer_length map chip image side laid lt)
     (omega (arith, laid.is_map.trailers image))
-
--- units of an erased trailer are erased
-pub erased_units : (map : SectorMap) (chip : Chip) (image from_end n : ℕ) (side : Side)
-    → are_erased (trailer_bytes map chip image side) ≡ true → are_erased (bytes_at map chip image side from_end n) ≡
-    true
-erased_units map chip image from_end n side all = erased_range (trailer_bytes map chip image side)
-    (map.sector_size - from_end) (map.sector_size - from_end + n) all

@@ -192,10 +192,6 @@ rest_of_erase map old new image sector side same laid lt is = record {
         let some = some_slot map image side laid.is_map lt in
         laid_out_kept map _ old new laid (part_alone map old new (Slot image side) sector same laid some is)
 
--- A step that doesn't touch the slot leaves the rest of the slot unchanged.
-pub rest_refl : (map : SectorMap) (image : ℕ) (side : Side) (chip : Chip) → KeepsBehindFirst map image side chip chip
-rest_refl map image side chip = record { each = λ k high. refl }
-
 pub rest_of_trailer : (map : SectorMap) (old new : Chip) (image : ℕ)
     → Keeps map (only (TrailerOf image Secondary)) old new → KeepsBehindFirst map image Secondary old new
 rest_of_trailer map old new image keeps = record {
