@@ -19,11 +19,6 @@ pub unit_in_log : (map : SectorMap) (sector : ℕ)
     → closing_unit map sector ≡ start_of map Log + (sector * map.sector_size + (map.sector_size - 8))
 unit_in_log map sector = grind arith
 
--- a place ends before its sector's closing unit ..
-pub place_before_unit : (map : SectorMap) (sector place : ℕ) → IsMap map → place < places_of map
-    → place_of_record map sector place + 64 ≤ closing_unit map sector
-place_before_unit map sector place fits lt = omega (arith, places_fill map fits)
-
 -- A closing unit ends in the log.
 pub unit_fits_log : (map : SectorMap) (sector : ℕ) → IsMap map → sector < 3
     → sector * map.sector_size + (map.sector_size - 8) + 8 ≤ length_of map Log

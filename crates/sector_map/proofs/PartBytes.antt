@@ -1,5 +1,5 @@
 -- Lemmas about the bytes of a part by offset, and about what a write leaves of them.
-use Rattle.std.proofs.Common.{◌≡◌, ◌⊎◌, ℕ, ◌+◌, ◌-◌, ◌*◌, ◌<◌, ◌≤◌, List, length, slice_index, slice_range, arith, sym, ◌∙◌, ap, subst, ⊎_elim}
+use Rattle.std.proofs.Common.{◌≡◌, ◌⊎◌, ℕ, ◌+◌, ◌-◌, ◌*◌, ◌<◌, ◌≤◌, List, length, slice_index, slice_range, arith, sym, ◌∙◌, ap, ⊎_elim}
 use Rattle.std.proofs.lemmas.Bool.{cases_lt}
 use Rattle.std.proofs.lemmas.List.{ext_get_or}
 use Rattle.flash_model.specs.Chip.{Chip, Reads, IsErased, SameOutside, size_of}
@@ -132,8 +132,3 @@ keeps_erase map part sector old new laid same at =
     product_le sector (first_of map part + count_of map part) map.sector_size at.high in
     keeps_others map part (sector * old.sector_size) old.sector_size old new laid same (omega arith)
     (omega (arith, laid.sector_size))
-
--- An erased sector, by the map's length of a sector.
-pub sector_erased : (map : SectorMap) (sector : ℕ) (old new : Chip) → IsLaidOut map old
-    → IsErased new (sector * old.sector_size) old.sector_size → IsErased new (sector * map.sector_size) map.sector_size
-sector_erased map sector old new laid erased = subst (λ e. IsErased new (sector * e) e) laid.sector_size erased

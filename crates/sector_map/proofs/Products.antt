@@ -2,9 +2,7 @@
 use Rattle.std.proofs.Common.{◌≡◌, ℕ, ◌+◌, ◌*◌, ◌/◌, ◌%◌, ◌<◌, ◌≤◌, arith, ⊎_elim}
 use Rattle.std.proofs.lemmas.Bool.{cases_lt}
 use Rattle.flash_model.proofs.Frame.{product_le}
-
-pub mul_le : (b s e : ℕ) → b ≤ s → b * e ≤ s * e
-mul_le b s e ge = grind arith
+pub use Rattle.flash_model.proofs.Frame.{mul_le}
 
 pub lower : (a s e o : ℕ) → a * e ≤ s * e + o → o < e → a ≤ s
 lower a s e o le small =

@@ -4,7 +4,7 @@ use Rattle.std.proofs.Common.{◌≡◌, ℕ, Bool, true, false, ◌==◌, ◌&&
 use Rattle.std.proofs.lemmas.Bool.{eqb-true, false≢true}
 use Rattle.sector_map.specs.declared.layout.Side.{Side}
 use Rattle.sector_map.specs.declared.layout.Side.TheVariants.{Secondary}
-use Rattle.sector_map.specs.Part.{Part, Slot, TrailerOf, Scratch, Log, only, same_side, is_member, trailers_of, trailers_on, trailers_in, incoming_of, swap_one, swap_of}
+use Rattle.sector_map.specs.Part.{Part, Slot, TrailerOf, Scratch, Log, only, same_side, is_member, trailers_of, trailers_on, trailers_in, incoming_of, swap_one}
 
 -- The second test leaves out each part that the first one leaves out.
 abbrev pub LeavesLess : (Part → Bool) → (Part → Bool) → Type 0
@@ -46,28 +46,12 @@ trailer_on_side mask j side member (TrailerOf i at) e =
 trailer_on_side mask j side member Scratch e = refl
 trailer_on_side mask j side member Log e = refl
 
--- one trailer is among those of a mask
-pub trailer_in_mask : (mask j : ℕ) (side : Side) → is_member mask j ≡ true
-    → LeavesLess (trailers_in mask) (only (TrailerOf j side))
-trailer_in_mask mask j side member (Slot i at) e = refl
-trailer_in_mask mask j side member (TrailerOf i at) e =
-    left_false (i == j) (same_side at side) (other_image mask i j (i == j) refl member e)
-trailer_in_mask mask j side member Scratch e = refl
-trailer_in_mask mask j side member Log e = refl
-
 -- Both trailers of an image are among the trailers of a mask that has the image.
 pub trailers_in_mask : (mask j : ℕ) → is_member mask j ≡ true → LeavesLess (trailers_in mask) (trailers_of j)
 trailers_in_mask mask j member (Slot i at) e = refl
 trailers_in_mask mask j member (TrailerOf i at) e = other_image mask i j (i == j) refl member e
 trailers_in_mask mask j member Scratch e = refl
 trailers_in_mask mask j member Log e = refl
-
--- the trailers of one side of a mask are among those of both
-pub side_in_mask : (mask : ℕ) (side : Side) → LeavesLess (trailers_in mask) (trailers_on mask side)
-side_in_mask mask side (Slot i at) e = refl
-side_in_mask mask side (TrailerOf i at) e = left_false (is_member mask i) (same_side at side) e
-side_in_mask mask side Scratch e = refl
-side_in_mask mask side Log e = refl
 
 -- The secondary slot is one of the parts that an incoming image is written to.
 pub slot_of_incoming : (j : ℕ) → LeavesLess (incoming_of j) (only (Slot j Secondary))
@@ -83,39 +67,9 @@ trailer_of_incoming j (TrailerOf i at) e = e
 trailer_of_incoming j Scratch e = refl
 trailer_of_incoming j Log e = refl
 
--- a swap of an image writes its slots ..
-pub slot_of_swap : (j : ℕ) (side on : Side) → LeavesLess (swap_one j side) (only (Slot j on))
-slot_of_swap j side on (Slot i at) e = left_false (i == j) (same_side at on) e
-slot_of_swap j side on (TrailerOf i at) e = refl
-slot_of_swap j side on Scratch e = refl
-slot_of_swap j side on Log e = refl
-
 -- The trailer that counts the swap is one of the parts that a swap of an image writes.
 pub trailer_of_swap : (j : ℕ) (side : Side) → LeavesLess (swap_one j side) (only (TrailerOf j side))
 trailer_of_swap j side (Slot i at) e = refl
 trailer_of_swap j side (TrailerOf i at) e = e
 trailer_of_swap j side Scratch e = refl
 trailer_of_swap j side Log e = refl
-
--- .. and scratch
-pub scratch_of_swap : (j : ℕ) (side : Side) → LeavesLess (swap_one j side) (only Scratch)
-scratch_of_swap j side (Slot i at) e = refl
-scratch_of_swap j side (TrailerOf i at) e = refl
-scratch_of_swap j side Scratch e = e
-scratch_of_swap j side Log e = refl
-
--- a swap of a mask swaps each image in it
-pub one_of_swaps : (mask j : ℕ) (side : Side) → is_member mask j ≡ true
-    → LeavesLess (swap_of mask side) (swap_one j side)
-one_of_swaps mask j side member (Slot i at) e = other_image mask i j (i == j) refl member e
-one_of_swaps mask j side member (TrailerOf i at) e =
-    and_false (i == j) (is_member mask i) (same_side at side) (member_of mask i j member) e
-one_of_swaps mask j side member Scratch e = e
-one_of_swaps mask j side member Log e = refl
-
--- a swap of a mask writes its trailers on one side
-pub trailers_of_swaps : (mask : ℕ) (side : Side) → LeavesLess (swap_of mask side) (trailers_on mask side)
-trailers_of_swaps mask side (Slot i at) e = refl
-trailers_of_swaps mask side (TrailerOf i at) e = e
-trailers_of_swaps mask side Scratch e = refl
-trailers_of_swaps mask side Log e = refl
