@@ -22,31 +22,6 @@ below_shift mask n i none member = ⊎_elim (λ (below : i < n). below)
     absurd (grind (arith, nat_tests, ap (λ q. q % 2) (gone ∙ zero_is), member)))
     (cases_lt i n)
 
--- A number without bits is 0.
-no_bits : (k q : ℕ) → q < 2 ^ k → ((i : ℕ) → q / 2 ^ i % 2 ≡ 0) → q ≡ 0
-no_bits zero q lt none = omega arith
-no_bits (suc k) q lt none =
-    let even : q % 2 ≡ 0 = ap (λ x. x % 2) (sym (div-one q)) ∙ none 0 in
-    let small : q / 2 < 2 ^ k = omega (arith, pow-succ' 2 k) in
-    let half : q / 2 ≡ 0 =
-    no_bits k (q / 2) small
-    (λ i. ap (λ x. x % 2) (div-div-eq-div-mul q 2 (2 ^ i) ∙ ap (λ p. q / p) (sym (pow-succ' 2 i)))
-    ∙ none (suc i)) in
-    omega arith
-
-not_member : (mask i : ℕ) (b : Bool) → is_member mask i ≡ b → b ≡ false → mask / 2 ^ i % 2 ≡ 0
-unfolding is_member
-not_member mask i b is clear = grind (arith, nat_tests, is, clear)
-
--- If each image of a mask is below the shift, the shifted mask is 0.
-pub shift_below : (mask n : ℕ) → mask < 2 ^ 8 → ((i : ℕ) → is_member mask i ≡ true → i < n) → mask / 2 ^ n ≡ 0
-shift_below mask n small all = no_bits 8 (mask / 2 ^ n) (omega (arith, div-le_self mask (2 ^ n)))
-    (λ i. ap (λ x. x % 2) (shifted mask n i) ∙ at i (is_member mask (n + i)) refl)
-  where
-    at : (i : ℕ) (b : Bool) → is_member mask (n + i) ≡ b → mask / 2 ^ (n + i) % 2 ≡ 0
-    at i true member = absurd (omega (arith, all (n + i) member))
-    at i false member = not_member mask (n + i) false member refl
-
 -- The number whose bits, from the lowest on, are those of a list.
 abbrev pub mask_in : List Bool → ℕ
 mask_in [] = 0
@@ -72,6 +47,12 @@ bit_told false m =
     let even : (2 * m + 0) / 2 ^ 0 % 2 ≡ 0 = ap (λ x. x % 2) (div-one (2 * m + 0)) ∙ omega arith in
     ap (λ x. x == 1) even
 
+no_member : (i : ℕ) → is_member 0 i ≡ false
+unfolding is_member
+no_member i =
+    let none : 0 / 2 ^ i ≡ 0 = omega (arith, div-le_self 0 (2 ^ i)) in
+    ap (λ q. q % 2 == 1) none
+
 none_behind : (i : ℕ) → get_or {A = Bool} [] i false ≡ false
 none_behind zero = refl
 none_behind (suc i) = refl
@@ -79,9 +60,7 @@ none_behind (suc i) = refl
 -- The members of this mask are those of the list.
 pub members_in : (bs : List Bool) (i : ℕ) → is_member (mask_in bs) i ≡ get_or bs i false
 unfolding is_member
-members_in [] i =
-    let none : 0 / 2 ^ i ≡ 0 = omega (arith, div-le_self 0 (2 ^ i)) in
-    ap (λ q. q % 2 == 1) none ∙ sym (none_behind i)
+members_in [] i = no_member i ∙ sym (none_behind i)
 members_in (b ∷ bs) zero = bit_told b (mask_in bs)
 members_in (b ∷ bs) (suc i) =
     let half : (2 * mask_in bs + (if b then 1 else 0)) / 2 ≡ mask_in bs = omega (arith, bit_small b) in
@@ -105,6 +84,19 @@ same_bits (suc k) a b small less same =
   where
     shift : (x i : ℕ) → x / 2 / 2 ^ i ≡ x / 2 ^ suc i
     shift x i = div-div-eq-div-mul x 2 (2 ^ i) ∙ ap (λ p. x / p) (sym (pow-succ' 2 i))
+
+beyond : (mask n : ℕ) → ((i : ℕ) → is_member mask i ≡ true → i < n) → (i : ℕ) → is_member mask (n + i) ≡ false
+beyond mask n all i = by (is_member mask (n + i)) refl
+  where
+    by : (b : Bool) → is_member mask (n + i) ≡ b → is_member mask (n + i) ≡ false
+    by true member = absurd (omega (arith, all (n + i) member))
+    by false clear = clear
+
+-- If each image of a mask is below the shift, the shifted mask is 0.
+pub shift_below : (mask n : ℕ) → mask < 2 ^ 8 → ((i : ℕ) → is_member mask i ≡ true → i < n) → mask / 2 ^ n ≡ 0
+unfolding is_member
+shift_below mask n small all = same_bits 8 (mask / 2 ^ n) 0 (omega (arith, div-le_self mask (2 ^ n))) (omega arith)
+    (λ i. ap (λ q. q % 2 == 1) (shifted mask n i) ∙ beyond mask n all i ∙ sym (no_member i))
 
 pub same_members : (a b : ℕ) → a < 2 ^ 8 → b < 2 ^ 8 → ((i : ℕ) → is_member a i ≡ is_member b i) → a ≡ b
 unfolding is_member

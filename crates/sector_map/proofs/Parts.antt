@@ -46,17 +46,6 @@ laid_out_kept map touched old new laid keeps = record {
   size = rw (keeps.sectors, keeps.sector_size) laid.size;
 }
 
--- A call that changes nothing leaves each part unchanged.
-pub keeps_refl : (map : SectorMap) (touched : Part → Bool) (chip : Chip) → Keeps map touched chip chip
-keeps_refl map touched chip = record {
-  sector_size = refl;
-  sectors = refl;
-  fixed = refl;
-  size = refl;
-  parts = λ part e. refl;
-  behind = λ k le. refl;
-}
-
 -- A call that changes no byte leaves each part unchanged, whatever happens to power and counts.
 pub keeps_bytes : (map : SectorMap) (touched : Part → Bool) (old new : Chip) → new.sector_size ≡ old.sector_size
     → new.sectors ≡ old.sectors → new.fixed ≡ old.fixed → new.bytes ≡ old.bytes
@@ -72,6 +61,10 @@ keeps_bytes map touched old new size sectors fixed same = record {
       ((first_of map part + count_of map part) * map.sector_size)) same;
   behind = λ k le. ap (λ bytes. slice_index bytes k) same;
 }
+
+-- A call that changes nothing leaves each part unchanged.
+pub keeps_refl : (map : SectorMap) (touched : Part → Bool) (chip : Chip) → Keeps map touched chip chip
+keeps_refl map touched chip = keeps_bytes map touched chip chip refl refl refl refl
 
 -- Two calls in turn touch only what either of them may touch.
 pub keeps_trans : (map : SectorMap) (touched : Part → Bool) (old mid new : Chip) → Keeps map touched old mid

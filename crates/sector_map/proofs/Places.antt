@@ -182,12 +182,11 @@ pub first_within : (map : SectorMap) (part : Part) → IsMap map → 0 < count_o
 first_within map part fits some =
     within map part (first_of map part) fits (record { low = omega arith; high = omega arith })
 
--- a trailer is one sector ..
-pub one_sector : (map : SectorMap) (i : ℕ) (side : Side) → IsMap map → i < map.images
-    → count_of map (TrailerOf i side) ≡ 1
-one_sector map i side fits lt = omega (arith, fits.counts.some i lt)
+-- The first sectors of an image's slots and trailers are sectors of the map.
+pub slot_within : (map : SectorMap) (i : ℕ) (side : Side) → IsMap map → i < map.images
+    → first_of map (Slot i side) < sectors_of map
+slot_within map i side fits lt = first_within map (Slot i side) fits (fits.counts.some i lt)
 
--- .. which lies in it
-pub in_own_trailer : (map : SectorMap) (i : ℕ) (side : Side) → IsMap map → i < map.images
-    → IsIn map (TrailerOf i side) (first_of map (TrailerOf i side))
-in_own_trailer map i side fits lt = record { low = omega arith; high = omega (arith, fits.counts.some i lt) }
+pub trailer_within : (map : SectorMap) (i : ℕ) (side : Side) → IsMap map → i < map.images
+    → first_of map (TrailerOf i side) < sectors_of map
+trailer_within map i side fits lt = first_within map (TrailerOf i side) fits (omega (arith, fits.counts.some i lt))

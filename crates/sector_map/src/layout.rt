@@ -81,6 +81,7 @@ impl SectorMap {
     }
 
     /// Returns the address of a slot's first byte.
+    #[tactic(auto, using(crate::proofs::Places::slot_within))]
     pub fn slot_start(&self, image: u8, side: Side) -> u32
         requires { image < self.now.images }
         ensures { result ≡ start_of self.now (Slot image side) }
@@ -98,6 +99,7 @@ impl SectorMap {
     }
 
     /// Returns the address of a trailer's first byte.
+    #[tactic(auto, using(crate::proofs::Places::trailer_within))]
     pub fn trailer_start(&self, image: u8, side: Side) -> u32
         requires { image < self.now.images }
         ensures { result ≡ start_of self.now (TrailerOf image side) }
