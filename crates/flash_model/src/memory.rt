@@ -247,6 +247,7 @@ impl<L: Ledger> Flash for MemFlash<L> {
         Ok(())
     }
 
+    #[tactic(auto, using(std::proofs::lemmas::List::take_at))]
     fn program(&mut self, at: u32, bytes: &[u8]) -> Result<()>
         requires { CanProgram at (length bytes.now) (chip_of self.old) }
         ensures chip { Programs at bytes.now (chip_of self.old) (chip_of self.new) result }
@@ -271,6 +272,7 @@ impl<L: Ledger> Flash for MemFlash<L> {
         }
     }
 
+    #[tactic(auto, using(std::proofs::lemmas::List::take_at))]
     fn erase(&mut self, sector: u32) -> Result<()>
         requires { sector < (chip_of self.old).sectors }
         ensures chip { Erases sector (chip_of self.old) (chip_of self.new) result }

@@ -65,21 +65,9 @@ returns-in-Some-clause-memory g c =
     (length-torn_at c.in-Some.torn.now _ _ _ inside) (sym c.args.self.now.bytes.ok.0))
     c.add.ensures.amount refl c.saturating_add-self.ensures)
 
-pub invariant_of-self-clause-whole : goal.invariant_of-self-clause-whole
-invariant_of-self-clause-whole g c =
-    let flash = c.args.self.now in
-    let same = c.put.auto.all ∙ c.deref_mut.ensures.len in
-    ap length (take_at _ _ _ same) ∙ same ∙ flash.bytes.ok.0 ∙ flash.whole
-
 pub invariant_of-self-clause-are_bytes : goal.invariant_of-self-clause-are_bytes
 invariant_of-self-clause-are_bytes g c k =
     rw (take_at _ _ _ (c.put.auto.all ∙ c.deref_mut.ensures.len)) (c.put.ensures.are_bytes k)
-
-pub invariant_of-self-in-Some-clause-whole : goal.invariant_of-self-in-Some-clause-whole
-invariant_of-self-in-Some-clause-whole g c =
-    let flash = c.args.self.now in
-    let same = c.tear_program.auto.all ∙ c.deref_mut-in-Some.ensures.len in
-    ap length (take_at _ _ _ same) ∙ same ∙ flash.bytes.ok.0 ∙ flash.whole
 
 pub invariant_of-self-in-Some-clause-are_bytes : goal.invariant_of-self-in-Some-clause-are_bytes
 invariant_of-self-in-Some-clause-are_bytes g c k =
