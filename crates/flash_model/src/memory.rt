@@ -1,7 +1,7 @@
 //! A flash in memory that can interrupt any write.
 
-ghost use Rattle.std.specs.Prelude.{◌≡◌, ◌+◌, ◌-◌, ◌*◌, ◌/◌, ◌%◌, ◌^◌, ◌<◌, [], ℕ, All, length};
-ghost use Rattle.std.specs.Prelude.{min, replicate, slice_index, vec_len, IfOk};
+ghost use Rattle.std.specs.Prelude.{◌≡◌, ◌+◌, ◌-◌, ◌*◌, ◌/◌, ◌%◌, ◌^◌, ◌<◌, ◌≤◌, [], ℕ, All, length};
+ghost use Rattle.std.specs.Prelude.{min, replicate, slice_index, vec_len, IfOk, MatchBool};
 ghost use Rattle.flash_model.specs.Chip.{armed_with, numbers_of, reached, unarmed};
 ghost use Rattle.flash_model.specs.Written.{IsWrittenBy};
 
@@ -176,11 +176,19 @@ impl<L: Ledger> MemFlash<L> {
         requires { k < 2 ^ 64 - 1 }
         ensures { Arms k torn (chip_of self.old) (chip_of self.new) result }
     {
-        if 0 < k && k <= self.writes {
+        if self.is_over(k) {
             return Ok(());
         }
         self.armed.push(Armed { at: k, torn })?;
         Ok(())
+    }
+
+    /// Returns whether the flash took write `k`.
+    fn is_over(&self, k: u64) -> bool
+        ensures { MatchBool result ((1 ≤ k) × (k ≤ (chip_of self.now).writes))
+            (1 ≤ k → (chip_of self.now).writes < k) }
+    {
+        0 < k && k <= self.writes
     }
 
     /// Returns the number of writes that the flash took: programs and erases, including interrupted

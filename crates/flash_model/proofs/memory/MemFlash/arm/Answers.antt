@@ -1,20 +1,15 @@
-use Rattle.std.proofs.Common.{arith, ◌≤◌, ◌<◌, ◌∙◌, sym}
+use Rattle.std.proofs.Common.{◌∙◌, sym}
 use Rattle.flash_model.proofs.MemoryLaws.{below_pushed}
 use Rattle.flash_model.proofs.Reached.{reached_pushed}
 use Rattle.flash_model.specs.Chip.{unarmed}
 use Rattle.flash_model.proofs.WrittenLaws.{written_pushed}
-use Rattle.flash_model.proofs.memory.MemFlash.arm.Goals.{else-k-gt0-via-then-k-gt0+else-k-self, else-k-gt0-via-else-k-gt0}
 use Rattle.flash_model.proofs.memory.MemFlash.arm.Goals as goal
 
 pub invariant_of-self-clause-cut_as_armed : goal.invariant_of-self-clause-cut_as_armed
 invariant_of-self-clause-cut_as_armed g c =
     let flash = c.args.self.now in
-    let beside : 1 ≤ c.args.k → flash.writes < c.args.k =
-    elim c.else-k-gt0.branch [
-      | else-k-gt0-via-then-k-gt0+else-k-self w ↦ λ some. omega (arith, w.if-k-self)
-      | else-k-gt0-via-else-k-gt0 w ↦ λ some. omega (arith, some, w.if-k-gt0)
-    ] in
-    flash.cut_as_armed ∙ sym (reached_pushed _ flash.armed.items _ _ flash.writes c.push.ensures.items beside)
+    flash.cut_as_armed
+    ∙ sym (reached_pushed _ flash.armed.items _ _ flash.writes c.push.ensures.items c.if-is_over.ensures)
 
 pub invariant_of-self-clause-armed_below : goal.invariant_of-self-clause-armed_below
 invariant_of-self-clause-armed_below g c =
@@ -23,10 +18,5 @@ invariant_of-self-clause-armed_below g c =
 pub invariant_of-self-clause-written : goal.invariant_of-self-clause-written
 invariant_of-self-clause-written g c =
     let flash = c.args.self.now in
-    let beside : 1 ≤ c.args.k → flash.writes < c.args.k =
-    elim c.else-k-gt0.branch [
-      | else-k-gt0-via-then-k-gt0+else-k-self w ↦ λ some. omega (arith, w.if-k-self)
-      | else-k-gt0-via-else-k-gt0 w ↦ λ some. omega (arith, some, w.if-k-gt0)
-    ] in
     written_pushed _ _ (record unarmed { first = flash.origin.first }) _ flash.writes flash.armed.items _ _
-    c.push.ensures.items c.requires beside flash.written
+    c.push.ensures.items c.requires c.if-is_over.ensures flash.written
