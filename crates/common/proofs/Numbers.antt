@@ -1,6 +1,6 @@
 -- Lemmas by which `parse` returns the number that a text spells.
-use Rattle.std.proofs.Common.{◌≡◌, ◌≢◌, ℕ, ◌+◌, ◌^◌, ◌<◌, List, [], ◌∷◌, length, get_or, Option, Some, None, Bor, MatchResult, Result, Ok, Err, refl, sym, ap, ◌∙◌, inl, inr, arith}
-use Rattle.std.specs.Prelude.{decimal, IsUtf8, IfSome, IfNone}
+use Rattle.std.proofs.Common.{◌≡◌, ◌≢◌, ℕ, ◌+◌, ◌^◌, ◌<◌, ◌≤◌, List, [], ◌∷◌, length, get_or, Option, Some, None, Bor, MatchResult, Result, Ok, Err, refl, sym, ap, ◌∙◌, inl, inr, arith}
+use Rattle.std.specs.Prelude.{decimal, IsUtf8, IfNone, IfOk, IfSome}
 use Rattle.std.specs.Result.{result_ok}
 use Rattle.std.specs.declared.str.Utf8Error.{Utf8Error}
 use Rattle.std.specs.Str.{IsValidUpTo, valid_up_to}
@@ -77,19 +77,29 @@ same_text_at_some text (Err e) x decodes some = absurd (none-some x (sym some))
 own : IsNumeralModel (AllDigits 10) (digits_value 10)
 own = numerals_by_value (AllDigits 10) tells_digits
 
+-- If `parse` reads a text that doesn't begin so, the number is printed as the text. This holds for any
+-- width of at most 64 bits.
+pub printed_if_parsed : {E : Type 0} (bits : ℕ) (text : List ℕ) (r : Result ℕ E) → 2 ^ bits ≤ 2 ^ 64
+    → (IsPadded text → ⊥) → ParsesUnsigned bits 10 text r
+    → IfOk r (λ n. (text ≡ decimal n) × (n < 2 ^ bits))
+printed_if_parsed {E} bits text (Ok n) narrow plain parsed =
+    let p = parse_plain own {E = E} bits text (Ok n) parsed (λ plus. plain (inl plus)) in
+    let one : get_or text 0 0 ≡ 48 → length text ≡ 1 = λ zero. elim (cases_lt 1 (length text)) [
+      | inl long ↦ absurd (plain (inr (zero, long)))
+      | inr short ↦ omega (arith, p.0.1)
+    ] in
+    let printed : decimal (digits_value 10 text) ≡ text =
+    decimal-digits_value own text p.0.0 p.0.1 one (omega (arith, p.0.2, narrow)) in
+    (sym printed ∙ ap decimal (sym p.1), omega (arith, p.0.2, p.1))
+printed_if_parsed {E} bits text (Err e) narrow plain parsed = tt
+
 -- A text that doesn't begin so is read by `parse`.
 pub number_of_parsed : {E : Type 0} (text : List ℕ) (r : Result ℕ E) → (IsPadded text → ⊥)
     → ParsesUnsigned 32 10 text r
     → result_ok r ≡ number_of text
 number_of_parsed {E} text (Ok n) plain parsed =
-    let p = parse_plain own {E = E} 32 text (Ok n) parsed (λ plus. plain (inl plus)) in
-    let value = digits_value 10 text in
-    let one : get_or text 0 0 ≡ 48 → length text ≡ 1 = λ zero. elim (cases_lt 1 (length text)) [
-      | inl long ↦ absurd (plain (inr (zero, long)))
-      | inr short ↦ omega (arith, p.0.1)
-    ] in
-    let printed : decimal value ≡ text = decimal-digits_value own text p.0.0 p.0.1 one (omega (arith, p.0.2)) in
-    ap (λ (k : ℕ). Some k) p.1 ∙ sym (number_of-decimal value p.0.2) ∙ ap number_of printed
+    let p = printed_if_parsed {E = E} 32 text (Ok n) (omega arith) plain parsed in
+    sym (number_of-decimal n p.1) ∙ ap number_of (sym p.0)
 number_of_parsed {E} text (Err e) plain parsed =
     let p = parse_plain own {E = E} 32 text (Err e) parsed (λ plus. plain (inl plus)) in
     number_of-other text (λ n fits same.
