@@ -29,8 +29,8 @@ use crate::error::Result;
 ///   the driver retries or stops the device.
 /// - Reads don't drift. A unit reads the same bytes until it is written, also a unit that a power
 ///   cut left half programmed. A unit that reads erased is erased, so it can be programmed. If a
-///   part may read a torn unit differently each time, its driver has to prevent that, for example
-///   by the part's check for erased pages.
+///   part may read a torn unit differently each time, its driver has to prevent that. The part's
+///   check for erased pages is one way.
 /// - `sector_size`, `sectors` and what is `fixed` of the chip never change.
 /// - A real part has no armed writes. Each power cut of a real part is a fault: a cut that wasn't
 ///   armed.

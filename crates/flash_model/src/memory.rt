@@ -16,15 +16,14 @@ use std::sync::ledger::{Blank, Book, Ledger, Share};
 /// A flash in memory that can simulate a power cut during any write.
 ///
 /// A *write* is a program or an erase. Writes are counted from 1 since the flash was made. Write k
-/// is interrupted if `arm(k, ..)` was called before it. It then returns `Cut`, leaves exactly what
-/// was armed in its range and all other bytes unchanged, and the flash is off until `restart`. No
+/// is interrupted if `arm(k, ..)` was called before it. It then returns `Cut`, and its range holds
+/// exactly what was armed. All other bytes are unchanged, and the flash is off until `restart`. No
 /// other write is interrupted.
 ///
 /// A write that the flash refuses because it is off isn't counted. `writes` counts an interrupted
 /// write, and `erases` doesn't.
 ///
-/// Reading, writing and restarting don't allocate. The flash has its bytes from its making on, and
-/// what interrupted writes leave from `arm` on.
+/// Only `new` and `arm` allocate.
 ///
 /// Contracts see it as a `Chip` (`chip_of`), which has the armed writes in the order of their
 /// arming. Whatever code calls the flash, it counts exactly one cut for each armed write that it
