@@ -15,7 +15,7 @@ use std::sync::ledger::{Blank, Book, Ledger, Share};
 ///
 /// A *write* is a program or an erase. Writes are counted from 1 since the flash was made. A write
 /// is interrupted if the table has a row for it, and the first such row counts. The write then
-/// returns `Cut`, leaves in its range exactly what the row says and all other bytes unchanged, and
+/// returns `Cut`, and its range holds exactly what the row says. All other bytes are unchanged, and
 /// the flash is off until `restart`. No other write is interrupted. A write that the flash refuses
 /// because it is off isn't counted.
 ///
