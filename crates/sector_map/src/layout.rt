@@ -19,12 +19,14 @@ pub enum Side {
 /// The places of the parts of a device on its flash, by the length of a sector and the sectors of
 /// each image.
 ///
-/// The two slots of an image have the same number of sectors. The order of the parts, by address,
-/// is:
+/// The order of the parts, by address, is:
 /// - for each image its primary slot, and one sector for the slot's trailer;
 /// - for each image its secondary slot, and one sector for the slot's trailer;
 /// - one scratch sector;
 /// - three sectors of the log.
+///
+/// The two slots of an image have the same number of sectors. Sectors and images are numbered from
+/// 0. Calls take only images and sectors that the map has. Addresses are in bytes.
 #[derive(Clone, Copy, Debug, PartialEq, Eq)]
 pub struct SectorMap {
     /// The length of a sector in bytes.
