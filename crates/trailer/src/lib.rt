@@ -14,7 +14,7 @@
 //! (`docs/FORMATS.md`, "Trailer").
 //!
 //! Any other write that a power cut interrupts leaves any bytes in its own unit, or in its sector
-//! if it is an erase, and all other bytes unchanged. A program changes trailers only through the
+//! if it is an erase. All other bytes are unchanged. A program changes trailers only through the
 //! device (`boot_core`).
 #![tactic(auto)]
 

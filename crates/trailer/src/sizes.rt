@@ -59,8 +59,10 @@ pub fn write_size<F: Flash>(
 }
 
 /// Reads `swap_size` of a trailer: the number of bytes of each slot that a swap moves. It is `None`
-/// if the unit is erased, if its number isn't from 1 to the slot's length, or if its last four
-/// bytes aren't zero.
+/// in each of these cases:
+/// - The unit is erased.
+/// - Its number isn't from 1 to the slot's length.
+/// - Its last four bytes aren't zero.
 ///
 /// The map is laid out on the flash. Images are numbered from 0, and the map has this image.
 ///

@@ -41,9 +41,11 @@ fn standing_kind(trailer: &Trailer, is_filled: bool) -> Option<Kind>
     }
 }
 
-/// Returns the pending request for an image, if there is one. A request is pending if the magic of
-/// the secondary trailer is good, its withdrawn unit is erased, and the first unit of the secondary
-/// slot is set, that is, not all 0xFF. It is permanent if `image_ok` is set.
+/// Returns the pending request for an image, if there is one. It is permanent if `image_ok` is set.
+/// A request is pending if all of these conditions hold:
+/// - The magic of the secondary trailer is good.
+/// - The withdrawn unit of the secondary trailer is erased.
+/// - The first unit of the secondary slot is set, that is, not all of its bytes are 0xFF.
 ///
 /// The map is laid out on the flash. Images are numbered from 0, and the map has this image.
 ///
