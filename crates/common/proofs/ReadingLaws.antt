@@ -112,9 +112,8 @@ said_by_run line_of place Says lines spells state final (text ∷ texts) done =
     let grown = spells.grows state first.0 placed.0 placed.2 in
     (placed.0 ∷ others.0, others.1 ∙ ap (λ (ls : List _). ls ++ others.0) grown ∙ simp append_assoc, (spells.spelled text placed.0 placed.1, others.2))
 
--- The number of the line at which reading stops is the one that a refusal names. This needs that a
--- text of the kind is read completely, and that each text that was read is a prefix of one of the
--- kind.
+-- The number of the line at which reading stops is the one that a refusal names. Two conditions are
+-- needed: a text of the kind is read completely, and each text that was read is a prefix of one.
 pub IsFirstBadLine-stops : {S : Type 0} (IsText : List ℕ → Type 0) (step : S → List ℕ → Option S) (state : S)
     → ((bytes : List ℕ) → IsText bytes → (final : S) × (run step state (lines_of bytes) ≡ Some final))
     → ((lines : List (List ℕ)) (final : S) → AreLines lines → run step state lines ≡ Some final → Begins IsText lines)

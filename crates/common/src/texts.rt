@@ -11,10 +11,13 @@ const MOST_PRINTED: usize = 1 << 12;
 /// A text that is printed in one line, with each character escaped that could change how a terminal
 /// shows the line.
 ///
-/// These are the control characters, line feeds included, the separators of lines and of
-/// paragraphs, and the characters that change the direction of the text after them. They are
-/// escaped as `char::escape_default` does: `\n`, `\u{1b}`, `\u{2028}`, `\u{202e}`. All other
-/// characters are printed unchanged.
+/// These characters are escaped as `char::escape_default` does (`\n`, `\u{1b}`, `\u{2028}`,
+/// `\u{202e}`):
+/// - control characters, line feeds included;
+/// - the separators of lines and of paragraphs;
+/// - characters that change the direction of the text after them.
+///
+/// All other characters are printed unchanged.
 ///
 /// If more than 4,096 bytes would be printed, `...` replaces the middle. At most 2,048 bytes are
 /// printed before it, and at most 2,048 bytes after it.
