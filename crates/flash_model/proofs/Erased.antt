@@ -1,8 +1,8 @@
 -- Lemmas about erased ranges.
-use Rattle.std.proofs.Common.{◌≡◌, ◌⊎◌, ◌≢◌, ℕ, zero, suc, ◌+◌, ◌-◌, ◌<◌, ◌≤◌, ◌==◌, ◌&&◌, Bool, true, false}
+use Rattle.std.proofs.Common.{◌≡◌, ◌⊎◌, ℕ, zero, suc, ◌+◌, ◌-◌, ◌<◌, ◌≤◌, ◌==◌, ◌&&◌, Bool, true, false}
 use Rattle.std.proofs.Common.{List, [], ◌∷◌, length}
-use Rattle.std.proofs.Common.{slice_index, arith, refl, sym, ◌∙◌, ap, inl, inr, ⊎_elim}
-use Rattle.std.proofs.lemmas.Bool.{cases_eq, cases_lt}
+use Rattle.std.proofs.Common.{slice_index, arith, refl, sym, ◌∙◌, ap, inr, ⊎_elim}
+use Rattle.std.proofs.lemmas.Bool.{cases_lt}
 use Rattle.std.proofs.lemmas.Bool.Decides.{nat_tests}
 use Rattle.flash_model.specs.Chip.{Chip, Reads, IsErased, SameOutside}
 use Rattle.flash_model.specs.Units.{are_erased}
@@ -30,10 +30,6 @@ each_erased [] each = refl
 each_erased (b ∷ bytes) each =
     ap (λ t. t && are_erased bytes) (eq_true b 0xff (each 0 (omega arith))) ∙ each_erased bytes
     (λ k lt. each (suc k) (omega (arith, lt)))
-
--- A range of no bytes is erased.
-pub erased_none : (chip : Chip) (at : ℕ) → IsErased chip at 0
-erased_none chip at = record { each = λ k low high. absurd (omega arith) }
 
 -- A range inside an erased range is erased.
 pub erased_narrower : (chip : Chip) (at n from m : ℕ)
@@ -77,23 +73,3 @@ pub reads_of_erased : (chip : Chip) (at : ℕ) (bytes : List ℕ) → Reads chip
     → IsErased chip at (length bytes) → are_erased bytes ≡ true
 reads_of_erased chip at bytes reads erased = each_erased bytes
     (λ i lt. sym (reads.each (at + i) i refl lt) ∙ erased.each (at + i) (omega arith) (omega arith))
-
--- A range is erased or it isn't.
-pub erased_or : (chip : Chip) (at n : ℕ) → IsErased chip at n ⊎ (IsErased chip at n → ⊥)
-erased_or chip at zero = inl (erased_none chip at)
-erased_or chip at (suc n) = ⊎_elim
-    (λ (front : IsErased chip at n). ⊎_elim
-    (λ (is : slice_index chip.bytes (at + n) ≡ 0xff). inl (record {
-      each = λ k low high. ⊎_elim
-          (λ (before : k < at + n). front.each k low before)
-          (λ (behind : at + n ≤ k).
-          let same : k ≡ at + n = omega arith in
-          ap (λ x. slice_index chip.bytes x) same ∙ is)
-          (cases_lt k (at + n));
-    }))
-    (λ (other : slice_index chip.bytes (at + n) ≢ 0xff).
-    inr (λ all. other (all.each (at + n) (omega arith) (omega arith))))
-    (cases_eq (slice_index chip.bytes (at + n)) 0xff))
-    (λ (torn : IsErased chip at n → ⊥).
-    inr (λ all. torn (record { each = λ k low high. all.each k low (omega arith) })))
-    (erased_or chip at n)

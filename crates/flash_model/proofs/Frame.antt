@@ -1,6 +1,6 @@
 -- Lemmas about what a write leaves outside its range.
 use Rattle.std.proofs.Common.{◌≡◌, ◌≢◌, ◌⊎◌, ℕ, ◌+◌, ◌*◌, ◌<◌, ◌≤◌, List, length}
-use Rattle.std.proofs.Common.{refl, sym, ◌∙◌, ap, arith, inl, inr, ⊎_elim}
+use Rattle.std.proofs.Common.{refl, ◌∙◌, ap, arith, inl, inr, ⊎_elim}
 use Rattle.std.proofs.lemmas.Bool.{cases_lt}
 use Rattle.flash_model.specs.Chip.{Chip, Reads, SameOutside, SameSector, SectorIs}
 
@@ -13,17 +13,6 @@ same_outside_refl at n chip = record {
   size = refl;
   before = λ k low. refl;
   after = λ k high. refl;
-}
-
--- Each of the two chips is as the other one outside the range.
-pub same_outside_sym : (at n : ℕ) (old new : Chip) → SameOutside at n old new → SameOutside at n new old
-same_outside_sym at n old new same = record {
-  sector_size = sym same.sector_size;
-  sectors = sym same.sectors;
-  fixed = sym same.fixed;
-  size = sym same.size;
-  before = λ k low. sym (same.before k low);
-  after = λ k high. sym (same.after k high);
 }
 
 -- Two writes of the same range leave all bytes outside it unchanged.
