@@ -1,10 +1,10 @@
--- What is read of an input up to a limit.
+-- Laws of reading an input up to a limit.
 use Rattle.std.proofs.Common.{◌≡◌, ℕ, ◌+◌, ◌-◌, ◌<◌, ◌≤◌, List, [], ◌++◌, Option, None, Some, IfSome, ap, arith, drop, length, option_map, refl, slice_range, subst, sym, take, ◌∙◌}
 use Rattle.std.proofs.lemmas.List.{append_assoc, drop_at, length-append, length-take, take-append-drop, take_all, take_at}
 use Rattle.host.specs.Input.{IsKnownAs, IsKnownPart}
 use Rattle.host.specs.Passing.{BeginsWith, Passes}
 
--- where fewer bytes came behind none than the limit, all came
+-- If fewer bytes than the limit were read into an empty list, they are the complete input.
 pub IsKnownAs-below : (held : Option (List ℕ)) (limit : ℕ) (start bytes : List ℕ) → start ≡ []
     → IfSome (option_map (take limit) held) (λ xs. bytes ≡ start ++ xs) → length bytes < limit
     → IsKnownAs held bytes
@@ -15,12 +15,12 @@ IsKnownAs-below (Some xs) limit start bytes none read few =
     let all : length xs ≤ limit = omega (arith, short, length-take limit xs) in
     same ∙ take_all limit xs all
 
--- what is filled whole is as long as it was
+-- A list that is filled completely has its old length.
 pub length-filled : (new old : List ℕ) (n : ℕ) → length new ≡ n
     → length (take n (new ++ drop (length new) old)) ≡ n
 length-filled new old n same = ap length (take_at new (drop (length new) old) n same) ∙ same
 
--- what came behind none up to a limit is what was left at the front
+-- The bytes that were read into an empty list up to a limit are a prefix of the input.
 pub BeginsWith-read : (held : Option (List ℕ)) (limit : ℕ) (start bytes : List ℕ) → start ≡ []
     → IfSome (option_map (take limit) held) (λ xs. bytes ≡ start ++ xs) → BeginsWith held bytes
 BeginsWith-read None limit start bytes none read = tt
@@ -28,12 +28,12 @@ BeginsWith-read (Some xs) limit start bytes none read =
     let same : bytes ≡ take limit xs = subst (λ s. bytes ≡ s ++ take limit xs) none read in
     (drop limit xs, sym (take-append-drop limit xs) ∙ ap (λ b. b ++ drop limit xs) (sym same))
 
--- nothing was passed
+-- Nothing was passed over.
 pub Passes-none : (held : Option (List ℕ)) → Passes held held 0
 Passes-none None = ([], refl, tt)
 Passes-none (Some xs) = ([], refl, refl)
 
--- what is passed over in one block, and then in another
+-- Passing over `count` bytes and then a block of `size` bytes passes over their sum.
 pub Passes-more : (old mid new : Option (List ℕ)) (count size all : ℕ) → all ≡ count + size
     → Passes old mid count → Passes mid new size → Passes old new all
 Passes-more None mid new count size all sum (bytes, many, gone) (block, long, more) =
@@ -46,7 +46,7 @@ Passes-more (Some xs) (Some ys) (Some zs) count size all sum (bytes, many, gone)
   gone ∙ ap (λ l. bytes ++ l) more ∙ sym (append_assoc bytes block zs),
 )
 
--- what comes behind what was passed is the part from there on
+-- The bytes after those that were passed over are the part from there on.
 pub IsKnownPart-next : (old mid : Option (List ℕ)) (from count : ℕ) (part : List ℕ)
     → Passes old mid from → length part ≡ count → BeginsWith mid part
     → IsKnownPart old from count part

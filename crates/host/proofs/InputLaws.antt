@@ -1,4 +1,4 @@
--- What sources give that are read one after the other.
+-- Laws of sources that are read one after the other.
 use Rattle.std.proofs.Common.{ℕ, List, [], ◌∷◌, Bool, Option, None, Some, refl, ◌∙◌}
 use Rattle.std.specs.Io.KnownBytes.{Keeps}
 use Rattle.host.specs.declared.source.Source.{Source}
@@ -7,14 +7,14 @@ use Rattle.host.specs.Input.{FileBytes, GiveBoth, Gives, IsKnownAs, KeepsFiles, 
 use Rattle.host.specs.Doings.{IsApartFrom, KeepsApart, KeepsSource}
 use Rattle.host.specs.Inputs.{GiveEach}
 
--- known bytes that were kept are those that were known before
+-- If known contents were kept, what is known after the call was known before it.
 pub IsKnownAs-kept : (old new : Option (List ℕ)) (bytes : List ℕ)
     → Keeps old new → IsKnownAs new bytes → IsKnownAs old bytes
 IsKnownAs-kept None new bytes kept known = tt
 IsKnownAs-kept (Some xs) None bytes kept known = absurd kept
 IsKnownAs-kept (Some xs) (Some ys) bytes kept known = known ∙ kept
 
--- what a source gives after a read that kept it, it gave before
+-- If a call kept everything, a source gives the same bytes before and after it.
 pub Gives-kept : (source : Source) (input new_input : Option (List ℕ)) (file new_file : FileBytes)
     (bytes : List ℕ) → Keeps input new_input → KeepsFiles file new_file
     → Gives source new_input new_file bytes → Gives source input file bytes
@@ -23,7 +23,7 @@ Gives-kept StandardInput input new_input file new_file bytes input_kept files_ke
 Gives-kept (File name) input new_input file new_file bytes input_kept files_kept given =
     IsKnownAs-kept (file name.now) (new_file name.now) bytes (files_kept name.now) given
 
--- two sources, read one after the other
+-- Two sources are read one after the other.
 pub GiveBoth-read : (first second : Source) (input mid_input : Option (List ℕ))
     (file mid_file : FileBytes) (bytes more : List ℕ)
     → Gives first input file bytes → KeepsOthers first input file mid_input mid_file
@@ -32,7 +32,7 @@ GiveBoth-read StandardInput second input mid_input file mid_file bytes more give
 GiveBoth-read (File name) second input mid_input file mid_file bytes more given kept then =
     (given, Gives-kept second input mid_input file mid_file more kept.0 kept.1 then)
 
--- what sources give after a read that kept it, they gave before
+-- If a call kept everything, several sources give the same bytes before and after it.
 pub GiveEach-kept : (sources : List Source) (input new_input : Option (List ℕ))
     (file new_file : FileBytes) (contents : List (List ℕ)) → Keeps input new_input
     → KeepsFiles file new_file → GiveEach sources new_input new_file contents
@@ -47,7 +47,7 @@ GiveEach-kept (File name ∷ rest) input new_input file new_file (bytes ∷ more
   GiveEach-kept rest input new_input file new_file more input_kept files_kept given.1,
 )
 
--- a source that is read, and others after it
+-- A source is read, and then the others.
 pub GiveEach-read : (source : Source) (rest : List Source) (input mid_input : Option (List ℕ))
     (file mid_file : FileBytes) (bytes : List ℕ) (more : List (List ℕ))
     → Gives source input file bytes → KeepsOthers source input file mid_input mid_file
@@ -56,13 +56,13 @@ GiveEach-read StandardInput rest input mid_input file mid_file bytes more given 
 GiveEach-read (File name) rest input mid_input file mid_file bytes more given kept then =
     (given, GiveEach-kept rest input mid_input file mid_file more kept.0 kept.1 then)
 
--- one source that is read
+-- A single source is read.
 pub GiveEach-one : (source : Source) (input : Option (List ℕ)) (file : FileBytes) (bytes : List ℕ)
     → Gives source input file bytes → GiveEach (source ∷ []) input file (bytes ∷ [])
 GiveEach-one StandardInput input file bytes given = given
 GiveEach-one (File name) input file bytes given = (given, tt)
 
--- what is known, and was kept twice
+-- What two calls kept one after the other is kept by both together.
 pub kept_twice : (known mid new : Option (List ℕ)) → Keeps known mid → Keeps mid new → Keeps known new
 kept_twice None mid new first second = tt
 kept_twice (Some xs) None new first second = absurd first
@@ -81,7 +81,7 @@ pub KeepsFiles-twice : (old mid new : FileBytes) → KeepsFiles old mid → Keep
 KeepsFiles-twice old mid new first second =
     λ name. kept_twice (old name) (mid name) (new name) (first name) (second name)
 
--- where all files were kept, each was that is read, and that isn't the one of a name
+-- If a call kept all files, it kept the file that is read, and the files apart from a name.
 pub KeepsSource-kept : (source : Source) (old new : FileBytes) → KeepsFiles old new
     → KeepsSource source old new
 KeepsSource-kept StandardInput old new kept = tt
@@ -91,7 +91,7 @@ pub KeepsApart-kept : (apart : List ℕ → Bool) (old new : FileBytes) → Keep
     → KeepsApart apart old new
 KeepsApart-kept apart old new kept = λ other _. kept other
 
--- what is read stays where a file was replaced that is another
+-- If a replaced file isn't the source, the source keeps its contents.
 pub KeepsSource-apart : (source : Source) (name : List ℕ) (apart : List ℕ → List ℕ → Bool)
     (old mid new : FileBytes) → KeepsFiles old mid → IsApartFrom apart name source
     → KeepsApart (apart name) mid new → KeepsSource source old new

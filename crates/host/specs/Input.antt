@@ -1,45 +1,43 @@
--- What a host is known to hold: what is left of its standard input, and what each of its files
--- holds.
+-- What a host is known to hold: the rest of its standard input, and the contents of its files.
 use Rattle.std.specs.Prelude.{◌≡◌, ◌≢◌, ℕ, ◌+◌, ◌≤◌, List, length, Option, IfSome, codes, slice_range}
 use Rattle.std.specs.Io.KnownBytes.{Keeps}
 use Rattle.host.specs.declared.source.Source.{Source}
 use Rattle.host.specs.declared.source.Source.TheVariants.{StandardInput, File}
 
--- The source that a word names: `-` is standard input, and any other word the file of that name.
+-- A word names this source: `-` is standard input, and any other word is the name of a file.
 abbrev pub IsNamed : List ℕ → Source → Type 0
 IsNamed word StandardInput = word ≡ codes "-"
 IsNamed word (File name) = (word ≢ codes "-") × (name.now ≡ word)
 
--- The sources that two words name.
+-- Two words name these two sources.
 abbrev pub AreNamed : List ℕ → List ℕ → Source → Source → Type 0
 AreNamed first second one other = IsNamed first one × IsNamed second other
 
--- What the files of a host hold, by their names.
+-- The contents of the files of a host by their names, as far as they are known.
 abbrev pub FileBytes : Type 0
 FileBytes = List ℕ → Option (List ℕ)
 
--- These bytes are the known ones, where any are known.
+-- If the contents are known, they are these bytes.
 abbrev pub IsKnownAs : Option (List ℕ) → List ℕ → Type 0
 IsKnownAs known bytes = IfSome known (λ held. bytes ≡ held)
 
--- These are so many of the known bytes, from that number on, where any are known; and always so
--- many.
+-- These are exactly `count` bytes. If the contents are known, they are those from `from` on.
 pub record IsKnownPart (known : Option (List ℕ)) (from count : ℕ) (part : List ℕ) : Type 0 where
   pub many : length part ≡ count
   pub there : IfSome known (λ held. from + count ≤ length held)
   pub same : IfSome known (λ held. part ≡ slice_range held from (from + count))
 
--- Each file whose bytes are known keeps them.
+-- Each file keeps its known contents.
 abbrev pub KeepsFiles : FileBytes → FileBytes → Type 0
 KeepsFiles old new = (name : List ℕ) → Keeps (old name) (new name)
 
--- These bytes are all that a source holds: what is left of standard input, or the file of its name.
+-- These bytes are all that a source holds: the rest of standard input, or the file of its name.
 abbrev pub Gives : Source → Option (List ℕ) → FileBytes → List ℕ → Type 0
 Gives StandardInput input file bytes = IsKnownAs input bytes
 Gives (File name) input file bytes = IsKnownAs (file name.now) bytes
 
--- These are the bytes of two sources that are read one after the other. What a file holds once
--- standard input was read is not said.
+-- These are the bytes of two sources that are read one after the other. Nothing is said of the
+-- second source if the first is standard input.
 abbrev pub GiveBoth : Source → Source → Option (List ℕ) → FileBytes
     → List ℕ → List ℕ → Type 0
 GiveBoth StandardInput second input file first_bytes second_bytes =
@@ -47,7 +45,7 @@ GiveBoth StandardInput second input file first_bytes second_bytes =
 GiveBoth (File name) second input file first_bytes second_bytes =
     Gives (File name) input file first_bytes × Gives second input file second_bytes
 
--- What stays of a host where a source was read: all of it, where the source is a file.
+-- What a host keeps when a source is read: if the source is a file, everything that is known.
 abbrev pub KeepsOthers : Source → Option (List ℕ) → FileBytes
     → Option (List ℕ) → FileBytes → Type 0
 KeepsOthers StandardInput input file new_input new_file = Unit {0}

@@ -1,4 +1,4 @@
--- The exit status, by what a command came to.
+-- The exit status of a command by its answer or its refusal.
 use Rattle.std.specs.Prelude.{◌≡◌, ◌⊎◌, ℕ, Result, Ok, Err}
 use Rattle.host.specs.declared.answer.Answer.{Answer}
 use Rattle.host.specs.declared.answer.Answer.TheVariants.{Done, Refused, Cut}
@@ -36,6 +36,6 @@ abbrev pub status_of : Result Answer Refusal → ℕ
 status_of (Ok answer) = status_of_answer answer
 status_of (Err refusal) = status_of_refusal refusal
 
--- A command that came to this ends with its status, or with 1 where a write failed.
+-- A command with this outcome ends with its status, or with 1.
 abbrev pub Ends : Result Answer Refusal → ℕ → Type 0
 Ends outcome status = (status ≡ status_of outcome) ⊎ (status ≡ 1)

@@ -1,4 +1,4 @@
-//! What comes of a command: its answer or its refusal, and the exit status.
+//! How a command ends: its answer or its refusal, and the exit status.
 ghost use Rattle.std.specs.Prelude.{◌≡◌, ◌⊎◌, Ok, is_ok, if◌then◌else◌};
 ghost use Rattle.std.specs.Io.KnownBytes.{Keeps};
 ghost use Rattle.host.specs.Status.{Ends, status_of_answer, status_of_refusal};
@@ -7,31 +7,31 @@ use crate::error::Refusal;
 use std::io;
 use std::io::Write;
 
-/// What was asked for is done.
+/// The command did what it was asked to do.
 const DONE: u8 = 0;
 
-/// The program refused, or could not write what it had to say.
+/// The program refused, or it could not write its output.
 const REFUSED: u8 = 1;
 
-/// The last thing that a run came to is that the power failed.
+/// The last event of a run was a power failure.
 const CUT: u8 = 3;
 
-/// The flash file could not be made, or not be written.
+/// The flash file could not be made or written.
 const FLASH_FILE_FAILED: u8 = 4;
 
-/// A command wrote its answer to standard output.
+/// What the text says that a command wrote to standard output.
 #[derive(Clone, Copy)]
 pub enum Answer {
-    /// What was asked for is done.
+    /// The command did what it was asked to do.
     Done,
-    /// The answer is a refusal, or a no.
+    /// The text is a refusal or a no.
     Refused,
-    /// The answer is that of a run, and the last that it says is that the power failed.
+    /// The text is the result of a run, and its last line says that the power failed.
     Cut,
 }
 
 impl Answer {
-    /// The exit status after this answer.
+    /// Returns the exit status after this answer.
     fn status(self) -> u8
         ensures { result ≡ status_of_answer self }
     {
@@ -43,11 +43,11 @@ impl Answer {
     }
 }
 
-/// Brings a command to its end, and returns the exit status: an answer is flushed, and a refusal is
-/// an error line. Standard output holds what it held.
+/// Ends a command and returns the exit status. An answer is flushed, and a refusal is written as an
+/// error line. The contents of standard output stay as they are.
 ///
-/// The status is that of the answer or the refusal, or 1 where a write failed; after that nothing
-/// more is written. So it is 0 only where the answer is `Done` and was flushed.
+/// The status is that of the answer or the refusal, or 1 if a write failed. Nothing more is written
+/// after a failed write. Therefore the status is 0 only if the answer is `Done` and was flushed.
 pub fn finish<O: Write, E: Write>(outcome: &Result<Answer, Refusal>, out: &mut O, err: &mut E) -> u8
     ensures status { result ≡ 0 → outcome.now ≡ Ok Answer.Done }
     ensures ends { Ends outcome.now result }
@@ -60,8 +60,7 @@ pub fn finish<O: Write, E: Write>(outcome: &Result<Answer, Refusal>, out: &mut O
     }
 }
 
-/// Writes the error line of a refusal, and returns the exit status: that of the refusal, or 1 where
-/// a write failed.
+/// Writes the error line of a refusal and returns its exit status, or 1 if a write failed.
 pub fn refuse<E: Write>(refusal: &Refusal, err: &mut E) -> u8
     ensures { (result ≡ status_of_refusal refusal.now) ⊎ (result ≡ 1) }
 {
@@ -77,7 +76,7 @@ fn write_line<E: Write>(refusal: &Refusal, err: &mut E) -> io::Result<()> {
     err.flush()
 }
 
-/// The exit status where `written` is what came of the last writes: `status`, unless one failed.
+/// Returns the exit status after the last writes: `status`, or 1 if `written` is an error.
 pub fn status_after(written: io::Result<()>, status: u8) -> u8
     ensures { result ≡ (if is_ok written then status else 1) }
 {

@@ -1,5 +1,4 @@
-//! What the program asks of the system: the bytes of files and of standard input, and the file of a
-//! flash.
+//! The trait by which a command reads files and standard input, and writes the file of a flash.
 ghost use Rattle.std.specs.Prelude.{◌≡◌, ◌≤◌, Bool, IfErr, IfOk, IfSome, IsTrue, List, ℕ, None, OnOk, Option, false, length, true};
 ghost use Rattle.std.specs.Io.KnownBytes.{Keeps};
 ghost use Rattle.std.specs.IoError.{error_kind};
@@ -13,13 +12,13 @@ use std::io;
 /// What the file of a flash is opened for.
 #[derive(Clone, Copy, PartialEq, Eq)]
 pub enum Access {
-    /// It is read. Other programs may read it at the same time.
+    /// To be read. Other programs may read it at the same time.
     Read,
-    /// It is read and then written. No other program may use it at the same time. What is written
-    /// to a block device is on the medium before the write is done; of a plain file the system may
-    /// keep it for a while.
+    /// To be read and then written. No other program may use it at the same time. A write to a
+    /// block device is on the medium before it returns. The system may delay a write to a plain
+    /// file.
     Write,
-    /// The same, and what is written to a plain file is on the disk too before the write is done.
+    /// The same as `Write`, but a write to a plain file is on the disk too before it returns.
     WriteDurably,
 }
 
@@ -28,18 +27,18 @@ pub enum Access {
 pub enum Replaced {
     /// A plain file.
     PlainFile,
-    /// A plain file or a block device. A device is written in place.
+    /// A plain file or a block device. A block device is written in place.
     FlashFile,
 }
 
-/// Why the file of a flash can't be had, or not be replaced. It is as it was, but for a block
-/// device of which a write failed, and for a file whose name could not be made to last.
+/// Why the file of a flash can't be opened or replaced. The file is unchanged, with two exceptions:
+/// a block device to which a write failed, and a file whose folder could not be synced.
 #[derive(Clone, Copy)]
 pub enum FlashFault {
-    /// Another program uses it, has made or replaced it meanwhile, or the system uses the block
-    /// device itself.
+    /// Another program uses it, has made it or has replaced it meanwhile, or the system itself uses
+    /// the block device.
     InUse,
-    /// It isn't as long as the flash.
+    /// Its length isn't that of the flash.
     WrongLength,
     /// Memory ran out.
     NoMemory,
@@ -47,41 +46,41 @@ pub enum FlashFault {
     Failed(io::Error),
 }
 
-/// Where the program's input comes from, and the file of a flash that it writes. A test stands in
-/// for the system with bytes in memory.
+/// The files and the standard input of a command. A test implements it with bytes in memory.
 ///
-/// What a host is known to hold and to have done are ghosts, each with a default for one that tells
-/// no more. What `write_flash` does isn't among them: it goes through a shared reference, since what
-/// a script names is read while a flash is written.
+/// The ghost fields say what a host is known to hold and to have done. Each has a default for a
+/// host that says nothing about it. There is none for `write_flash`, because that takes a shared
+/// reference: the files of a script are read while a flash is written.
 ///
-/// Where a file or standard input is read, an error of kind `OutOfMemory` says that memory ran out,
-/// and any other that the read failed; but of a part one of kind `FileTooLarge` says that it, or what
-/// is read up to its end, is longer than the most that is read of a file.
+/// When a read fails, an error of kind `OutOfMemory` means that memory ran out, and any other kind
+/// means that the read itself failed. There is one exception: an error of kind `FileTooLarge` when
+/// a part is read. It means that the part is longer than the most that is read of a file, or ends
+/// after that many bytes.
 pub trait Host {
-    // What is left of standard input, where it is known.
+    // The bytes of standard input that aren't read yet, if they are known.
     ghost input: { Self → Option (List ℕ) } = { λ _. None };
 
-    // What the file of a name holds, where it is known. It isn't known of a block device, since a
-    // write that fails may leave a part of what was to be written, nor of a file that a flash is
-    // written to, nor of one whose folder may fail to be synced behind its replacement.
+    // The contents of the file of a name, if they are known. They aren't known in three cases: of a
+    // block device, since a failed write may leave a part of its bytes; of a file to which a flash
+    // is written; and of a file whose folder may fail to be synced after the file is replaced.
     ghost file: { Self → List ℕ → Option (List ℕ) } = { λ _ _. None };
 
     // How files of flashes were opened, as far as that is known.
     ghost opened: { Self → Openings } = { λ _. no_openings };
 
-    // Whether all that was written to the file of a flash is on its medium, as a sync said that
-    // succeeded. A host that tells no more takes it to be.
+    // Whether all that was written to the file of a flash is on its medium, because a sync
+    // succeeded. The default is that it is.
     ghost synced: { Self → Bool } = { λ _. true };
 
-    // Whether two names are of different files. A host that doesn't tell what files hold may take
-    // any two to be.
+    // Whether two names are of different files. The default for a host that doesn't say what its
+    // files hold is that any two are.
     ghost apart: { Self → List ℕ → List ℕ → Bool } = { λ _ _ _. true };
 
-    // Whether the file of a name is a plain one. A host that tells no more takes each to be.
+    // Whether the file of a name is a plain file. The default is that each is.
     ghost plain: { Self → List ℕ → Bool } = { λ _ _. true };
 
-    /// The bytes of the file of this name, in memory of `alloc`: all of them where it has at most
-    /// `most`, and else one more than that, from its front. No others are read.
+    /// Reads the file of this name into memory of `alloc`. Returns all its bytes if there are at
+    /// most `most`, and else its first `most + 1` bytes. No others are read.
     fn read_file(&mut self, alloc: Global, name: &str, most: u32) -> io::Result<Vec<u8>>
         ensures bytes { IfOk result (λ bytes. length bytes.items ≤ most
             → IsKnownAs (file self.old name.now) bytes.items) }
@@ -89,21 +88,21 @@ pub trait Host {
         ensures input { Keeps (input self.old) (input self.new) }
         ensures opened { opened self.new ≡ opened self.old };
 
-    /// What is left of standard input, in memory of `alloc`: all of it where that is at most `most`
-    /// bytes, and else one more than that. No more is read.
+    /// Reads the rest of standard input into memory of `alloc`. Returns all of it if that is at
+    /// most `most` bytes, and else the next `most + 1` bytes. No more is read.
     fn read_input(&mut self, alloc: Global, most: u32) -> io::Result<Vec<u8>>
         ensures bytes { IfOk result (λ bytes. length bytes.items ≤ most
             → IsKnownAs (input self.old) bytes.items) }
         ensures files { KeepsFiles (file self.old) (file self.new) }
         ensures opened { opened self.new ≡ opened self.old };
 
-    /// The same as `read_file`, while the host is lent to others too.
+    /// Does the same as `read_file` through a shared reference.
     fn read_again(&self, alloc: Global, name: &str, most: u32) -> io::Result<Vec<u8>>
         ensures { IfOk result (λ bytes. length bytes.items ≤ most
             → IsKnownAs (file self.now name.now) bytes.items) };
 
-    /// So many bytes of the file of this name, from its byte `from` on, in memory of `alloc`. No
-    /// other byte of a plain file is read. There are none where the file doesn't have them.
+    /// Reads `count` bytes of the file of this name from byte `from` on, into memory of `alloc`.
+    /// Returns `None` if the file doesn't have them. No other byte of a plain file is read.
     fn read_part(
         &self,
         alloc: Global,
@@ -114,32 +113,32 @@ pub trait Host {
         ensures { IfOk result (λ read. IfSome read (λ part.
             IsKnownPart (file self.now name.now) from count part.items)) };
 
-    /// Whether the file of this name is a plain one, which can be read as often as one likes. A
-    /// pipe gives its bytes once. An error of kind `NotFound` says that there is no such file.
+    /// Returns whether the file of this name is a plain one, which can be read again. A pipe gives
+    /// its bytes once. An error of kind `NotFound` means that there is no such file.
     fn is_plain(&self, name: &str) -> io::Result<bool>
         ensures plain { IfOk result (λ is. is ≡ true → IsTrue (plain self.now name.now)) }
         ensures missing { IfErr result (λ error. error_kind error ≡ NotFound
             → file self.now name.now ≡ None) };
 
-    /// How many bytes the file of this name has. It is a plain one or a block device. The notes on a
-    /// file of another length than is asked for say it, and no answer depends on it.
+    /// Returns the length in bytes of the file of this name, a plain one or a block device. It is
+    /// printed in the notes about a file of a wrong length, and no answer depends on it.
     fn length_of(&self, name: &str) -> io::Result<u64>;
 
-    /// Whether two names are of one file that is there, also where it has several names.
+    /// Returns whether two names are of one existing file, which may have several names.
     fn is_same_file(&self, one: &str, other: &str) -> io::Result<bool>
         ensures { IfOk result (λ is. is ≡ false → AreApart (apart self.now) one.now other.now) };
 
-    /// Whether standard input is the file of this name, as far as that can be known: a system may
-    /// not tell of what standard input is.
+    /// Returns whether standard input is the file of this name, as far as that can be known. A
+    /// system may not say which file standard input is.
     fn is_input(&self, name: &str) -> io::Result<bool>;
 
-    /// Whether a plain file of this name can be made or replaced, as far as that can be known
-    /// before it is done. No file changes. A command that works for minutes asks first.
+    /// Returns an error if it is known that no plain file of this name can be made or replaced. No
+    /// file changes. A command that works for minutes calls this first.
     fn check_replaceable(&self, alloc: Global, name: &str) -> Result<(), FlashFault>;
 
-    /// Opens the file of this name, which is that of a flash of so many bytes, and returns them, in
-    /// memory of `alloc`. It is held until the host is dropped, or the next one is opened. Its
-    /// length is compared before a byte is read.
+    /// Opens the file of this name, which is that of a flash of `length` bytes, and returns its
+    /// bytes in memory of `alloc`. The file stays locked until the host is dropped or opens another
+    /// one. Its length is checked before a byte is read.
     fn open_flash(
         &mut self,
         alloc: Global,
@@ -153,30 +152,34 @@ pub trait Host {
         ensures opened { OnOk result (IsOpenedFor access (opened self.old) (opened self.new)) }
         ensures unopened { IfErr result (λ _. opened self.new ≡ opened self.old) };
 
-    /// Writes all of `bytes` to the file of a flash that was opened last, and for writing, from its
-    /// byte `at` on. Does not allocate.
+    /// Writes all of `bytes` from byte `at` on to the file of a flash that was opened last, for
+    /// writing. It doesn't allocate.
     fn write_flash(&self, at: u64, bytes: &[u8]) -> io::Result<()>;
 
-    /// Has the system put all that was written to that file on its medium, and the name of a file
-    /// that is opened with `WriteDurably`. A write that the system kept back, and could not do then,
-    /// fails here: nothing tells of it once the file is closed. So do a write that failed before,
-    /// and a file that lost its name or got another length.
+    /// Makes the system put on the medium all that was written to that file, and the name of a file
+    /// that is opened with `WriteDurably`.
+    ///
+    /// # Errors
+    /// The system delayed a write and then could not do it; once the file is closed, no call would
+    /// report this. The same is returned if a write failed before, and if the file lost its name or
+    /// changed its length.
     fn sync_flash(&mut self) -> io::Result<()>
         ensures synced { OnOk result (IsTrue (synced self.new)) }
         ensures files { KeepsFiles (file self.old) (file self.new) }
         ensures input { Keeps (input self.old) (input self.new) }
         ensures opened { opened self.new ≡ opened self.old };
 
-    /// Puts a file that holds `bytes` in the place of the file of this name, or makes it where
-    /// there is none. Until it is done that file is as it was, and so it is where this fails. No
-    /// other program may use it meanwhile. What takes memory is in that of `alloc`.
+    /// Replaces the file of this name by one that holds `bytes`, or makes it if there is none. No
+    /// other program may use it meanwhile. Memory is taken from `alloc`.
     ///
-    /// It is done once the file and its name are on the disk. A file whose name could not be put
-    /// there holds `bytes`, and this fails: of such a file a host doesn't know what it holds.
+    /// The call returns once the file and its name are on the disk. Until then, and if the call
+    /// fails, the old file is unchanged. There is one exception: if only the name could not be put
+    /// on the disk, the call fails and the file holds `bytes`. A host doesn't know what such a file
+    /// holds.
     ///
-    /// `replaced` says what may be replaced. A block device has nothing beside it that could take
-    /// its place. One that is as long as `bytes` is written from its first byte on; where a write
-    /// fails it holds a part of them.
+    /// `replaced` says which kinds of file may be replaced. A block device can't be replaced by
+    /// another file. If it is as long as `bytes`, it is written from its first byte on. If that
+    /// write fails, it holds a part of them.
     fn replace_file(
         &mut self,
         alloc: Global,
@@ -191,7 +194,7 @@ pub trait Host {
         ensures input { Keeps (input self.old) (input self.new) }
         ensures opened { opened self.new ≡ opened self.old };
 
-    /// The seconds by a clock that never goes back, where somebody at a terminal reads standard
-    /// error; none where nobody does.
+    /// Returns the seconds of a monotonic clock if somebody at a terminal reads standard error, and
+    /// `None` if nobody does.
     fn watched_seconds(&self) -> Option<u64>;
 }

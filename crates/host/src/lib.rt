@@ -1,17 +1,17 @@
 //! The files, standard input, outputs and exit status of a command.
 //!
-//! - Promises: A source that is read whole is what the host has by its name. Status 0 comes only
-//!   after the answer that it is done, and was flushed. A new file of the system takes its name
-//!   only after a sync, and an output passes on exactly what it is given.
+//! - Promises: A source that is read whole yields exactly the bytes that the host has by its name.
+//!   Status 0 is returned only after an answer `Done` was flushed. A new file of the system takes
+//!   its name only after a sync, and an output passes on exactly what it is given.
 //! - Main calls: `Source::read`, `Source::read_start`, `Source::is_file`, `finish`, `SystemHost` as
 //!   a `Host`, `Output` as a `Write`
-//! - Allocates: the input, the name of a new file, and briefly as much as the stack may take.
+//! - Allocates: the input, the name of a new file, and briefly twice the stack's reserve.
 //! - Callers: any command; `system` is for programs alone.
 //!
-//! `Host` is the trait by which a command reads and writes files, `SystemHost` in `system` the one
-//! over the files of the system; a test has one in memory. A command ends with an `Answer` or a
-//! `Refusal`, which `finish` prints and turns into the exit status. What the files of the system
-//! promise stands at the head of `system.rt`.
+//! `Host` is the trait through which a command reads and writes files. `SystemHost` in `system`
+//! implements it over the files of the system, and a test implements it in memory. A command ends
+//! with an `Answer` or a `Refusal`. `finish` prints it and turns it into the exit status. The head
+//! of `system.rt` lists what is promised of the files of the system.
 #![tactic(auto)]
 
 mod answer;

@@ -1,8 +1,7 @@
-//! How long the texts and files that a command reads may be, in bytes. What is longer isn't read to
-//! its end.
+//! The longest texts and files that a command reads, in bytes. A longer one isn't read to its end.
 
-/// The most bytes of a table or of a report. No table and no report is as long: eight images with
-/// all that they may need make some 18,000 bytes.
+/// The most bytes of a table or of a report. None is that long: eight images with all their
+/// dependencies and groups make about 18,000 bytes.
 pub const MOST_TABLE: u32 = 1 << 16;
 
 /// The most bytes of a device file or of a manifest.
@@ -11,6 +10,6 @@ pub const MOST_JSON: u32 = 1 << 20;
 /// The most bytes of a script's text.
 pub const MOST_SCRIPT: u32 = 1 << 28;
 
-/// The most bytes of an image, of the body of one, and of what a line of a script names; and the most
-/// that are read of what is no plain file for a part of it.
+/// The most bytes of an image, of its body, and of a file that a line of a script names. It is also
+/// the most that is read of a file that isn't plain to get a part of it.
 pub const MOST_FILE: u32 = u32::MAX;

@@ -1,4 +1,4 @@
-//! Where a command's input comes from, as its words name it.
+//! Where a command reads its input, as its arguments name it.
 ghost use Rattle.std.specs.Prelude.{◌≡◌, ◌≤◌, IfOk, false, length};
 ghost use Rattle.host.specs.Doings.{IsApartFrom};
 ghost use Rattle.host.specs.Input.{Gives, IsNamed, KeepsFiles, KeepsOthers};
@@ -12,7 +12,7 @@ use std::alloc::Global;
 use std::io::ErrorKind;
 use std::{fmt, io};
 
-/// What a command reads.
+/// An input of a command.
 #[derive(Clone, Copy)]
 pub enum Source<'a> {
     /// Standard input.
@@ -22,7 +22,8 @@ pub enum Source<'a> {
 }
 
 impl<'a> Source<'a> {
-    /// What this word names: `-` is standard input, and any other word the file of that name.
+    /// Returns the source that a word names: `-` is standard input, and any other word is the name
+    /// of a file.
     pub fn named(word: &'a str) -> Self
         ensures { IsNamed word.now result }
     {
@@ -33,12 +34,12 @@ impl<'a> Source<'a> {
         }
     }
 
-    /// Whether this is standard input.
+    /// Returns whether this is standard input.
     pub fn is_standard_input(self) -> bool {
         matches!(self, Source::StandardInput)
     }
 
-    /// All its bytes, of which there may be at most `most`, from `host`, in memory of `alloc`.
+    /// Reads all its bytes, at most `most`, from `host` into memory of `alloc`.
     pub fn read<H: Host>(self, alloc: Global, host: &mut H, most: u32) -> Result<Vec<u8>, Refusal>
         ensures bytes { IfOk result (λ bytes.
             Gives self.entry (H.input host.old) (H.file host.old) bytes.items) }
@@ -54,8 +55,8 @@ impl<'a> Source<'a> {
         Ok(bytes)
     }
 
-    /// Its bytes, from `host`, in memory of `alloc`: all of them where there are at most `most`,
-    /// and else one more than that, from their front. No others are read.
+    /// Reads its bytes from `host` into memory of `alloc`. Returns all of them if there are at most
+    /// `most`, and else the first `most + 1`. No others are read.
     pub fn read_start<H: Host>(
         self,
         alloc: Global,
@@ -79,7 +80,7 @@ impl<'a> Source<'a> {
         }
     }
 
-    /// Whether the file of this name is what is read here, by whatever name.
+    /// Returns whether this source is the file of this name, also if it is read by another name.
     pub fn is_file<H: Host>(self, host: &H, name: &str) -> io::Result<bool>
         ensures { IfOk result (λ is. is ≡ false
             → IsApartFrom (H.apart host.now) name.now self.entry) }
@@ -91,7 +92,7 @@ impl<'a> Source<'a> {
         }
     }
 
-    /// The word that names it.
+    /// Returns the word that names it.
     fn name(self) -> &'a str {
         match self {
             Source::StandardInput => STANDARD_INPUT,
@@ -99,8 +100,8 @@ impl<'a> Source<'a> {
         }
     }
 
-    /// That this is wrong with it, as why a command refuses, which names it in memory of `alloc`.
-    /// Where that runs out, this is why.
+    /// Returns the refusal for this fault of the source. Its name is copied into memory of `alloc`.
+    /// If memory runs out, the refusal says so instead.
     pub fn refused(self, alloc: Global, fault: SourceFault) -> Refusal
         ensures { status_of_refusal result ≡ 1 }
     {
@@ -110,8 +111,9 @@ impl<'a> Source<'a> {
         }
     }
 
-    /// Why a command refuses where this could not be read, for this reason, or where a part of it has
-    /// more than [`MOST_FILE`] bytes. It is named in memory of `alloc`.
+    /// Returns the refusal for a read of this source that failed for this reason. An error of kind
+    /// `FileTooLarge` means that a part of the source lies past [`MOST_FILE`] bytes. The name is
+    /// copied into memory of `alloc`.
     pub fn refusal(self, alloc: Global, error: io::Error) -> Refusal
         ensures { status_of_refusal result ≡ 1 }
     {
@@ -123,7 +125,7 @@ impl<'a> Source<'a> {
     }
 }
 
-/// The name, with its control characters escaped.
+/// Writes the name with its control characters escaped.
 impl fmt::Display for Source<'_> {
     fn fmt<W: fmt::Write>(&self, f: &mut fmt::Formatter<W>) -> fmt::Result {
         match self {

@@ -1,16 +1,21 @@
-//! The files and the standard input of the system, as the host of the program's commands: how a file
-//! or a part of it is read, how that of a flash is opened, held and written, how one is made or
-//! replaced, and which names are of one file. And the program's outputs, how long the system lets a
-//! file get, and that there is memory for the stack.
+//! The files and the standard input of the system, as the host of the program's commands. The
+//! modules read a file or a part of it, open, lock and write that of a flash, make or replace a
+//! file, and compare the names of files. Others write the program's outputs, read the limit of a
+//! file's length, and reserve memory for the stack.
 //!
-//! Promises: what is read of standard input is a start of what is left of it, up to the limit that
-//! is asked for. A part of a file has as many bytes as were asked for, and no more than a file may
-//! have; what comes before it isn't kept. An output passes on all that it is given, in order, once it
-//! is flushed. A new file takes the name of another only once a sync said that all of it is on the
-//! medium, and counts as made only once a sync of its folder said so of the name. A write that is to
-//! last succeeds only after such a sync. That the system does what a call of it reports, and that a
-//! file holds what was written to it, are premises. Which file is held, and what uses a block
-//! device, is tested. The programs alone may call it; a test gives the commands a host in memory.
+//! Promises:
+//!
+//! - The bytes read of standard input are a prefix of the rest of it, up to the given limit.
+//! - A part of a file has exactly the number of bytes that was given, and no more than a file may
+//!   have. The bytes before it aren't stored.
+//! - An output passes on all that it is given, in order, once it is flushed.
+//! - A new file takes the name of another only after a sync of the file succeeded. It counts as
+//!   made only after a sync of its folder succeeded too.
+//! - A write that is to be durable succeeds only after such a sync.
+//!
+//! It is a premise that the system does what its calls report, and that a file holds what was
+//! written to it. Tests check which file is locked and what uses a block device. Only programs may
+//! call this; a test passes the commands a host in memory.
 mod block_device;
 mod file_reading;
 mod folder;

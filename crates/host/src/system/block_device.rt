@@ -1,9 +1,10 @@
-//! A block device as the system knows it: by its number, whatever the name of its node. The system
-//! lets a program write to a device that is mounted, so this asks first whether it uses the device.
+//! Locks a block device by its number, whatever the name of its node, and finds out whether the
+//! system uses it. The check is needed because the system lets a program write to a mounted device.
 //!
-//! What it sees is what `/proc` and `/sys` say: what is mounted where this program sees it, swap, and
-//! what device mapper and the like hold. It doesn't see what is mounted for other containers alone,
-//! the further devices of a file system that has several, or a program that has the device open.
+//! It reads `/proc` and `/sys`: what is mounted in the program's own view, swap, and the holders of
+//! a device such as device mapper. It doesn't see three things: what is mounted for other
+//! containers alone, the further devices of a file system that has several, and a program that has
+//! the device open.
 
 use crate::system::file_reading;
 use crate::system::holding::{fault_of, lock};
@@ -15,13 +16,13 @@ use std::os::unix::fs::{FileTypeExt, MetadataExt};
 use std::rt::Files;
 use std::{fs, io, str};
 
-/// The file systems that are mounted, one a line.
+/// The mounted file systems, one a line.
 const MOUNTS: &str = "/proc/self/mountinfo";
 
 /// The files and devices that memory is swapped to, one a line.
 const SWAPS: &str = "/proc/swaps";
 
-/// How many bytes of these are read at most.
+/// The most bytes that are read of these.
 const MOST: u32 = 1 << 24;
 
 /// The number of a block device.
@@ -38,10 +39,13 @@ struct Device {
     disk: Option<Number>,
 }
 
-/// Has this program hold what the system has under the number of a block device, which all its nodes
-/// have in common, for `access`. The lock of a node doesn't bind the others. One that is to be
-/// written and that the system uses itself is in use. Of a plain file there is nothing to hold, nor
-/// on a system without `/sys`.
+/// Locks the file that the system has under the number of a block device, for `access`. All nodes
+/// of the device share that file, and the lock of one node doesn't bind the others. Returns `None`
+/// for a plain file, and on a system without `/sys`.
+///
+/// # Errors
+/// `InUse` if another program holds the lock, or if the device is to be written and the system uses
+/// it.
 pub fn hold_number<R: Files<File = File>>(
     runtime: &R,
     alloc: Global,
@@ -62,7 +66,7 @@ pub fn hold_number<R: Files<File = File>>(
     Ok(common)
 }
 
-/// The number of a block device.
+/// Returns the number of a block device.
 fn number_of(found: &Metadata) -> Option<Number> {
     if !found.file_type().is_block_device() {
         return None;
@@ -74,13 +78,13 @@ fn number_of(found: &Metadata) -> Option<Number> {
     })
 }
 
-/// Where Linux tells of the device of this number, and in a file of this name.
+/// Returns the path of the file of this name in which Linux describes the device of this number.
 fn path_of(alloc: Global, number: Number, name: &str) -> io::Result<String> {
     let Number { major, minor } = number;
     Ok(format!(in alloc; "/sys/dev/block/{major}:{minor}/{name}")?)
 }
 
-/// Whether the system uses the device of this number, its disk or a part of it.
+/// Returns whether the system uses the device of this number, its disk or a part of it.
 fn is_in_use<R: Files<File = File>>(
     runtime: &R,
     alloc: Global,
@@ -95,7 +99,7 @@ fn is_in_use<R: Files<File = File>>(
     )
 }
 
-/// The disk that the device of this number is a part of.
+/// Returns the disk that the device of this number is a part of.
 fn disk_of<R: Files<File = File>>(
     runtime: &R,
     alloc: Global,
@@ -109,7 +113,7 @@ fn disk_of<R: Files<File = File>>(
     Ok(number_in(lines_of(runtime, alloc, path.as_str())?.trim_ascii()))
 }
 
-/// The number that these bytes spell, as in `8:1`.
+/// Returns the number that these bytes spell, as in `8:1`.
 fn number_in(bytes: &[u8]) -> Option<Number> {
     let (major, minor) = str::from_utf8(bytes).ok()?.split_once(':')?;
     Some(Number {
@@ -118,7 +122,7 @@ fn number_in(bytes: &[u8]) -> Option<Number> {
     })
 }
 
-/// What a file says in which the system tells something: nothing where there is none.
+/// Reads a file of `/proc` or `/sys`. A missing file counts as empty.
 fn lines_of<R: Files<File = File>>(runtime: &R, alloc: Global, name: &str) -> io::Result<Vec<u8>> {
     match file_reading::read_start(runtime, alloc, name, MOST) {
         Ok(bytes) if bytes.len() > MOST as usize => Err(io::Error::from(ErrorKind::FileTooLarge)),
@@ -127,7 +131,7 @@ fn lines_of<R: Files<File = File>>(runtime: &R, alloc: Global, name: &str) -> io
     }
 }
 
-/// Whether this is the device, its disk or a part of it.
+/// Returns whether `other` is the device, its disk or a part of it.
 fn is_of_device<R: Files<File = File>>(
     runtime: &R,
     alloc: Global,
@@ -143,8 +147,8 @@ fn is_of_device<R: Files<File = File>>(
     Ok(disk_of(runtime, alloc, other)? == Some(device.number))
 }
 
-/// Whether the device is mounted. Its number is the third word of a line. Some file systems have
-/// none there, and tell the name of their node behind the word `-`.
+/// Returns whether the device is mounted. Its number is the third word of a line. Some file systems
+/// have no such number there. Their node is the third word from the word `-` on.
 fn is_mounted<R: Files<File = File>>(
     runtime: &R,
     alloc: Global,
@@ -164,7 +168,7 @@ fn is_mounted<R: Files<File = File>>(
     Ok(false)
 }
 
-/// The number of the block device that a node of this name is of.
+/// Returns the number of the block device that a node of this name is of.
 fn number_at<R: Files>(runtime: &R, name: Option<&[u8]>) -> Option<Number> {
     let name = str::from_utf8(name?).ok()?;
     if !name.starts_with("/dev/") {
@@ -173,7 +177,7 @@ fn number_at<R: Files>(runtime: &R, name: Option<&[u8]>) -> Option<Number> {
     number_of(&fs::metadata(runtime, name).ok()?)
 }
 
-/// Whether memory is swapped to the device. Its node is the first word of a line.
+/// Returns whether memory is swapped to the device. Its node is the first word of a line.
 fn is_swapped_to<R: Files<File = File>>(
     runtime: &R,
     alloc: Global,
@@ -189,7 +193,7 @@ fn is_swapped_to<R: Files<File = File>>(
     Ok(false)
 }
 
-/// Whether device mapper or the like holds the device, its disk or a part of it.
+/// Returns whether device mapper or the like holds the device, its disk or a part of it.
 fn is_held<R: Files>(runtime: &R, alloc: Global, device: Device) -> io::Result<bool> {
     let own = path_of(alloc, device.number, "")?;
     Ok(
@@ -199,7 +203,7 @@ fn is_held<R: Files>(runtime: &R, alloc: Global, device: Device) -> io::Result<b
     )
 }
 
-/// Whether something holds this disk.
+/// Returns whether something holds this disk.
 fn is_disk_held<R: Files>(runtime: &R, alloc: Global, disk: Option<Number>) -> io::Result<bool> {
     let Some(disk) = disk else {
         return Ok(false);
@@ -208,7 +212,7 @@ fn is_disk_held<R: Files>(runtime: &R, alloc: Global, disk: Option<Number>) -> i
     has_holders(runtime, alloc, folder.as_str(), "")
 }
 
-/// Whether something holds a part of the device that has this folder.
+/// Returns whether something holds a part of the device that has this folder.
 fn is_part_held<R: Files>(runtime: &R, alloc: Global, folder: &str) -> io::Result<bool> {
     let names = names_in(runtime, alloc, folder)?;
     for name in names.split(|byte| *byte == 0) {
@@ -219,7 +223,7 @@ fn is_part_held<R: Files>(runtime: &R, alloc: Global, folder: &str) -> io::Resul
     Ok(false)
 }
 
-/// Whether this name in the folder of a device is a part of it that something holds.
+/// Returns whether this name in the folder of a device is a part of it that something holds.
 fn is_held_part<R: Files>(
     runtime: &R,
     alloc: Global,
@@ -233,7 +237,7 @@ fn is_held_part<R: Files>(
     Ok(fs::metadata(runtime, number.as_str()).is_ok() && has_holders(runtime, alloc, folder, name)?)
 }
 
-/// Whether something holds what has this folder, or the part of it that has this name.
+/// Returns whether something holds the device of this folder, or its part of this name.
 fn has_holders<R: Files>(runtime: &R, alloc: Global, folder: &str, part: &str) -> io::Result<bool> {
     let path = format!(in alloc; "{folder}{part}/holders")?;
     let names = names_in(runtime, alloc, path.as_str())?;
@@ -244,7 +248,7 @@ fn has_holders<R: Files>(runtime: &R, alloc: Global, folder: &str, part: &str) -
     )
 }
 
-/// The names in a folder, each ended by a zero: none where there is no folder.
+/// Returns the names in a folder, each followed by a zero byte, or nothing if there is no folder.
 fn names_in<R: Files>(runtime: &R, alloc: Global, folder: &str) -> io::Result<Vec<u8>> {
     let mut names = Vec::new(alloc);
     match runtime.open_dir(folder) {

@@ -1,4 +1,4 @@
-//! What is read of a file or of an input: its front, or a part without the rest of it.
+//! Reads a file or an input up to a limit, or only a part of it.
 
 ghost use Rattle.std.specs.Prelude.{◌≡◌, ◌+◌, ◌≤◌, IfOk, IfSome, OnOk, length, true};
 ghost use Rattle.host.specs.Input.{IsKnownAs, IsKnownPart};
@@ -12,11 +12,11 @@ use std::os::unix::fs::FileExt;
 use std::rt::Files;
 use std::{fs, io};
 
-/// How many bytes are read at once of those that aren't kept.
+/// The most bytes that are read at a time and not stored.
 const BLOCK: usize = 1 << 13;
 
-/// The bytes of the file of this name, in memory of `alloc`: all of them where it has at most
-/// `most`, and else one more than that, from its front.
+/// Reads the file of this name into memory of `alloc`. Returns all its bytes if there are at most
+/// `most`, and else its first `most + 1` bytes.
 pub fn read_start<R: Files<File = File>>(
     runtime: &R,
     alloc: Global,
@@ -30,8 +30,8 @@ pub fn read_start<R: Files<File = File>>(
     Ok(bytes)
 }
 
-/// What an input has left, in memory of `alloc`: all of it where that is at most `most` bytes, and
-/// else one more than that.
+/// Reads the rest of an input into memory of `alloc`. Returns all of it if that is at most `most`
+/// bytes, and else the next `most + 1` bytes.
 pub fn read_input<I: Read>(alloc: Global, input: &mut I, most: u32) -> io::Result<Vec<u8>>
     ensures { IfOk result (λ bytes. length bytes.items ≤ most
         → IsKnownAs (I.remaining input.old) bytes.items) }
@@ -42,18 +42,18 @@ pub fn read_input<I: Read>(alloc: Global, input: &mut I, most: u32) -> io::Resul
     Ok(bytes)
 }
 
-/// Whether the file of this name is a plain one.
+/// Returns whether the file of this name is a plain one.
 pub fn is_plain<R: Files>(runtime: &R, name: &str) -> io::Result<bool> {
     Ok(fs::metadata(runtime, name)?.is_file())
 }
 
-/// So many bytes of the file of this name, from its byte `from` on, in memory of `alloc`, where it
-/// has them. Of a plain file nothing else is read. A pipe or a device, whose length isn't known, is
-/// read from its front up to the end of the part.
+/// Reads `count` bytes of the file of this name from byte `from` on, into memory of `alloc`.
+/// Returns `None` if the file doesn't have them. Nothing else is read of a plain file. A pipe or a
+/// device has no known length, so it is read from its front up to the end of the part.
 ///
 /// # Errors
-/// One of kind `FileTooLarge` where the part has more than [`MOST_FILE`] bytes, or where it ends
-/// behind as many bytes of a file that is read from its front.
+/// One of kind `FileTooLarge` if the part has more than [`MOST_FILE`] bytes. The same is returned
+/// if a file that is read from its front has more bytes than that and the part ends after them.
 pub fn read_part<R: Files<File = File>>(
     runtime: &R,
     alloc: Global,
@@ -75,7 +75,7 @@ pub fn read_part<R: Files<File = File>>(
     }
 }
 
-/// So many bytes of a plain file that has them, from its byte `from` on.
+/// Reads `count` bytes from byte `from` on of a plain file that has them.
 fn read_at(alloc: Global, file: &File, from: usize, count: usize) -> io::Result<Vec<u8>>
     ensures many { IfOk result (λ part. length part.items ≡ count) }
     ensures most { IfOk result (λ part. length part.items ≤ MOST_FILE) }
@@ -88,9 +88,9 @@ fn read_at(alloc: Global, file: &File, from: usize, count: usize) -> io::Result<
     Ok(part)
 }
 
-/// So many bytes of an input, from its byte `from` on, in memory of `alloc`, where it has them. What
-/// comes before them is read and not kept. Where they end behind the most bytes that are read, no
-/// more than one byte past the most is read, and none is kept.
+/// Reads `count` bytes of an input from byte `from` on into memory of `alloc`, or returns `None` if
+/// it doesn't have them. The bytes before them are read and not stored. If the part ends after
+/// [`MOST_FILE`] bytes, at most one byte more than those is read, and none is stored.
 fn read_through<I: Read>(
     alloc: Global,
     input: &mut I,
@@ -115,7 +115,8 @@ fn read_through<I: Read>(
     read_next(alloc, input, count)
 }
 
-/// The next bytes of an input, so many, in memory of `alloc`, where it has them.
+/// Reads the next `count` bytes of an input into memory of `alloc`, or returns `None` if it doesn't
+/// have them.
 fn read_next<I: Read>(alloc: Global, input: &mut I, count: usize) -> io::Result<Option<Vec<u8>>>
     ensures many { IfOk result (λ read. IfSome read (λ part. length part.items ≡ count)) }
     ensures next { IfOk result (λ read. IfSome read (λ part.
@@ -130,7 +131,8 @@ fn read_next<I: Read>(alloc: Global, input: &mut I, count: usize) -> io::Result<
     Ok(Some(part))
 }
 
-/// Reads so many bytes of an input, block by block, and keeps none. Returns whether it had them.
+/// Reads `count` bytes of an input block by block without storing them. Returns whether it had
+/// them.
 fn pass_over<I: Read>(input: &mut I, count: usize) -> io::Result<bool>
     ensures { IfOk result (λ passed. passed ≡ true
         → Passes (I.remaining input.old) (I.remaining input.new) count) }
@@ -147,7 +149,7 @@ fn pass_over<I: Read>(input: &mut I, count: usize) -> io::Result<bool>
     Ok(true)
 }
 
-/// Reads so many bytes of an input at once, and keeps none.
+/// Reads `size` bytes of an input in one block without storing them.
 fn pass_block<I: Read>(input: &mut I, size: usize) -> io::Result<()>
     requires { size ≤ BLOCK }
     ensures { OnOk result (Passes (I.remaining input.old) (I.remaining input.new) size) }

@@ -1,4 +1,4 @@
-//! A flash file that is held while a command works, so that no other program changes it meanwhile.
+//! Locks a flash file while a command works, so that no other program changes it meanwhile.
 
 ghost use Rattle.std.specs.Prelude.{◌≡◌, IfOk, true};
 
@@ -15,37 +15,43 @@ use std::os::unix::fs::{FileTypeExt, MetadataExt};
 use std::rt::Files;
 use std::{fs, io};
 
-/// A file of a flash that is open, and that this program holds until it is dropped.
+/// An open file of a flash, which this program locks until it is dropped.
 #[derive(Drop)]
 pub struct HeldFile {
     /// The file.
     pub file: File,
-    /// The name that it was opened by.
+    /// The name by which it was opened.
     name: String,
-    /// How many bytes long it was then.
+    /// Its length in bytes when it was opened.
     length: u64,
     /// Whether it is a block device.
     pub is_device: bool,
-    /// Whether what is written has to be on the medium before the next write: it is a device, which
-    /// may lose power, or that is asked for.
+    /// Whether each write has to be on the medium before the next one. This is so for a device,
+    /// which may lose power, and for a file that is opened with `WriteDurably`.
     pub is_durable: bool,
-    /// The folder that has to be on the disk too, if the name of the file is to last.
+    /// The folder that has to be synced too, if the name of the file is to be durable.
     folder: Option<File>,
-    /// What holds a block device by its number, whatever its name.
+    /// The lock of a block device by its number, whatever its name.
     by_number: Option<File>,
-    /// The most bytes that it may be written to, if there is such a limit.
+    /// The length in bytes past which it may not be written, if there is such a limit.
     most: Option<u64>,
-    /// Why the first write or sync failed that did. The system tells of it once.
+    /// The error of the last write or sync that failed. The system reports it once.
     failed: Cell<Option<io::Error>>,
 }
 
-/// Opens the file of this name for `access`, and holds it. It is a plain file or a block device,
-/// and `length` bytes long. One that is opened for writing and can't be written is opened all the
-/// same, and then each write fails.
+/// Opens the file of this name for `access` and locks it. It must be a plain file or a block device
+/// of `length` bytes. If it is opened for writing and can't be written, it is opened all the same,
+/// and each write fails.
 ///
-/// It is held by a lock on the whole file (`flock`), which other runs of this program respect:
-/// shared where it is read, and exclusive where it is written. A block device is held by its number
-/// too. One that the system uses is in use where it is to be written.
+/// The lock is that of the complete file (`flock`), which other runs of this program respect. It is
+/// shared for reading, and exclusive for writing. A block device is locked by its number too.
+///
+/// # Errors
+/// - `InUse` if another program holds the lock or has replaced the file, or if the system uses a
+///   block device that is to be written.
+/// - `WrongLength` if the file doesn't have `length` bytes.
+/// - `NoMemory` if memory ran out.
+/// - `Failed` if the system could not open, lock or measure it, or could not open its folder.
 pub fn open<R: Files<File = File>>(
     runtime: &R,
     alloc: Global,
@@ -82,22 +88,24 @@ pub fn open<R: Files<File = File>>(
 }
 
 impl HeldFile {
-    /// Writes all of `bytes` from the byte `at` on.
+    /// Writes all of `bytes` from byte `at` on.
     pub fn write(&self, at: u64, bytes: &[u8]) -> io::Result<()> {
         self.keep_error(self.write_within(at, bytes))
     }
 
-    /// Writes all of `bytes`, but not past the most bytes that it may be written to.
+    /// Writes all of `bytes`, unless they end past the limit of the file's length.
     fn write_within(&self, at: u64, bytes: &[u8]) -> io::Result<()> {
         limits::refuse_past(self.most, at, bytes.len())?;
         let mut flash = InPlace { file: &self.file };
         put(&mut flash, at, bytes, self.is_durable)
     }
 
-    /// Has the system put all that was written on the medium, and the name of a plain file too if
-    /// that is to last. It fails after any write that failed, and where the name leads to another
-    /// file or none by now, or the file isn't as long as it was: what was written is no flash then
-    /// that the name leads to.
+    /// Makes the system put all that was written on the medium, and the name of a plain file too if
+    /// that is to be durable.
+    ///
+    /// # Errors
+    /// The sync failed, or a write or sync failed before. Also if the name leads to another file or
+    /// to none, or if the file's length changed: the name doesn't lead to the written flash then.
     pub fn sync<R: Files>(&self, runtime: &R) -> io::Result<()> {
         match self.failed.get() {
             Some(error) => Err(error),
@@ -105,7 +113,7 @@ impl HeldFile {
         }
     }
 
-    /// What came of a write or a sync, whose error is kept.
+    /// Returns the result of a write or a sync, and saves its error.
     fn keep_error(&self, done: io::Result<()>) -> io::Result<()> {
         if let Err(error) = &done {
             self.failed.set(Some(*error));
@@ -131,8 +139,8 @@ impl HeldFile {
     }
 }
 
-/// The most bytes that a file may be written to which is opened for this. A block device has no such
-/// limit.
+/// Returns the length in bytes past which a file that is opened for `access` may not be written. A
+/// block device has no such limit.
 fn most_of<R: Files>(runtime: &R, access: Access, is_device: bool) -> Option<u64> {
     match access {
         Access::Write | Access::WriteDurably if !is_device => limits::most_bytes(runtime),
@@ -140,23 +148,23 @@ fn most_of<R: Files>(runtime: &R, access: Access, is_device: bool) -> Option<u64
     }
 }
 
-/// Opens a file that can be held, and says what the system says of it. What is no file of bytes,
-/// as a pipe, is refused before it is opened, which could wait for ever.
+/// Opens a file that can be locked, and returns its metadata. A pipe or another file that is no
+/// sequence of bytes is refused before it is opened, because opening it could block forever.
 fn open_plain<R: Files<File = File>>(
     runtime: &R,
     name: &str,
     access: Access,
 ) -> io::Result<(File, Metadata)> {
     refuse_others(&fs::metadata(runtime, name)?)?;
-    // Where a standard stream was closed as the program began, the file has its number, and what is
-    // written to that stream would go into the file. A clone has another one.
+    // If a standard stream was closed when the program started, the file gets its number. Then a
+    // write to that stream would go into the file. A clone has another number.
     let file = open_for(runtime, name, access)?.try_clone()?;
     let found = file.metadata()?;
     refuse_others(&found)?;
     Ok((file, found))
 }
 
-/// Refuses what is neither a plain file nor a block device.
+/// Refuses a file that is neither a plain file nor a block device.
 fn refuse_others(found: &Metadata) -> io::Result<()> {
     if found.is_file() || found.file_type().is_block_device() {
         return Ok(());
@@ -164,7 +172,7 @@ fn refuse_others(found: &Metadata) -> io::Result<()> {
     Err(io::Error::from(ErrorKind::InvalidInput))
 }
 
-/// Opens a file to be read, and to be written too if it can be and is asked for.
+/// Opens a file to be read, and to be written too if `access` asks for it and that is possible.
 fn open_for<R: Files<File = File>>(runtime: &R, name: &str, access: Access) -> io::Result<File> {
     if access != Access::Read
         && let Ok(file) = OpenOptions::new()
@@ -177,7 +185,7 @@ fn open_for<R: Files<File = File>>(runtime: &R, name: &str, access: Access) -> i
     File::open(runtime, name)
 }
 
-/// The folder that a file of this name is in, wherever links lead, if it is to be synced.
+/// Opens the folder that a file of this name is in, after following links, if it is to be synced.
 fn folder_of<R: Files<File = File>>(
     runtime: &R,
     alloc: Global,
@@ -191,7 +199,7 @@ fn folder_of<R: Files<File = File>>(
     folder::open(runtime, place.folder.as_str()).map_err(FlashFault::Failed)
 }
 
-/// What came of opening or making a file.
+/// Returns the fault for an error of opening or making a file.
 pub fn fault_of(error: io::Error) -> FlashFault {
     match error.kind() {
         ErrorKind::OutOfMemory => FlashFault::NoMemory,
@@ -199,8 +207,8 @@ pub fn fault_of(error: io::Error) -> FlashFault {
     }
 }
 
-/// Has this program hold a file that it opened by this name. A file that lost its name meanwhile,
-/// as one does that is replaced, is in use.
+/// Locks a file that this program opened by this name. A file that has lost its name meanwhile, as
+/// one does when it is replaced, is in use.
 fn hold<R: Files>(runtime: &R, name: &str, file: &File, access: Access) -> Result<(), FlashFault> {
     lock(file, access)?;
     match (file.metadata(), fs::metadata(runtime, name)) {
@@ -210,7 +218,7 @@ fn hold<R: Files>(runtime: &R, name: &str, file: &File, access: Access) -> Resul
     }
 }
 
-/// Locks a file: shared where it is read, and exclusively where it is written.
+/// Locks a file: shared for reading, and exclusively for writing.
 pub fn lock(file: &File, access: Access) -> Result<(), FlashFault> {
     let held = match access {
         Access::Read => file.try_lock_shared(),
@@ -223,8 +231,8 @@ pub fn lock(file: &File, access: Access) -> Result<(), FlashFault> {
     }
 }
 
-/// Has this program hold a file for itself that it opened by this path, in which no part was a link.
-/// One that the path doesn't lead to any more, or by a link now, is in use.
+/// Locks a file exclusively that this program opened by this path, in which no part was a link. The
+/// file is in use if the path doesn't lead to it any more, or leads to it by a link.
 pub fn hold_path<R: Files>(runtime: &R, path: &str, file: &File) -> Result<(), FlashFault> {
     lock(file, Access::Write)?;
     match is_named(runtime, path, file) {
@@ -234,7 +242,7 @@ pub fn hold_path<R: Files>(runtime: &R, path: &str, file: &File) -> Result<(), F
     }
 }
 
-/// Whether a file that is open is the one that this path names now, and no link to it.
+/// Returns whether this path names an open file, and is no link to it.
 pub fn is_named<R: Files>(runtime: &R, path: &str, file: &File) -> io::Result<bool> {
     match fs::symlink_metadata(runtime, path) {
         Ok(found) => Ok(is_one_file(&found, &file.metadata()?)),
@@ -243,18 +251,18 @@ pub fn is_named<R: Files>(runtime: &R, path: &str, file: &File) -> io::Result<bo
     }
 }
 
-/// Whether what the system says of two files is said of one.
+/// Returns whether the metadata of two files is that of one file.
 pub fn is_one_file(one: &Metadata, other: &Metadata) -> bool {
     one.dev() == other.dev() && one.ino() == other.ino()
 }
 
-/// How many bytes long the file of this name is, which is a plain one or a block device.
+/// Returns the length in bytes of the file of this name, which is a plain one or a block device.
 pub fn length_of_name<R: Files<File = File>>(runtime: &R, name: &str) -> io::Result<u64> {
     let (file, _) = open_plain(runtime, name, Access::Read)?;
     length_of(&file)
 }
 
-/// How many bytes long a file is, a block device too.
+/// Returns the length in bytes of a file, which may be a block device.
 fn length_of(file: &File) -> io::Result<u64> {
     let mut file = file;
     file.seek(SeekFrom::End(0))

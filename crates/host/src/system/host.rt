@@ -1,4 +1,4 @@
-//! The system as a host.
+//! The system as the host of a command.
 
 ghost use Rattle.std.specs.Prelude.{◌≡◌, IfOk, length};
 
@@ -14,9 +14,9 @@ use std::random::RandomSource;
 use std::rt::Files;
 use std::time::Clock;
 
-/// The name by which Linux leads to the file that is standard input, a pipe too. It leads nowhere
-/// where standard input is closed, and on a system without `/proc`: there it isn't known to be a file
-/// that a command names.
+/// The name by which Linux leads to the file or pipe that is standard input. It leads nowhere if
+/// standard input is closed, and on a system without `/proc`. Then standard input isn't known to be
+/// a file that a command names.
 const INPUT: &str = "/proc/self/fd/0";
 
 /// The system that the program runs on: its files, and its standard input as a reader.
@@ -29,8 +29,8 @@ pub struct SystemHost<'a, R: Files, I: Read> {
 }
 
 impl<'a, R: Files, I: Read> SystemHost<'a, R, I> {
-    /// The files and the clock of `runtime`, and `input` as standard input. `is_watched` says
-    /// whether standard error is a terminal.
+    /// Creates a host with the files and the clock of `runtime`, and `input` as standard input.
+    /// `is_watched` says whether standard error is a terminal.
     pub fn new(runtime: &'a R, input: I, is_watched: bool) -> Self {
         SystemHost {
             runtime,
@@ -131,7 +131,7 @@ impl<R: Files<File = File> + Clock + RandomSource, I: Read> Host for SystemHost<
     }
 }
 
-/// The bytes of a flash file that has so many.
+/// Reads the `count` bytes of a flash file.
 fn flash_bytes(alloc: Global, file: &File, count: u64) -> Result<Vec<u8>, FlashFault>
     ensures { IfOk result (λ bytes. length bytes.items ≡ count) }
 {

@@ -1,32 +1,32 @@
-//! What has to be on the medium before anything else is done: what is written to last, a new file
-//! before it takes the name of another, and that name before the file counts as made.
+//! The order of writing and syncing. A durable write is on the medium before it returns. A new file
+//! is on the medium before it takes the name of another, and that name is before the file counts as
+//! made.
 
 ghost use Rattle.std.specs.Prelude.{◌≡◌, Bool, IfErr, IsTrue, List, ℕ, OnOk, true};
 
 use crate::FlashFault;
 use std::io;
 
-/// A file that bytes are put into, at a place.
+/// A file to which bytes can be written at a place.
 pub trait Medium {
-    // Whether these bytes were written at this place and are there still, and whether all that was
-    // written is on the medium, as a sync said that succeeded. A file that tells no more takes both
-    // to be.
+    // Whether these bytes were written at this place and are still there; and whether all that was
+    // written is on the medium, because a sync succeeded. The default of both is that it is so.
     ghost holds: { Self → ℕ → List ℕ → Bool } = { λ _ _ _. true };
 
     ghost synced: { Self → Bool } = { λ _. true };
 
-    /// Writes all of `bytes` from the byte `at` on.
+    /// Writes all of `bytes` from byte `at` on.
     fn write(&mut self, at: u64, bytes: &[u8]) -> io::Result<()>
         ensures { OnOk result (IsTrue (holds self.new at bytes.now)) };
 
-    /// Has the system put all that was written on the medium.
+    /// Makes the system put all that was written on the medium.
     fn sync(&mut self) -> io::Result<()>
         ensures synced { OnOk result (IsTrue (synced self.new)) }
         ensures same { (at : ℕ) (bytes : List ℕ)
             → IsTrue (holds self.old at bytes) → IsTrue (holds self.new at bytes) };
 }
 
-/// Writes all of `bytes` from the byte `at` of a file on. If it is to last it is on the medium before
+/// Writes all of `bytes` to a file from byte `at` on. If `lasts`, they are on the medium before
 /// this returns.
 pub fn put<M: Medium>(medium: &mut M, at: u64, bytes: &[u8], lasts: bool) -> io::Result<()>
     ensures put { OnOk result (IsTrue (M.holds medium.new at bytes.now)) }
@@ -39,12 +39,12 @@ pub fn put<M: Medium>(medium: &mut M, at: u64, bytes: &[u8], lasts: bool) -> io:
     Ok(())
 }
 
-/// A new file that is to take the name of another, or one that no file has.
+/// A new file that is to take the name of another file, or one that no file has.
 pub trait NewFile {
-    // Whether it holds these bytes, whether all that was written to it is on the medium, as a sync
-    // said that succeeded, whether it took the name, whether the name is on the medium too, as a
-    // sync of the folder said, and whether the name that it was made under was removed, or that was
-    // tried. A file that tells no more takes all of this to be.
+    // `holds`: it holds these bytes. `synced`: all that was written to it is on the medium, because
+    // a sync succeeded. `named`: it took the name. `lasting`: the name is on the medium too,
+    // because a sync of the folder succeeded. `removed`: the name under which it was made was
+    // removed, or that was tried. The default of each is that it is so.
     ghost holds: { Self → List ℕ → Bool } = { λ _ _. true };
 
     ghost synced: { Self → Bool } = { λ _. true };
@@ -55,26 +55,26 @@ pub trait NewFile {
 
     ghost removed: { Self → Bool } = { λ _. true };
 
-    /// Writes all of `bytes` to it, which is empty.
+    /// Writes all of `bytes` to it while it is empty.
     fn fill(&mut self, bytes: &[u8]) -> Result<(), FlashFault>
         ensures { OnOk result (IsTrue (holds self.new bytes.now)) };
 
-    /// Has the system put all that was written on the medium.
+    /// Makes the system put all that was written on the medium.
     fn sync(&mut self) -> Result<(), FlashFault>
         ensures synced { OnOk result (IsTrue (synced self.new)) }
         ensures same { (bytes : List ℕ)
             → IsTrue (holds self.old bytes) → IsTrue (holds self.new bytes) };
 
-    /// Takes the name. It has to be on the medium: after a power cut the file of that name holds
-    /// all that it held, or all of this.
+    /// Takes the name. All that was written has to be on the medium. After a power cut, the file of
+    /// that name holds either all of its old contents or all of these.
     fn take_name(&mut self) -> Result<(), FlashFault>
         requires { IsTrue (synced self.old) }
         ensures named { OnOk result (IsTrue (named self.new)) }
         ensures same { (bytes : List ℕ)
             → IsTrue (holds self.old bytes) → IsTrue (holds self.new bytes) };
 
-    /// Has the system put the name on the medium, which it has to have: from then on a power cut
-    /// doesn't bring back what the folder held.
+    /// Makes the system put the name, which this file has to have, on the medium. After that a
+    /// power cut doesn't restore the old contents of the folder.
     fn sync_folder(&mut self) -> Result<(), FlashFault>
         requires { IsTrue (named self.old) }
         ensures lasting { OnOk result (IsTrue (lasting self.new)) }
@@ -82,14 +82,14 @@ pub trait NewFile {
         ensures same { (bytes : List ℕ)
             → IsTrue (holds self.old bytes) → IsTrue (holds self.new bytes) };
 
-    /// Removes the name that it was made under, if it still has that. Nothing can be done where
-    /// that fails.
+    /// Removes the name under which it was made, if it still has that. An error is ignored, because
+    /// nothing can be done about it.
     fn remove(&mut self)
         ensures { IsTrue (removed self.new) };
 }
 
-/// Fills a new file, has it take its name once all of it is on the medium, and then has the name put
-/// there. Where that fails the file is removed, unless it had taken the name.
+/// Fills a new file, gives it its name once its bytes are on the medium, and then puts the name on
+/// the medium. If one of these fails, the file is removed, unless it had already taken the name.
 pub fn place<N: NewFile>(new: &mut N, bytes: &[u8]) -> Result<(), FlashFault>
     ensures placed { OnOk result (IsTrue (N.named new.new)) }
     ensures lasting { OnOk result (IsTrue (N.lasting new.new)) }
@@ -105,8 +105,7 @@ pub fn place<N: NewFile>(new: &mut N, bytes: &[u8]) -> Result<(), FlashFault>
     }
 }
 
-/// Fills a new file, has it take its name once all of it is on the medium, and then has the name put
-/// there.
+/// Does the same as [`place`], but leaves the file there if it fails.
 fn put_in_place<N: NewFile>(new: &mut N, bytes: &[u8]) -> Result<(), FlashFault>
     ensures placed { OnOk result (IsTrue (N.named new.new)) }
     ensures lasting { OnOk result (IsTrue (N.lasting new.new)) }

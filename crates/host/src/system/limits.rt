@@ -1,9 +1,10 @@
-//! How far the system lets this program write a file, as `ulimit -f` sets it.
+//! The longest file that the system lets this program write, as `ulimit -f` sets it.
 //!
-//! A write past that ends a program by a signal, in the middle of what it does, and the standard
-//! library can't change what a signal does. So such a write is refused here before it reaches the
-//! system, as the system refuses it where the signal is ignored. The limit, and how far an output
-//! has come, are read below /proc. Where that isn't there nothing is refused.
+//! A write past that limit ends a program by a signal in the middle of its work, and the standard
+//! library can't change what a signal does. Therefore such a write is refused here before it
+//! reaches the system, with the error that the system returns if the signal is ignored. The limit
+//! and the position of an output are read below `/proc`. On a system without it, nothing is
+//! refused.
 
 ghost use Rattle.std.specs.Prelude.{◌+◌, ◌<◌, ◌≤◌, IfSome, IsSome, OnErr, OnOk};
 
@@ -13,19 +14,20 @@ use std::io::ErrorKind;
 use std::rt::Files;
 use std::{fs, io, str};
 
-/// The bytes of the longest text that is read below /proc.
+/// The longest text that is read below `/proc`, in bytes.
 const TEXT: usize = 1 << 12;
 
 /// The flag of an open file whose writes go to its end.
 const APPENDING: u64 = 0o2000;
 
-/// The most bytes that this program may write a file to, where there is such a limit.
+/// Returns the length in bytes past which this program may not write a file, if there is such a
+/// limit.
 pub fn most_bytes<R: Files>(runtime: &R) -> Option<u64> {
     let text = text_of(runtime, "/proc/self/limits").ok()?;
     word_after(&text, "Max file size")?.parse().ok()
 }
 
-/// Refuses a write of `count` bytes from the byte `at` of a file on where it ends past the most.
+/// Refuses a write of `count` bytes from byte `at` of a file on if it ends past `most`.
 pub fn refuse_past(most: Option<u64>, at: u64, count: usize) -> io::Result<()>
     ensures within { OnOk result (IfSome most (λ bytes. at + count ≤ bytes)) }
     ensures limited { OnErr result (IsSome most) }
@@ -39,7 +41,7 @@ pub fn refuse_past(most: Option<u64>, at: u64, count: usize) -> io::Result<()>
     }
 }
 
-/// How many bytes more an output of the program takes.
+/// Finds out how many more bytes an output of the program accepts.
 #[derive(Drop)]
 pub struct Room<R> {
     runtime: R,
@@ -47,12 +49,12 @@ pub struct Room<R> {
     most: Option<u64>,
 }
 
-/// Where the system tells of the file of an output.
+/// The names by which the system describes the file of an output.
 #[derive(Clone, Copy)]
 pub struct OutputFile {
-    /// The file, by another name.
+    /// Another name of the file.
     name: &'static str,
-    /// The text on its position and its flags.
+    /// The text with its position and its flags.
     info: &'static str,
 }
 
@@ -69,7 +71,7 @@ pub const STANDARD_ERROR: OutputFile = OutputFile {
 };
 
 impl<R: Files> Room<R> {
-    /// What an output takes: without end where it isn't a plain file.
+    /// Creates the room of an output. An output that isn't a plain file has no limit.
     pub fn of(runtime: R, output: OutputFile) -> Self {
         let most = match fs::metadata(&runtime, output.name) {
             Ok(found) if found.is_file() => most_bytes(&runtime),
@@ -82,7 +84,7 @@ impl<R: Files> Room<R> {
         }
     }
 
-    /// How many bytes more it takes now. Other programs may write to it, too.
+    /// Returns how many more bytes it accepts. Other programs may write to it meanwhile.
     pub fn left(&self) -> u64 {
         match (self.most, self.position()) {
             (Some(most), Some(at)) => most.saturating_sub(at),
@@ -90,7 +92,7 @@ impl<R: Files> Room<R> {
         }
     }
 
-    /// Where the next write begins, if that can be said and a limit is to be kept.
+    /// Returns where the next write begins, if that is known and there is a limit.
     fn position(&self) -> Option<u64> {
         self.most?;
         let text = text_of(&self.runtime, self.output.info).ok()?;
@@ -102,14 +104,14 @@ impl<R: Files> Room<R> {
     }
 }
 
-/// A short text of the system.
+/// Reads a short text of the system.
 fn text_of<R: Files>(runtime: &R, name: &str) -> io::Result<ArrayVec<u8, TEXT>> {
     let mut text = ArrayVec::new();
     io::copy(&mut File::open(runtime, name)?, &mut text)?;
     Ok(text)
 }
 
-/// The first word behind a label that a line of a text begins with.
+/// Returns the first word after a label with which a line of a text begins.
 fn word_after<'a>(text: &'a [u8], label: &str) -> Option<&'a str> {
     for line in str::from_utf8(text).ok()?.lines() {
         if let Some(rest) = line.strip_prefix(label) {

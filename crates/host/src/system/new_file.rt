@@ -1,4 +1,4 @@
-//! A new file that is made beside the place that it is to take, and is held from its making.
+//! A new file that is made in the folder of the place that it is to take, and locked from then on.
 
 use crate::system::holding::{fault_of, hold_path, is_named, lock};
 use crate::system::lasting::NewFile;
@@ -13,28 +13,29 @@ use std::random::RandomSource;
 use std::rt::Files;
 use std::{fs, io};
 
-/// How many names are tried for a new file. Each is drawn from 2^64, so one is mostly enough.
+/// The most names that are tried for a new file. Each is one of 2^64, so one is almost always
+/// enough.
 const MOST_NAMES: u32 = 8;
 
-/// Who may use a file at most that isn't filled yet and takes the place of another: its owner.
+/// Who may use a new file that replaces another one before it is filled: at most its owner.
 const OWNERS_BITS: u32 = 0o600;
 
 /// The bits by which a program runs as the owner or the group of its file.
 const IDENTITY_BITS: u32 = 0o6000;
 
-/// Those of a file's mode that say who may use it, and how it runs.
+/// The bits of a file's mode that say who may use it, and how it runs.
 const MODE_BITS: u32 = 0o7777;
 
-/// The file that is replaced, which is open and held.
+/// The file that is replaced. It is open and locked.
 #[derive(Drop)]
 pub struct OldFile {
     /// The file.
     pub file: File,
-    /// What the system says of it.
+    /// Its metadata.
     pub found: Metadata,
 }
 
-/// A new file beside the place that it is to take.
+/// A new file in the folder of the place that it is to take.
 #[derive(Drop)]
 pub struct Beside<'a, 'p, 'o, R: Files> {
     runtime: &'a R,
@@ -46,8 +47,9 @@ pub struct Beside<'a, 'p, 'o, R: Files> {
 }
 
 impl<'a, 'p, 'o, R: Files<File = File> + RandomSource> Beside<'a, 'p, 'o, R> {
-    /// An empty file in the folder of this place, which no other run of this program can use: it is
-    /// held from its making. It is to take the place of `old`, or one that no file has.
+    /// Makes an empty file in the folder of `place` and locks it, so that no other run of this
+    /// program can use it. It is to replace `old`, or to take a name that no file has if there is
+    /// no `old`.
     pub fn make(
         runtime: &'a R,
         alloc: Global,
@@ -76,8 +78,8 @@ impl<'a, 'p, 'o, R: Files<File = File> + RandomSource> Beside<'a, 'p, 'o, R> {
     }
 }
 
-/// How a new file is made. In the place of another one it may be used by its owner alone until it is
-/// filled, and by him no further than the old one; else it is made as any file is.
+/// Returns how a new file is made. If it replaces another file, only its owner may use it until it
+/// is filled, and no further than the old one. Otherwise it is made as any file is.
 fn options_for(old: Option<&OldFile>) -> OpenOptions {
     let mut options = OpenOptions::new();
     options.write(true).create_new(true);
@@ -87,9 +89,9 @@ fn options_for(old: Option<&OldFile>) -> OpenOptions {
     options
 }
 
-/// An empty file that was not there, in the folder of this place, and its own path. The name is
-/// short, so that it serves for a place with a name of any length. One that a killed run left is
-/// known by it.
+/// Makes an empty file in the folder of `place`, and returns it and its own path. Its name is
+/// short, so that it can be made for a place with a name of any length. The name shows which files
+/// a killed run left.
 fn new_file<R: Files<File = File> + RandomSource>(
     runtime: &R,
     alloc: Global,
@@ -149,8 +151,8 @@ impl<R: Files<File = File>> NewFile for Beside<'_, '_, '_, R> {
     }
 }
 
-/// Lets a new file be used by those who could use the old one. A new owner or group doesn't lend its
-/// rights to whoever runs the file, as the old one did.
+/// Gives a new file the permissions of the old one. If the new file has another owner or group, it
+/// doesn't run with their rights, as the old one may have done.
 fn give_mode(file: &File, old: &Metadata) -> io::Result<()> {
     let new = file.metadata()?;
     let is_same = new.uid() == old.uid() && new.gid() == old.gid();
@@ -159,7 +161,7 @@ fn give_mode(file: &File, old: &Metadata) -> io::Result<()> {
     file.set_permissions(Permissions::from_mode(mode))
 }
 
-/// Has the file of the path `own` take the place of one that is held, if that still has it.
+/// Renames the file of path `own` to the path of a locked file, if that file still has it.
 fn take_place<R: Files>(runtime: &R, own: &str, path: &str, held: &File) -> Result<(), FlashFault> {
     if !is_named(runtime, path, held).map_err(FlashFault::Failed)? {
         return Err(FlashFault::InUse);
@@ -167,8 +169,8 @@ fn take_place<R: Files>(runtime: &R, own: &str, path: &str, held: &File) -> Resu
     fs::rename(runtime, own, path).map_err(FlashFault::Failed)
 }
 
-/// Has the file of the path `own` take one that no file has. A file that was put there meanwhile is
-/// another program's, and stays: a rename would replace it, and a hard link fails.
+/// Gives the file of path `own` a path that no file has. If another program made a file there
+/// meanwhile, that file stays: a hard link fails, and a rename would replace the file.
 fn take_free_name<R: Files<File = File>>(
     runtime: &R,
     own: &str,
@@ -186,9 +188,10 @@ fn take_free_name<R: Files<File = File>>(
     }
 }
 
-/// The same on a file system without hard links, as FAT is one. An empty file takes the name first,
-/// which fails if there is one, and is held; then the new one takes its place. A run that is killed
-/// in between leaves the empty file. So does another program that holds it in that moment.
+/// Does the same on a file system without hard links, such as FAT. An empty file takes the name
+/// first, which fails if there is a file, and is locked. Then the new file replaces it. If the run
+/// is killed in between, or another program locks the empty file in that moment, the empty file is
+/// left.
 fn take_by_empty_file<R: Files<File = File>>(
     runtime: &R,
     own: &str,

@@ -1,4 +1,4 @@
-//! Standard output and standard error: what is written goes out in few writes, each a line or a text.
+//! Standard output and standard error, buffered: each write to the system is a line or a text.
 
 ghost use Rattle.std.specs.Prelude.{◌≡◌, ◌≤◌, [], IfOk, IsTrue, OnOk, drop, false};
 ghost use Rattle.std.specs.Io.{WritesAtMost};
@@ -11,14 +11,15 @@ use std::io;
 use std::io::{ErrorKind, Write};
 use std::rt::Files;
 
-/// How many bytes are held at most. The longest error line has fewer.
+/// The size of the buffer in bytes. The longest error line is shorter.
 const MOST_HELD: usize = 1 << 13;
 
-/// An output of the program, which holds what is written until it is flushed, or until more is
-/// written than it can hold. It takes no memory. Where the output is a plain file no write goes past
-/// the length that the system lets it have.
+/// An output of the program that buffers what is written until it is flushed, or until the buffer
+/// is full. It doesn't allocate. If the output is a plain file, no write goes past the length that
+/// the system lets it have.
 ///
-/// What a failed flush leaves unwritten stays held, and what is held as this is dropped is lost.
+/// What a failed flush doesn't write stays in the buffer. What is in the buffer when this is
+/// dropped is lost.
 #[derive(Drop)]
 pub struct Output<R, W> {
     to: W,
@@ -28,7 +29,7 @@ pub struct Output<R, W> {
 }
 
 impl<R: Files, W: Write> Output<R, W> {
-    /// An output that writes to `to`, which is this file of the program's.
+    /// Creates an output that writes to `to`. `file` says which output of the program that is.
     pub fn new(runtime: R, to: W, file: OutputFile) -> Self {
         Output {
             to,
@@ -38,7 +39,8 @@ impl<R: Files, W: Write> Output<R, W> {
         }
     }
 
-    /// Holds these bytes too, if they fit. They don't behind some that were sent.
+    /// Adds these bytes to the buffer if they fit, and returns whether they did. Nothing is added
+    /// while a part of the buffer was sent.
     fn hold(&mut self, bytes: &[u8]) -> bool
         ensures held { IsTrue result → Appends
             (held_contents W.contents self.old.to self.old.held.items self.old.sent)
@@ -48,7 +50,7 @@ impl<R: Files, W: Write> Output<R, W> {
         self.sent == 0 && self.held.try_extend_from_slice(bytes).is_ok()
     }
 
-    /// Writes all that is held.
+    /// Writes the complete buffer.
     fn send_held(&mut self) -> io::Result<()>
         ensures kept { Keeps (held_contents W.contents self.old.to self.old.held.items self.old.sent)
             (held_contents W.contents self.new.to self.new.held.items self.new.sent) }
@@ -92,7 +94,7 @@ impl<R: Files, W: Write> Write for Output<R, W> {
     }
 }
 
-/// Writes as many of these bytes as there is room for, in one write, and returns how many were taken.
+/// Writes at most `room` of these bytes in one write, and returns how many were written.
 fn write_within<W: Write>(to: &mut W, room: u64, bytes: &[u8]) -> io::Result<usize>
     ensures bound { WritesAtMost result bytes.now }
     ensures bytes { WriteAppends (W.contents to.old) (W.contents to.new) result bytes.now }

@@ -1,5 +1,5 @@
-//! A file that is replaced whole: what it held stays until all that it is to hold is on the disk. A
-//! block device can't be replaced, and is written in its place.
+//! Replaces a complete file: its old contents stay until all of the new ones are on the disk. A
+//! block device can't be replaced, so it is written in place.
 
 use crate::system::holding;
 use crate::system::holding::{fault_of, hold_path, is_one_file};
@@ -16,8 +16,8 @@ use std::random::RandomSource;
 use std::rt::Files;
 use std::{fs, io};
 
-/// Whether two names are of one file that is there: each is looked up as far as symbolic links
-/// lead, and names of one file have its number in common.
+/// Returns whether two names are of one existing file. Symbolic links are followed, and the names
+/// of one file share its number.
 pub fn is_same_file<R: Files>(runtime: &R, one: &str, other: &str) -> io::Result<bool> {
     match (found(runtime, one)?, found(runtime, other)?) {
         (Some(one), Some(other)) => Ok(is_one_file(&one, &other)),
@@ -25,12 +25,12 @@ pub fn is_same_file<R: Files>(runtime: &R, one: &str, other: &str) -> io::Result
     }
 }
 
-/// What the system says of the file of this name, if there is one.
+/// Returns the metadata of the file of this name, or `None` if there is no such file.
 fn found<R: Files>(runtime: &R, name: &str) -> io::Result<Option<Metadata>> {
     there(fs::metadata(runtime, name))
 }
 
-/// What the system said, if there is a file.
+/// Returns the metadata that was found, or `None` if there is no such file.
 fn there(found: io::Result<Metadata>) -> io::Result<Option<Metadata>> {
     match found {
         Ok(metadata) => Ok(Some(metadata)),
@@ -39,18 +39,18 @@ fn there(found: io::Result<Metadata>) -> io::Result<Option<Metadata>> {
     }
 }
 
-/// Puts a file of these bytes in the place of the file of this name, or makes it where there is
-/// none.
+/// Replaces the file of this name by one that holds `bytes`, or makes it if there is none.
 ///
-/// The name is looked up once. The bytes are written to a new file in the same folder, which nobody
-/// else of this program can use. It takes the name once they are on the disk, and then the folder is
-/// synced. Where anything fails before it has the name, it is removed. Where the sync of the folder
-/// fails the file of this name is the new one, whole, and a power cut may bring the old one back.
+/// The name is looked up once. The bytes are written to a new file in the same folder, which no
+/// other run of this program can use. It takes the name once the bytes are on the disk, and then
+/// the folder is synced. If anything fails before it has the name, it is removed. If the sync of
+/// the folder fails, the file of this name is the complete new one, and a power cut may restore the
+/// old one.
 ///
-/// A file that is replaced has to be a plain one that can be written, and it is held meanwhile. Its
-/// permissions stay; a symbolic link to it stays too, and one that leads nowhere is refused. Where
-/// there was none, a file that another program makes meanwhile stays, and is in use. A block device
-/// is written by [`write_device`].
+/// A file that is replaced must be a plain one that can be written, and it is locked meanwhile. Its
+/// permissions stay. A symbolic link to it stays too, and one that leads nowhere is refused. If
+/// there was no file and another program makes one meanwhile, that file stays, and is in use. A
+/// block device is written by [`write_device`].
 pub fn replace_file<R: Files<File = File> + RandomSource>(
     runtime: &R,
     alloc: Global,
@@ -72,9 +72,9 @@ pub fn replace_file<R: Files<File = File> + RandomSource>(
     }
 }
 
-/// Writes a block device of as many bytes in its place, which is held meanwhile, and returns once
-/// they are on the medium. Where a write fails it holds a part of them: there is nowhere else that
-/// they could be put first.
+/// Writes a block device of the length of `bytes` in place, locks it meanwhile, and returns once
+/// the bytes are on the medium. If a write fails, the device holds a part of them, because there is
+/// no other place to put them first.
 fn write_device<R: Files<File = File>>(
     runtime: &R,
     alloc: Global,
@@ -83,7 +83,7 @@ fn write_device<R: Files<File = File>>(
 ) -> Result<(), FlashFault> {
     let length = bytes.len() as u64;
     let held = holding::open(runtime, alloc, path, length, Access::Write)?;
-    // Another file may have taken the name, of which a part would not do.
+    // Another file may have taken the name, and it must not be overwritten in part.
     if !held.is_device {
         return Err(FlashFault::Failed(io::Error::from(ErrorKind::InvalidInput)));
     }
@@ -91,7 +91,7 @@ fn write_device<R: Files<File = File>>(
     put(&mut device, 0, bytes, true).map_err(FlashFault::Failed)
 }
 
-/// Whether a plain file of this name can be made or replaced, as far as that can be known before.
+/// Returns an error if it is known that no plain file of this name can be made or replaced.
 pub fn check_replaceable<R: Files<File = File>>(
     runtime: &R,
     alloc: Global,
@@ -105,8 +105,8 @@ pub fn check_replaceable<R: Files<File = File>>(
     Ok(())
 }
 
-/// Opens and holds the file at this place that is to be replaced, which is a plain one that can be
-/// written. A link was put there after it was looked up.
+/// Opens and locks the file that is to be replaced at this place, a plain one that can be written.
+/// A link that is found there was put there after the name was looked up, so the file is in use.
 fn open_old<R: Files<File = File>>(
     runtime: &R,
     place: &Place,
@@ -128,7 +128,7 @@ fn open_old<R: Files<File = File>>(
     Ok(OldFile { file, found })
 }
 
-/// Writes a new file of these bytes and has it take this place, which is that of `old`, or free.
+/// Writes a new file of these bytes and puts it at this place. That is the place of `old`, or free.
 fn put_file<R: Files<File = File> + RandomSource>(
     runtime: &R,
     alloc: Global,

@@ -1,30 +1,30 @@
-//! The stack of the program, as much of it as the deepest command needs, had before all else.
+//! Reserves the stack that the deepest command needs before the program does anything else.
 //!
-//! The system makes the stack longer as it is used, and where it can't it ends the program by a
-//! signal, in the middle of what it does. So there is memory for the stack, or the program says that
-//! there is none before it does anything.
+//! The system grows the stack as it is used. If it can't, it ends the program by a signal in the
+//! middle of its work. Therefore the program makes sure that there is memory for the stack, or
+//! reports that there is none, before it does anything.
 
 use std::alloc::{AllocError, Global};
 
-/// How many pages of stack are had at least: 768 KiB. The deepest command was measured to need 408.
+/// The pages of stack that are reserved: 768 KiB. The deepest command needs 408 KiB, as measured.
 const PAGES: usize = 192;
 
-/// The bytes of a page of memory, or of a part of one.
+/// The size of a page of memory, or of a part of one, in bytes.
 const PAGE: usize = 1 << 12;
 
-/// How many bytes of memory there are before the stack takes so many pages, and what stands beside them.
+/// The memory in bytes that has to be free before the stack takes its pages: twice their size.
 const MEMORY: usize = 2 * PAGES * PAGE;
 
-/// What is written to each page.
+/// The byte that is written to each page.
 const MARK: u8 = 1;
 
-/// Has the system give the program as much stack as it needs.
+/// Makes the system give the program the stack that it needs.
 ///
 /// # Errors
-/// Where there isn't as much memory.
+/// There isn't that much memory.
 pub fn reserve_stack(alloc: Global) -> Result<(), AllocError> {
-    // The memory is given back before the stack takes it: where there is none the system says so here,
-    // and there it could only end the program.
+    // The memory is freed before the stack takes it. If there is none, the system returns an error
+    // here; when the stack grows it could only end the program.
     let marked = marked_in_memory(alloc)?;
     if marked_on_stack(PAGES, marked) < PAGES {
         return Err(AllocError);
@@ -32,7 +32,7 @@ pub fn reserve_stack(alloc: Global) -> Result<(), AllocError> {
     Ok(())
 }
 
-/// Marks memory, which is given back, and returns how many pages of it are marked.
+/// Marks memory, frees it, and returns how many of its pages were marked.
 #[inline(never)]
 fn marked_in_memory(alloc: Global) -> Result<usize, AllocError> {
     let mut area = vec![in alloc; 0; MEMORY]?;
@@ -40,9 +40,9 @@ fn marked_in_memory(alloc: Global) -> Result<usize, AllocError> {
     Ok(marked_with(&area, 0))
 }
 
-/// Marks pages of the stack, one a call, so that it gets so many longer, and returns how many are
-/// marked, beside those of before. A page is looked at once those below it are marked, so no compiler
-/// can have one stand for all.
+/// Marks pages of the stack, one a call, so that the stack grows by them. Returns how many are
+/// marked, including the `before` that were marked earlier. Each page is counted after those below
+/// it are marked, so a compiler can't use one page for all calls.
 #[inline(never)]
 fn marked_on_stack(pages: usize, before: usize) -> usize {
     let mut area = [0; PAGE];
@@ -62,7 +62,7 @@ fn mark(area: &mut [u8]) {
     }
 }
 
-/// How many pages are marked: those of an area, and others.
+/// Returns how many pages are marked: those of an area and `others`.
 #[inline(never)]
 fn marked_with(area: &[u8], others: usize) -> usize {
     let marked = area.chunks(PAGE).filter(|page| page[0] == MARK).count();

@@ -1,16 +1,16 @@
-//! Each write that this program makes to a file of the system.
+//! The writes that this program makes to a file of the system.
 
 use crate::system::lasting::Medium;
 use std::fs::File;
 use std::io;
 use std::os::unix::fs::FileExt;
 
-/// Writes all of `bytes` to a file, from its byte `at` on.
+/// Writes all of `bytes` to a file from byte `at` on.
 pub fn write_at(file: &File, at: u64, bytes: &[u8]) -> io::Result<()> {
     file.write_all_at(bytes, at)
 }
 
-/// A file that is written in its place.
+/// A file that is written in place.
 #[derive(Drop)]
 pub struct InPlace<'a> {
     /// The file, which is open for writing.

@@ -2,7 +2,7 @@ use Rattle.std.proofs.Common.{◌-◌, arith}
 use Rattle.host.proofs.FileLaws.{Passes-more}
 use Rattle.host.proofs.system.file_reading.pass_over.Goals as goal
 
--- The block that was read is gone too.
+-- The block that was read is passed over too.
 pub loop-left-preserved : goal.loop-left-preserved
 loop-left-preserved g c = record {
   within = omega arith;

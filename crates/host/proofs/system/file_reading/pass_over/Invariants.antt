@@ -2,7 +2,7 @@ use Rattle.std.proofs.Common.{◌≤◌, ◌-◌}
 use Rattle.host.specs.Passing.{Passes}
 use Rattle.host.proofs.system.file_reading.pass_over.Given as goal
 
--- what isn't left to pass over is gone
+-- All bytes but those that are left were passed over.
 abbrev pub invariant-loop-left : goal.invariant-loop-left
 invariant-loop-left g l = record {
   within : l.left ≤ l.count;

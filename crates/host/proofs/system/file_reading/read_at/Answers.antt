@@ -8,7 +8,7 @@ returns-clause-many c =
     length-filled c.read_exact_at.new.buf c.in_ok-part.part.items c.in_ok-part.part.len
     (c.read_exact_at.auto.buf ∙ c.deref_mut.ensures.len) ∙ c.in_ok-part.ensures.len
 
--- So there are no more than were asked for.
+-- The part has `count` bytes, which is at most the limit.
 pub returns-clause-most : goal.returns-clause-most
 returns-clause-most c =
     omega (

@@ -3,7 +3,7 @@ use Rattle.host.specs.Input.{IsKnownAs}
 use Rattle.host.proofs.FileLaws.{IsKnownAs-below}
 use Rattle.host.proofs.system.file_reading.read_input.Goals as goal
 
--- Fewer bytes came than the limit.
+-- Fewer bytes than the limit were read, so they are all.
 pub returns : goal.returns
 returns g c = λ few.
     let bytes = c.read_to_end.new.buf.items in

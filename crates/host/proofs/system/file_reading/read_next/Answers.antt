@@ -3,7 +3,7 @@ use Rattle.host.proofs.FileLaws.{BeginsWith-read}
 use Rattle.host.specs.Passing.{BeginsWith}
 use Rattle.host.proofs.system.file_reading.read_next.Goals as goal
 
--- What came is what was left at the front.
+-- The bytes that were read are a prefix of the input.
 pub returns-clause-next : goal.returns-clause-next
 returns-clause-next g c =
     let bytes = c.read_to_end.new.buf.items in

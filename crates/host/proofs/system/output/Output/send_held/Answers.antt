@@ -6,7 +6,7 @@ use Rattle.host.specs.Held.{held_contents}
 use Rattle.host.proofs.system.output.Output.send_held.Goals as goal
 use Rattle.host.proofs.system.output.Output.send_held.Goals.{in-Ok, in-Err}
 
--- what was taken of what is held stands behind it
+-- Bytes of the buffer that the writer takes are in the writer and no more in the buffer.
 Keeps-sent : (whole before after : Option (List ℕ)) (held : List ℕ) (sent count more : ℕ)
     → more ≡ sent + count → Keeps whole (append_known before (drop sent held))
     → Appends before after (take count (take (length held - sent) (drop sent held)))
@@ -20,7 +20,7 @@ Keeps-sent whole before after held sent count more sum kept taken =
     Keeps-trans whole (append_known before (drop sent held)) (append_known after (drop more held)) kept
     (append_known-moved before after (take count (drop sent held)) (drop more held) (drop sent held) same rest)
 
--- where nothing was taken all stays
+-- If the writer took nothing, the contents stay.
 Keeps-unsent : (whole before after : Option (List ℕ)) (rest : List ℕ) → Keeps whole (append_known before rest)
     → Keeps before after → Keeps whole (append_known after rest)
 Keeps-unsent None before after rest kept same = tt

@@ -2,7 +2,7 @@ use Rattle.std.specs.Io.KnownBytes.{Keeps}
 use Rattle.host.specs.Held.{held_contents}
 use Rattle.host.proofs.system.output.Output.send_held.Given as goal
 
--- what was sent left what is held
+-- What was sent and what is buffered are together what was buffered at the start.
 abbrev pub invariant-loop : goal.invariant-loop
 invariant-loop g l = record {
   kept : Keeps (held_contents g.W.Write.contents l.fn.self.to l.fn.self.held.items l.fn.self.sent)

@@ -4,7 +4,7 @@ use Rattle.std.specs.Io.KnownBytes.{Appends, Keeps, WriteAppends, append_known}
 use Rattle.host.specs.Held.{held_contents}
 use Rattle.host.proofs.system.output.OutputWrite.write.Goals as goal
 
--- behind nothing that is held bytes go on at once
+-- If the buffer is empty, written bytes go directly to the writer.
 Appends-passed : (whole before after : Option (List ℕ)) (rest bytes : List ℕ) → rest ≡ []
     → Keeps whole (append_known before rest) → Appends before after bytes
     → Appends whole (append_known after rest) bytes
