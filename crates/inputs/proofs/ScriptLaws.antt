@@ -1,4 +1,4 @@
--- Scripts that are read line by line, and what comes by them.
+-- Laws of scripts that are read line by line, and of their events.
 use Rattle.std.proofs.Common.{◌≡◌, ◌≢◌, ℕ, zero, suc, ◌+◌, ◌-◌, ◌≤◌, List, [], ◌∷◌, ◌++◌, ◌↔◌, Bool, Option, None, Some, IfSome, MatchBool, true, false, refl, ap, sym, ◌∙◌, subst, append_assoc, arith, codes, decimal, length, length-append, option_map, slice_get, take, true≢false}
 use Rattle.std.proofs.Math.ListN.{replicate}
 use Rattle.std.proofs.Math.Seq.{drop-append_seam, take-length}
@@ -37,11 +37,11 @@ use Rattle.inputs.specs.Script.{AllCome, AllCut, Comes, IsCutBy, IsRead, IsScrip
 use Rattle.host.proofs.InputLaws.{Gives-kept}
 use Rattle.host.proofs.InputLaws.{kept_itself, kept_twice}
 
--- what a line says that comes to the device
+-- An event that a line of a script says.
 abbrev ScriptEvent : Type 0
 ScriptEvent = Event FileText
 
--- what is known of a host, where nothing happened
+-- What a host is known to hold stays known.
 pub StaysKnown-itself : (input : Option (List ℕ)) (files : FileBytes)
     → StaysKnown (record { input = input; files = files }) input files
 StaysKnown-itself input files = record {
@@ -49,7 +49,7 @@ StaysKnown-itself input files = record {
   files_kept = λ file. kept_itself (files file);
 }
 
--- what is known after a source was read
+-- What is known after a source was read.
 pub StaysKnown-read : (source : Source) (known : Known) (input new_input : Option (List ℕ))
     (files new_files : FileBytes) → StaysKnown known input files
     → KeepsOthers source input files new_input new_files
@@ -61,7 +61,7 @@ StaysKnown-read (File name) known input new_input files new_files stays kept = r
   files_kept = λ file. kept_twice (known.files file) (files file) (new_files file) (stays.files_kept file) (kept.1 file);
 }
 
--- the source of a name was read
+-- The source of a name was read.
 pub IsRead-read : (name : List ℕ) (source : Source) (input new_input : Option (List ℕ))
     (files new_files : FileBytes) (bytes : List ℕ) → IsNamed name source
     → Gives source input files bytes → KeepsOthers source input files new_input new_files
@@ -77,13 +77,13 @@ IsRead-read name source input new_input files new_files bytes named given kept =
   StaysKnown-read source known input new_input files new_files stays kept,
 )
 
--- what is left of a host where nothing was read of it
+-- If nothing was read, the host is unchanged.
 KeepsOthers-itself : (source : Source) (input : Option (List ℕ)) (files : FileBytes)
     → KeepsOthers source input files input files
 KeepsOthers-itself StandardInput input files = tt
 KeepsOthers-itself (File name) input files = (kept_itself input, λ file. kept_itself (files file))
 
--- what is known of a part stays known
+-- A known part stays known.
 IsKnownPart-kept : (old new : Option (List ℕ)) (from count : ℕ) (part : List ℕ)
     → Keeps old new → IsKnownPart new from count part → IsKnownPart old from count part
 IsKnownPart-kept None new from count part kept is = record { many = is.many; there = tt; same = tt }
@@ -91,14 +91,14 @@ IsKnownPart-kept (Some xs) None from count part kept is = absurd kept
 IsKnownPart-kept (Some xs) (Some ys) from count part kept is =
     subst (λ held. IsKnownPart (Some held) from count part) kept is
 
--- bytes behind others are a part of all
+-- The bytes after a prefix are a part of all.
 behind : (before part : List ℕ) → part ≡ slice_range (before ++ part) (length before) (length before + length part)
 behind before part =
     let many : length before + length part - length before ≡ length part = omega arith in
     sym (ap (λ rest. take (length before + length part - length before) rest) (drop-append_seam before part)
     ∙ ap (λ n. take n part) many ∙ take-length part)
 
--- a part of what is known of a file is one of some bytes of it
+-- A known part of a file is the part of some bytes of the file.
 IsPart-known : (known : Option (List ℕ)) (words : PartWords) (from count : ℕ) (part : List ℕ)
     → words.from ≡ decimal from → words.count ≡ decimal count → IsKnownPart known from count part
     → (bytes : List ℕ) × IsKnownAs known bytes × IsPart words bytes part
@@ -121,7 +121,7 @@ IsPart-known None words from count part first many is =
 IsPart-known (Some held) words from count part first many is =
     (held, refl, (from, count, first, many, is.there, is.same))
 
--- a part of a file is read
+-- A part of a file is read.
 pub ReadsNow-part : (name : Bor (List ℕ)) (words : PartWords) (from count : ℕ) (part : List ℕ)
     (files : FileBytes) → name.now ≢ codes "-" → words.from ≡ decimal from → words.count ≡ decimal count
     → IsKnownPart (files name.now) from count part → ReadsNow (file_of name.now (Some words)) part files
@@ -134,7 +134,7 @@ ReadsNow-part name words from count part files named first many is = λ input fi
       stays,
     )
 
--- all of a file is read
+-- A complete file is read.
 pub ReadsNow-whole : (name : Bor (List ℕ)) (bytes : List ℕ) (files : FileBytes) → name.now ≢ codes "-"
     → IsKnownAs (files name.now) bytes → ReadsNow (file_of name.now None) bytes files
 ReadsNow-whole name bytes files named is = λ input first_files kept known stays.
@@ -145,7 +145,7 @@ ReadsNow-whole name bytes files named is = λ input first_files kept known stays
       stays,
     )
 
--- a part of standard input, or all of it, was read
+-- A part of standard input, or all of it, was read.
 IsBuffered-input : (name : List ℕ) (part : Option PartWords) (piece : List ℕ) (input : Option (List ℕ))
     (files : FileBytes) → name ≡ codes "-" → IsInputPiece part input piece
     → Passes (ReadsFile (file_of name part) piece) input files input files
@@ -156,32 +156,32 @@ IsBuffered-input name part piece input files named is = λ known stays.
       StaysKnown-read StandardInput known input input files files stays tt,
     )
 
--- what of an input was known, and was kept
+-- A part of an input that was kept is a part of the old input.
 IsInputPiece-kept : (part : Option PartWords) (old new : Option (List ℕ)) (files : FileBytes) (piece : List ℕ)
     → Keeps old new → IsInputPiece part new piece → IsInputPiece part old piece
 IsInputPiece-kept part old new files piece kept is =
     (is.0, Gives-kept StandardInput old new files files is.0 kept (λ name. kept_itself (files name)) is.1, is.2)
 
--- one more is buffered
+-- One more input is buffered.
 AreBuffered-push : (buffered : List BufferedInput) (item : BufferedInput) (input : Option (List ℕ)) (files : FileBytes)
     → AreBuffered buffered input files → IsBuffered item input files → AreBuffered (buffered ++ item ∷ []) input files
 AreBuffered-push [] item input files all one = (one, tt)
 AreBuffered-push (first ∷ rest) item input files all one =
     (all.0, AreBuffered-push rest item input files all.1 one)
 
--- each that is buffered is
+-- An input of the buffered ones is buffered.
 AreBuffered-get : (buffered : List BufferedInput) (place : ℕ) (input : Option (List ℕ)) (files : FileBytes)
     → AreBuffered buffered input files → IfSome (slice_get buffered place) (λ item. IsBuffered item input files)
 AreBuffered-get [] place input files all = tt
 AreBuffered-get (first ∷ rest) zero input files all = all.0
 AreBuffered-get (first ∷ rest) (suc place) input files all = AreBuffered-get rest place input files all.1
 
--- nothing was buffered, since it can be read again
+-- Nothing was buffered, because it can be read again.
 pub KeepsBuffered-none : (buffered : List BufferedInput) (is_read : Bool) (input : Option (List ℕ))
     (files : FileBytes) → KeepsBuffered buffered buffered is_read is_read input files input
 KeepsBuffered-none buffered is_read input files = λ first_input first_files files_kept input_kept all. (all, input_kept)
 
--- what a line names of a file was buffered
+-- The named bytes of a file were buffered.
 pub KeepsBuffered-file : (old new : List BufferedInput) (item : BufferedInput) (is_read : Bool)
     (input : Option (List ℕ)) (files : FileBytes) → new ≡ old ++ item ∷ []
     → ReadsNow (said_file item.file) item.bytes.items files → KeepsBuffered old new is_read is_read input files input
@@ -191,7 +191,7 @@ KeepsBuffered-file old new item is_read input files pushed read = λ first_input
   input_kept,
 )
 
--- what a line names of standard input was buffered
+-- The named bytes of standard input were buffered.
 pub KeepsBuffered-input : (old new : List BufferedInput) (item : BufferedInput) (was_read is_read : Bool)
     (input new_input : Option (List ℕ)) (files : FileBytes) → new ≡ old ++ item ∷ []
     → item.file.name.now ≡ codes "-" → was_read ≡ false → is_read ≡ true
@@ -207,7 +207,7 @@ KeepsBuffered-input old new item was_read is_read input new_input files pushed n
       λ not_read. absurd (true≢false (sym read ∙ not_read)),
     )
 
--- what was buffered is used
+-- A buffered input is used.
 pub Loads-buffered : (buffered : List BufferedInput) (files : FileBytes) (place : ℕ) (item : BufferedInput) (file : SaidFile)
     → slice_get buffered place ≡ Some item → said_file item.file ≡ file
     → Loads buffered files (ReadsFile file item.bytes.items)
@@ -216,26 +216,26 @@ Loads-buffered buffered files place item file found same = λ input first_files 
     (AreBuffered-get buffered place input first_files all) in
     subst (λ file. Passes (ReadsFile file item.bytes.items) input first_files input first_files) same is
 
--- what is read now serves, whatever was buffered
+-- Bytes that are read at the event are loaded, whatever was buffered.
 pub Loads-now : (buffered : List BufferedInput) (files : FileBytes) (file : SaidFile) (bytes : List ℕ)
     → ReadsNow file bytes files → Loads buffered files (ReadsFile file bytes)
 Loads-now buffered files file bytes read = λ input first_files files_kept all. read input first_files files_kept
 
--- a manifest comes, of which all bytes are loaded
+-- The event is a manifest, whose bytes are loaded.
 pub Loads-accept : (buffered : List BufferedInput) (files : FileBytes) (file : SaidFile) (text : List ℕ)
     → Loads buffered files (ReadsFile file text)
     → Loads buffered files (λ known after. Comes (event.Accept file) known (event.Accept text) after)
 Loads-accept buffered files file text loads = λ input first_files files_kept held known stays.
     let then = loads input first_files files_kept held known stays in (then.0, (text, then.1, refl), then.2)
 
--- a piece comes, of which all bytes are loaded
+-- The event is a piece, whose bytes are loaded.
 pub Loads-piece : (buffered : List BufferedInput) (files : FileBytes) (image : ℕ) (file : SaidFile) (piece : List ℕ)
     → Loads buffered files (ReadsFile file piece)
     → Loads buffered files (λ known after. Comes (event.Piece image file) known (event.Piece image piece) after)
 Loads-piece buffered files image file piece loads = λ input first_files files_kept held known stays.
     let then = loads input first_files files_kept held known stays in (then.0, (piece, then.1, refl), then.2)
 
--- what a line names that names a file, and no standard input
+-- A line names a file, and not standard input.
 pub said_file-named : (file : FileText) (source : Source) (name : Bor (List ℕ)) (part : Option PartText)
     → IsNamed file.name.now source → source ≡ File name → file.part ≡ part
     → file_of name.now (option_map part_words part) ≡ said_file file
@@ -244,14 +244,14 @@ said_file-named file source name part named is same =
     ap (λ w. file_of w (option_map part_words part)) word
     ∙ ap (λ p. file_of file.name.now (option_map part_words p)) (sym same)
 
--- its name isn't `-`
+-- The name of a file isn't `-`.
 pub not_input : (file : FileText) (source : Source) (name : Bor (List ℕ)) → IsNamed file.name.now source
     → source ≡ File name → name.now ≢ codes "-"
 not_input file source name named is = λ dash.
     let both = subst (IsNamed file.name.now) is named in both.0 (sym both.1 ∙ dash)
 
--- a text was taken up to what is left of it: whatever follows, what came so far and what comes by
--- the next lines comes by the first of all
+-- The lines of a text were loaded up to `rest`. For any lines and events that follow, the loaded
+-- events and those are the events of the complete text.
 pub record AreTaken (text rest : List ℕ) (line_order : LineOrder) (taken : ℕ) (buffered : List BufferedInput)
     (files : FileBytes) (came : List (Event (List ℕ))) : Type 0 where
   pub count : taken + length (lines_of rest) ≡ length (lines_of text)
@@ -259,7 +259,7 @@ pub record AreTaken (text rest : List ℕ) (line_order : LineOrder) (taken : ℕ
       → CanFollow line_order lines → AllZip IsLineText (take n (lines_of rest)) lines → AllCome lines now more
       → FirstCome (taken + n) text known (came ++ more))
 
--- nothing was taken
+-- No line was loaded.
 pub AreTaken-none : (text rest : List ℕ) (line_order : LineOrder) (buffered : List BufferedInput) (files : FileBytes)
     → rest ≡ text → ((lines : List Said) → CanFollow line_order lines ↔ AreInOrder 0 lines)
     → AreTaken text rest line_order 0 buffered files []
@@ -281,7 +281,7 @@ AreTaken-none text rest line_order buffered files all order = record {
   );
 }
 
--- a line more, which cuts a write
+-- One more line was loaded, which is a `cut`.
 pub AreTaken-cut : (text : List ℕ) (old new : Lines) (write : ℕ) (torn : TornText) (taken : ℕ)
     (buffered : List BufferedInput) (files : FileBytes) (came : List (Event (List ℕ)))
     → IsNextLine old new (line.Cut write torn)
@@ -303,12 +303,12 @@ AreTaken-cut text old new write torn taken buffered files came next before =
           );
     }
 
--- what comes by one event more
+-- One more event was added.
 pub came_in-push : {A : Type 0} (old new : List (Event (Vec ℕ A))) (one : Event (Vec ℕ A)) → new ≡ old ++ one ∷ []
     → came_in new ≡ came_in old ++ came_of one ∷ []
 came_in-push old new one added = ap (λ events. came_in events) added ∙ map-append came_of old (one ∷ [])
 
--- a line more, which is an event
+-- One more line was loaded, which is an event.
 pub AreTaken-event : (text : List ℕ) (old new : Lines) (happened : ScriptEvent) (taken : ℕ)
     (buffered : List BufferedInput) (files : FileBytes) (came : List (Event (List ℕ))) (one_came : Event (List ℕ))
     → IsNextLine old new (line.Event happened)
@@ -334,12 +334,12 @@ AreTaken-event text old new happened taken buffered files came one_came next loa
           );
     }
 
--- no line follows what was read
+-- An empty list of lines can always follow.
 nothing_follows : (has_event : Bool) (last : ℕ) → MatchBool has_event (AreEvents []) (AreInOrder last [])
 nothing_follows true last = tt
 nothing_follows false last = tt
 
--- the lines that were taken are the first
+-- The loaded lines are the first ones.
 pub LoadsFirst-taken : (text rest : List ℕ) (line_order : LineOrder) (taken : ℕ) (buffered : List BufferedInput)
     (files : FileBytes) (came : List (Event (List ℕ))) → AreTaken text rest line_order taken buffered files came
     → LoadsFirst taken text buffered files came
@@ -353,13 +353,13 @@ LoadsFirst-taken text rest line_order taken buffered files came are = λ input f
       then.2,
     )
 
--- no line was taken
+-- No line was loaded.
 pub LoadsFirst-none : (text : List ℕ) (buffered : List BufferedInput) (files : FileBytes)
     → LoadsFirst 0 text buffered files []
 LoadsFirst-none text buffered files = λ input first_files files_kept held known stays.
     (known, record { lines = []; say = tt; order = tt; come = refl }, stays)
 
--- all lines were taken
+-- All lines were loaded.
 pub LoadsAll-taken : (text rest : List ℕ) (line_order : LineOrder) (taken : ℕ) (buffered : List BufferedInput)
     (files : FileBytes) (came : List (Event (List ℕ))) → length rest ≡ 0
     → AreTaken text rest line_order taken buffered files came → LoadsAll text buffered files came
@@ -368,7 +368,7 @@ LoadsAll-taken text [] line_order taken buffered files came none are =
     subst (λ k. LoadsFirst k text buffered files came) all (LoadsFirst-taken text [] line_order taken buffered files came are)
 LoadsAll-taken text (b ∷ rest) line_order taken buffered files came none are = absurd (omega (arith, none))
 
--- a text says the cuts so far, and then those of what is left of it
+-- The cuts of a text are those found so far, followed by those of the rest of the text.
 abbrev pub CutSoFar : List ℕ → List ℕ → List Armed → Type 0
 CutSoFar text rest cuts = (all : List Said) → AllZip IsLineText (lines_of text) all
     → (lines : List Said) × AllZip IsLineText (lines_of rest) lines
@@ -378,7 +378,7 @@ pub CutSoFar-none : (text rest : List ℕ) → rest ≡ text → CutSoFar text r
 CutSoFar-none text rest all =
     λ lines say. (lines, subst (λ t. AllZip IsLineText (lines_of t) lines) (sym all) say, λ others cut. cut)
 
--- the first of some lines says what its text says
+-- The first of some lines says what its text says.
 first_says : (text : List ℕ) (more : List (List ℕ)) (one : Said) (lines : List Said) → IsLineText text one
     → AllZip IsLineText (text ∷ more) lines
     → (rest : List Said) × (lines ≡ one ∷ rest) × AllZip IsLineText more rest
@@ -386,7 +386,7 @@ first_says text more one [] is say = absurd say
 first_says text more one (other ∷ rest) is say =
     (rest, ap (λ first. first ∷ rest) (one_line text other one say.0 is), say.1)
 
--- what a line adds to the cuts so far
+-- A line adds its cut to those found so far.
 cut_more : (one : Said) (lines all : List Said) (cuts new_cuts others : List Armed) → AddsCut one cuts new_cuts
     → AllCut lines others → ((armed : List Armed) → AllCut (one ∷ lines) armed → AllCut all (cuts ++ armed))
     → AllCut all (new_cuts ++ others)
@@ -397,7 +397,7 @@ cut_more (said.Cut write torn) lines all cuts new_cuts others adds are then =
 cut_more (said.Event happened) lines all cuts new_cuts others adds are then =
     subst (λ l. AllCut all (l ++ others)) (sym adds) (then others are)
 
--- a line more
+-- One more line was checked.
 pub CutSoFar-more : (text : List ℕ) (old new : Lines) (taken : Line) (cuts new_cuts : List Armed)
     → IsNextLine old new taken → AddsCut (said.said taken) cuts new_cuts → CutSoFar text old.rest.now cuts
     → CutSoFar text new.rest.now new_cuts
@@ -413,13 +413,13 @@ CutSoFar-more text old new taken cuts new_cuts next adds before = λ all say.
           (λ armed cut. so_far.2 armed (subst (λ lines. AllCut lines armed) (sym first.1) cut)),
     )
 
--- a cut more is of the last write that is to be cut
+-- A `cut` line adds its write as the last one.
 pub AddsCut-taken : (write : ℕ) (torn : SaidTorn) (old new : List CutWrite) (cut : CutWrite) → new ≡ old ++ cut ∷ []
     → IsCutBy write torn (armed_of cut) → AddsCut (said.Cut write torn) (armed_in old) (armed_in new)
 AddsCut-taken write torn old new cut added is =
     (armed_of cut, is, ap (λ cuts. armed_in cuts) added ∙ map-append armed_of old (cut ∷ []))
 
--- no line is left
+-- No line is left.
 no_lines : (lines : List Said) → AllZip IsLineText [] lines → lines ≡ []
 no_lines [] say = refl
 no_lines (one ∷ rest) say = absurd say
@@ -432,12 +432,12 @@ AreCutsOf-all text [] cuts none so_far = λ lines say.
     (left.2 [] (subst (λ l. AllCut l []) (sym (no_lines left.0 left.1)) refl))
 AreCutsOf-all text (b ∷ rest) cuts none so_far = absurd (omega (arith, none))
 
--- where there are no cuts, no write is to be cut
+-- An empty list has no cuts.
 pub no_cuts : (cuts : List CutWrite) → length cuts ≡ 0 → armed_in cuts ≡ []
 no_cuts [] none = refl
 no_cuts (cut ∷ rest) none = absurd (omega (arith, none))
 
--- a text is a script by which all events come that were loaded of its lines
+-- A text is a script whose events are all that were loaded from its lines.
 pub IsScript-loaded : (text : List ℕ) (cuts : List Armed) (came : List (Event (List ℕ)))
     (buffered : List BufferedInput) (input : Option (List ℕ)) (first_files files : FileBytes) → AreCutsOf text cuts
     → LoadsAll text buffered files came → KeepsFiles first_files files → AreBuffered buffered input first_files

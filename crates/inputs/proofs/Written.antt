@@ -1,4 +1,4 @@
--- What a file holds once a changed range was written to it, and how a write ends.
+-- The contents of a file after a changed range was written to it, and the result of a write.
 use Rattle.std.proofs.Common.{◌≡◌, ℕ, ◌+◌, ◌-◌, ◌<◌, ◌≤◌, Bool, true, false, List, length, take}
 use Rattle.std.proofs.Common.{Option, None, Some, Result, Ok, Err, OnOk, option_map, slice_index, slice_range}
 use Rattle.std.proofs.Common.{refl, sym, ◌∙◌, ap, arith, ⊎_elim}
@@ -14,7 +14,7 @@ use Rattle.inputs.specs.FileFlash.{OverFile, WritesThrough}
 use Rattle.flash_model.proofs.Ranges.{length_range, range_at}
 use Rattle.flash_model.proofs.TornBytes.{outside_of_replaced}
 
--- Where all but a range is as it was, putting that range over the old bytes gives the new ones.
+-- If only a range changed, writing that range over the old bytes gives the new ones.
 pub replaced_range : (at n : ℕ) (old new : Chip) → SameOutside at n old new → at + n ≤ length old.bytes
     → replaced at (slice_range new.bytes at (at + n)) old.bytes ≡ new.bytes
 replaced_range at n old new same inside =
@@ -47,7 +47,7 @@ written_through at n old new (Some bytes) after all same inside held is known =
     ∙ ap (λ x. replaced at (slice_range new.bytes at (at + n)) x) (held bytes refl)
     ∙ replaced_range at n old new same inside
 
--- So it does after each write of the file that didn't fail.
+-- This holds after each write of the file that didn't fail.
 pub still_written : {E : Type 0} (through : Result Unit E) (failed : Bool) (at n : ℕ) (old new : Chip)
     (before after : Option (List ℕ)) → failed ≡ is_err through
     → OnOk through (after ≡ option_map (replaced at (slice_range new.bytes at (at + n))) before)
@@ -59,7 +59,7 @@ still_written (Ok value) failed at n old new before after is through same inside
 still_written (Err error) failed at n old new before after is through same inside held fine all known =
     absurd (false≢true (sym fine ∙ is))
 
--- A write that was done in memory and in the file is done.
+-- A write that succeeded in memory and in the file is done.
 pub done_through : (below : Result Unit FlashError) (at : ℕ) (range : List ℕ) (done : Chip)
     (old new : OverFile) → Writes below at range done old.memory new.memory → is_ok below ≡ true
     → old.memory.is_on ≡ true → old.chip.is_on ≡ true → old.has_failed ≡ false → new.has_failed ≡ false

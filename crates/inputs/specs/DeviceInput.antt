@@ -1,4 +1,4 @@
--- What the commands of a device read: its device file, and the bytes of its flash.
+-- What the commands on a device read: its device file, and the bytes of its flash.
 use Rattle.std.specs.Prelude.{◌≡◌, ℕ, List, Option, None, Some}
 use Rattle.std.specs.Io.KnownBytes.{Appends}
 use Rattle.sector_map.specs.declared.error.MapError.{MapError}
@@ -12,27 +12,28 @@ use Rattle.host.specs.declared.source.Source.TheVariants.{StandardInput, File}
 use Rattle.host.specs.Doings.{IsOpenedFor, Openings}
 use Rattle.host.specs.Input.{FileBytes, Gives}
 
--- A source held the device file of a device ..
+-- The source contains the device file of this device.
 abbrev pub GivesDevice : Source → Option (List ℕ) → FileBytes → DeviceFile → Type 0
 GivesDevice source input files device =
     (bytes : List ℕ) × Gives source input files bytes × IsDeviceFile bytes device
 
--- .. or one whose sizes make no map, and the writer took why.
+-- The source contains a device file whose sizes make no map, and the reason was appended to the
+-- output.
 abbrev pub RefusesMap : Source → Option (List ℕ) → FileBytes
     → Option (List ℕ) → Option (List ℕ) → Type 0
 RefusesMap source input files old new =
     (bytes : List ℕ) × (refused : MapError) × Gives source input files bytes
     × IsDeviceFault bytes (fault.Map refused) × Appends old new (map_refusal_text refused)
 
--- What was read of a device file: the device, and the writer took nothing; or none, because its
--- sizes make no map.
+-- The result of reading a device file. It is either a device, and the output is unchanged; or none,
+-- because the sizes in the file make no map.
 abbrev pub ReadsDevice : Option DeviceFile → Source → Option (List ℕ) → FileBytes
     → Option (List ℕ) → Option (List ℕ) → Type 0
 ReadsDevice (Some device) source input files old new =
     GivesDevice source input files device × (new ≡ old)
 ReadsDevice None source input files old new = RefusesMap source input files old new
 
--- How a host opened the file of a flash that was read: for this access, and not at all if the flash
+-- How a host opened the file of a flash that was read: for this access. It opened none if the flash
 -- is standard input.
 abbrev pub OpensFlash : Access → Source → Openings → Openings → Type 0
 OpensFlash access StandardInput old new = new ≡ old

@@ -1,4 +1,4 @@
--- A flash over a file: what a contract sees of it, and what a write of it leaves.
+-- A flash over a file: what contracts see of it, and the state after a write.
 use Rattle.std.specs.Prelude.{◌≡◌, ◌↔◌, ℕ, ◌+◌, ◌*◌, true, false, Bool, List, replicate}
 use Rattle.std.specs.Prelude.{None, Some, Result, IsOk, IsErrOf}
 use Rattle.flash_model.specs.declared.error.FlashError.{FlashError}
@@ -8,15 +8,16 @@ use Rattle.flash_model.specs.Chip.{Chip}
 use Rattle.flash_model.specs.Memory.{chip_of as memory_of, erased, next_torn, programmed, torn}
 use Rattle.inputs.specs.declared.file_flash.FileFlash.{FileFlash}
 
--- A flash over a file: the flash itself, the one in memory that has its bytes, and whether a write
--- of the file failed.
+-- A flash over a file. `chip` is the flash itself, `memory` is the flash in memory that has its
+-- bytes, and `has_failed` says whether a write of the file failed.
 pub record OverFile : Type 0 where
   pub chip : Chip
   pub memory : Chip
   pub has_failed : Bool
 
--- The flash itself: sectors, bytes and writes are those in memory, power and erases its own. Its
--- cuts are those of the flash in memory, and the faults, which the flash in memory doesn't count.
+-- The flash itself. Its sectors, bytes and writes are those of the flash in memory. It has its own
+-- power and counts its own erases. Its cuts are those of the flash in memory and the faults, which
+-- the flash in memory doesn't count.
 abbrev pub chip_of : {F L M : Type 0} {g : _} → FileFlash F L M g → Chip
 chip_of flash = record (memory_of flash.memory) {
   is_on = flash.is_on;
@@ -25,7 +26,7 @@ chip_of flash = record (memory_of flash.memory) {
   faults = flash.faults.amount;
 }
 
--- The flash, with the one in memory.
+-- The flash together with the one in memory.
 abbrev pub over_file : {F L M : Type 0} {g : _} → FileFlash F L M g → OverFile
 over_file flash = record {
   chip = chip_of flash;
@@ -33,11 +34,11 @@ over_file flash = record {
   has_failed = flash.has_failed;
 }
 
--- The file under it.
+-- The file below the flash.
 abbrev pub file_of : {F L M : Type 0} {g : _} → FileFlash F L M g → F
 file_of flash = flash.file
 
--- A flash over a file that was just made, of one in memory: no erase was counted.
+-- A new flash over a file, made of a flash in memory. It has counted no erases.
 abbrev pub new_over : Chip → OverFile
 new_over below = record {
   chip = record below { erases = 0 };
@@ -45,7 +46,7 @@ new_over below = record {
   has_failed = false;
 }
 
--- After a cut that the flash in memory doesn't count.
+-- The state after a cut that the flash in memory doesn't count.
 abbrev pub cut_short : OverFile → OverFile
 cut_short old = record old {
   chip = record (old.chip) {
@@ -55,16 +56,17 @@ cut_short old = record old {
   };
 }
 
--- With power again, and no byte changed.
+-- The state after power returned. No byte is changed.
 abbrev pub restarted : OverFile → OverFile
 restarted old = record old {
   chip = record (old.chip) { is_on = true };
   memory = record (old.memory) { is_on = true };
 }
 
--- A write of these bytes to a flash over a file. A flash that is off refuses it. If the file failed
--- before, the write is cut and nothing changes. Otherwise the flash in memory is written, or cut as
--- it was armed, and the result is `Ok` exactly if it wasn't cut and the file didn't fail.
+-- The effect of a write of these bytes to a flash over a file. A flash that is off refuses it. If
+-- the file failed before, the write is cut and nothing changes. Otherwise the flash in memory is
+-- written, or cut as it was armed. The result is `Ok` exactly if it wasn't cut and the file didn't
+-- fail.
 pub record WritesThrough (result : Result Unit FlashError) (at : ℕ) (range : List ℕ) (done : Chip)
     (old new : OverFile) : Type 0 where
   pub off : old.chip.is_on ≡ false → IsErrOf result Off × (new ≡ old)
@@ -76,12 +78,12 @@ pub record WritesThrough (result : Result Unit FlashError) (at : ℕ) (range : L
       → next_torn old.memory ≡ Some left
       → (new.memory ≡ torn at range left old.memory) × IsErrOf result Cut
 
--- A program of these bytes ends so.
+-- The effect of programming these bytes.
 abbrev pub ProgramsThrough : ℕ → List ℕ → OverFile → OverFile → Result Unit FlashError → Type 0
 ProgramsThrough at range old new result =
     WritesThrough result at range (programmed at range old.memory) old new
 
--- An erase of a sector ends so.
+-- The effect of erasing a sector.
 abbrev pub ErasesThrough : ℕ → OverFile → OverFile → Result Unit FlashError → Type 0
 ErasesThrough sector old new result =
     let at = sector * old.chip.sector_size in

@@ -1,4 +1,4 @@
--- What reading a script results in, line by line: for the private contracts of its readers.
+-- The result of reading a script line by line, for the private contracts of its readers.
 use Rattle.std.specs.Prelude.{◌≡◌, ◌≢◌, ◌⊎◌, ◌↔◌, ℕ, ◌+◌, List, [], ◌∷◌, ◌++◌, false, Bool, IfSome, IsTrue, None, Option, Some, Vec, length, map, slice_get, take}
 use Rattle.std.specs.Borrow.{Bor}
 use Rattle.std.specs.Io.KnownBytes.{Keeps}
@@ -20,22 +20,22 @@ use Rattle.host.specs.Doings.{AreApart}
 use Rattle.host.specs.Input.{FileBytes, IsKnownAs, KeepsFiles}
 use Rattle.inputs.specs.Script.{AllCome, AllCut, IsCutBy, IsPieceOf, Known, ReadsFile, StaysKnown}
 
--- The event that comes, with its bytes as a list.
+-- An event of the device, with its bytes as a list.
 abbrev pub came_of : {A : Type 0} → Event (Vec ℕ A) → Event (List ℕ)
 came_of read = event_map (λ bytes. bytes.items) read
 
--- The events that come, in order.
+-- Events of the device in order.
 abbrev pub came_in : {A : Type 0} → List (Event (Vec ℕ A)) → List (Event (List ℕ))
 came_in events = map came_of events
 
--- What is known of a host passes from one state of it to another, and this is said of it.
+-- Knowledge of a host carries over from one of its states to another, and `Says` holds of both.
 abbrev pub Passes : (Known → Known → Type 0) → Option (List ℕ) → FileBytes
     → Option (List ℕ) → FileBytes → Type 0
 Passes Says old_input old_files new_input new_files =
     (known : Known) → StaysKnown known old_input old_files
     → (after : Known) × Says known after × StaysKnown after new_input new_files
 
--- The next line of a text says this, and can follow the lines before it.
+-- `line` is the next line of a text, and can follow the lines before it.
 pub record IsNextLine (old new : Lines) (line : Line) : Type 0 where
   pub text : List ℕ
   pub parts : lines_of old.rest.now ≡ text ∷ lines_of new.rest.now
@@ -43,18 +43,18 @@ pub record IsNextLine (old new : Lines) (line : Line) : Type 0 where
   pub follows : (lines : List Said)
       → CanFollow new.order lines ↔ CanFollow old.order (said line ∷ lines)
 
--- What a line adds to the writes that are to be cut.
+-- What a line adds to the armed cuts.
 abbrev pub AddsCut : Said → List Armed → List Armed → Type 0
 AddsCut (say.Cut write torn) old new =
     (cut : Armed) × IsCutBy write torn cut × (new ≡ old ++ cut ∷ [])
 AddsCut (say.Event happened) old new = new ≡ old
 
--- These writes are to be cut by all that a text may say as lines.
+-- These are the cuts of any lines that the text can be read as.
 abbrev pub AreCutsOf : List ℕ → List Armed → Type 0
 AreCutsOf text cuts =
     (lines : List Said) → AllZip IsLineText (lines_of text) lines → AllCut lines cuts
 
--- These bytes are what a line names, as read of a host of which this is known.
+-- These are the bytes that a line names, as read from a host of which this is known.
 abbrev pub IsBuffered : BufferedInput → Option (List ℕ) → FileBytes → Type 0
 IsBuffered item input files =
     Passes (ReadsFile (said_file item.file) item.bytes.items) input files input files
@@ -63,8 +63,8 @@ abbrev pub AreBuffered : List BufferedInput → Option (List ℕ) → FileBytes 
 AreBuffered [] input files = Unit {0}
 AreBuffered (item ∷ rest) input files = IsBuffered item input files × AreBuffered rest input files
 
--- The inputs that were buffered before are buffered still, as of each earlier state of the host.
--- What is left of its input stays known as long as none of it is read.
+-- The inputs that were buffered before are still buffered, as of each earlier state of the host.
+-- The rest of standard input stays known as long as none of it is read.
 abbrev pub KeepsBuffered : List BufferedInput → List BufferedInput → Bool → Bool
     → Option (List ℕ) → FileBytes → Option (List ℕ) → Type 0
 KeepsBuffered old new was_read is_read input files new_input =
@@ -72,25 +72,26 @@ KeepsBuffered old new was_read is_read input files new_input =
     → (was_read ≡ false → Keeps first_input input) → AreBuffered old first_input first_files
     → AreBuffered new first_input first_files × (is_read ≡ false → Keeps first_input new_input)
 
--- These are the bytes of a known input, or the part of them that two words name.
+-- These are all bytes of a known input, or the part of them that two words name.
 abbrev pub IsInputPiece : Option PartWords → Option (List ℕ) → List ℕ → Type 0
 IsInputPiece part input piece =
     (bytes : List ℕ) × IsKnownAs input bytes × IsPieceOf part bytes piece
 
--- What a line names is read of these files, as of each state of a host in which they were known.
+-- The bytes that a line names are read from these files. This holds for each state of a host in
+-- which they were known.
 abbrev pub ReadsNow : SaidFile → List ℕ → FileBytes → Type 0
 ReadsNow file bytes files = (input : Option (List ℕ)) (first_files : FileBytes)
     → KeepsFiles first_files files
     → Passes (ReadsFile file bytes) input first_files input first_files
 
--- This follows of the buffered inputs and these files, for each state of a host in which they were
--- known.
+-- `Says` follows from the buffered inputs and these files, for each state of a host in which they
+-- were known.
 abbrev pub Loads : List BufferedInput → FileBytes → (Known → Known → Type 0) → Type 0
 Loads buffered files Says = (input : Option (List ℕ)) (first_files : FileBytes)
     → KeepsFiles first_files files → AreBuffered buffered input first_files
     → Passes Says input first_files input first_files
 
--- These events come of the first `count` lines of a text, which are a prefix of a script.
+-- The first `count` lines of a text are a prefix of a script, and these are their events.
 pub record FirstCome (count : ℕ) (text : List ℕ) (known : Known)
     (came : List (Event (List ℕ))) : Type 0 where
   pub lines : List Said
@@ -98,40 +99,41 @@ pub record FirstCome (count : ℕ) (text : List ℕ) (known : Known)
   pub order : AreInOrder 0 lines
   pub come : AllCome lines known came
 
--- These events come of the first `count` lines of a text, with the buffered inputs and these files.
+-- These are the events of the first `count` lines of a text, given the buffered inputs and these
+-- files.
 abbrev pub LoadsFirst : ℕ → List ℕ → List BufferedInput → FileBytes
     → List (Event (List ℕ)) → Type 0
 LoadsFirst count text buffered files came =
     Loads buffered files (λ known after. FirstCome count text known came)
 
--- These events come of all lines of a text.
+-- These are the events of all lines of a text.
 abbrev pub LoadsAll : List ℕ → List BufferedInput → FileBytes
     → List (Event (List ℕ)) → Type 0
 LoadsAll text buffered files came = LoadsFirst (length (lines_of text)) text buffered files came
 
 -- A file of this name gives the same bytes when it is read later: it is a plain file, and isn't the
--- one that a run writes.
+-- file that a run writes.
 pub record CanBeReadAgain (plain : List ℕ → Bool) (apart : List ℕ → List ℕ → Bool)
     (name : List ℕ) (flash : Option (Bor (List ℕ))) : Type 0 where
   pub plain_file : IsTrue (plain name)
   pub other : IfSome flash (λ word. AreApart apart name word.now)
 
--- What a line names was added to the buffered inputs, or it can be read again and nothing was
--- added.
+-- The bytes that a line names were added to the buffered inputs, or they can be read again and
+-- nothing was added.
 abbrev pub BuffersIfNeeded : (List ℕ → Bool) → (List ℕ → List ℕ → Bool) → Option (Bor (List ℕ))
     → FileText → List BufferedInput → List BufferedInput → Type 0
 BuffersIfNeeded plain apart flash file old new =
     ((item : BufferedInput) × (item.file ≡ file) × (new ≡ old ++ item ∷ []))
     ⊎ (CanBeReadAgain plain apart file.name.now flash × (new ≡ old))
 
--- What an event names of a file, if it names one.
+-- The file that an event names, if it names one.
 abbrev pub file_in : SaidEvent → Option SaidFile
 file_in (event.Accept file) = Some file
 file_in (event.Piece image file) = Some file
 file_in other = None
 
--- The bytes are those of the next buffered input, which is of what the line names, and one input
--- more was used. So no input that was read once comes twice.
+-- The bytes are those of the next buffered input, which is of the named file, and one more input is
+-- used. Therefore no buffered input is used twice.
 pub record ComesBuffered (buffered : List BufferedInput) (used after : ℕ) (file : SaidFile)
     (bytes : List ℕ) : Type 0 where
   pub item : BufferedInput
@@ -140,18 +142,18 @@ pub record ComesBuffered (buffered : List BufferedInput) (used after : ℕ) (fil
   pub content : bytes ≡ item.bytes.items
   pub one_more : after ≡ used + 1
 
--- The next buffered input, if there is one, isn't of what the line names, and none was used.
+-- The next buffered input, if there is one, isn't of the named file, and none is used.
 pub record LeavesBuffered (buffered : List BufferedInput) (used after : ℕ) (file : SaidFile)
     : Type 0 where
   pub other : (item : BufferedInput) → slice_get buffered used ≡ Some item → said_file item.file ≢ file
   pub none : after ≡ used
 
--- What a line with these bytes of a file used of the buffered inputs.
+-- How a line with these bytes of a file uses the buffered inputs.
 abbrev pub TakesNext : List BufferedInput → ℕ → ℕ → SaidFile → List ℕ → Type 0
 TakesNext buffered used after file bytes =
     ComesBuffered buffered used after file bytes ⊎ LeavesBuffered buffered used after file
 
--- What an event used of the buffered inputs, with the bytes of its file if it names one.
+-- How an event uses the buffered inputs, with the bytes of its file if it names one.
 abbrev pub EventTakesNext : List BufferedInput → ℕ → ℕ → SaidEvent → Event (List ℕ) → Type 0
 EventTakesNext buffered used after (event.Accept file) came =
     (bytes : List ℕ) × TakesNext buffered used after file bytes × (came ≡ event.Accept bytes)

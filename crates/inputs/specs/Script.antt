@@ -1,4 +1,5 @@
--- What the script of a run says, and what comes to the device by it and by the files that it names.
+-- The meaning of a run's script: its cuts, and its events with the bytes of the files that it
+-- names.
 use Rattle.std.specs.Prelude.{◌≡◌, ℕ, List, [], ◌∷◌, Option, None, Some}
 use Rattle.std.specs.Io.KnownBytes.{Keeps}
 use Rattle.std.specs.List.{AllZip}
@@ -16,7 +17,7 @@ use Rattle.host.specs.declared.source.Source.{Source}
 use Rattle.host.specs.declared.source.Source.TheVariants.{StandardInput, File}
 use Rattle.host.specs.Input.{FileBytes, Gives, IsNamed, KeepsFiles}
 
--- What is known of a host: what is left of its standard input, and what its files hold.
+-- What is known of a host: the rest of its standard input, and the contents of its files.
 pub record Known : Type 0 where
   pub input : Option (List ℕ)
   pub files : FileBytes
@@ -26,8 +27,8 @@ pub record StaysKnown (known : Known) (input : Option (List ℕ)) (files : FileB
   pub input_kept : Keeps known.input input
   pub files_kept : KeepsFiles known.files files
 
--- What is known after a source was read: all that was, where it is a file. What a file holds once
--- standard input was read is not said.
+-- What is known after a source was read. If it is a file, that is all that was known before. After
+-- standard input was read, nothing is known, not even the contents of files.
 abbrev pub known_after : Source → Known → Known
 known_after StandardInput known = record { input = None; files = λ name. None }
 known_after (File name) known = known
@@ -37,24 +38,24 @@ abbrev pub known_after_each : List Source → Known → Known
 known_after_each [] known = known
 known_after_each (source ∷ rest) known = known_after_each rest (known_after source known)
 
--- The file of a name that stands in a script is read, or standard input.
+-- The source that a script names is read: a file or standard input.
 pub record IsRead (name : List ℕ) (known : Known) (bytes : List ℕ) (after : Known) : Type 0 where
   pub source : Source
   pub named : IsNamed name source
   pub given : Gives source known.input known.files bytes
   pub then : after ≡ known_after source known
 
--- The bytes of a file, or the part of them that two words name.
+-- All bytes of a file, or the part of them that two words name.
 abbrev pub IsPieceOf : Option PartWords → List ℕ → List ℕ → Type 0
 IsPieceOf None bytes piece = piece ≡ bytes
 IsPieceOf (Some words) bytes piece = IsPart words bytes piece
 
--- What a line names of a file was read: all of it, or a part.
+-- The bytes that a line names were read: a complete file or a part.
 abbrev pub ReadsFile : SaidFile → List ℕ → Known → Known → Type 0
 ReadsFile file piece known after =
     (bytes : List ℕ) × IsRead file.name known bytes after × IsPieceOf file.part bytes piece
 
--- What comes to the device by a line, and what is known of the host then.
+-- The event of a line, and what is known of the host after it.
 abbrev pub Comes : SaidEvent → Known → Event (List ℕ) → Known → Type 0
 Comes (event.Accept file) known came after =
     (text : List ℕ) × ReadsFile file text known after × (came ≡ event.Accept text)
@@ -66,7 +67,7 @@ Comes (event.Confirm image) known came after = (came ≡ event.Confirm image) ×
 Comes event.Boot known came after = (came ≡ event.Boot) × (after ≡ known)
 Comes event.Reset known came after = (came ≡ event.Reset) × (after ≡ known)
 
--- What comes by lines, one after the other.
+-- The events of lines in order.
 abbrev pub AllCome : List Said → Known → List (Event (List ℕ)) → Type 0
 AllCome [] known came = came ≡ []
 AllCome (said.Cut write torn ∷ lines) known came = AllCome lines known came
@@ -74,12 +75,12 @@ AllCome (said.Event happened ∷ lines) known came =
     (first : Event (List ℕ)) × (after : Known) × (more : List (Event (List ℕ)))
     × Comes happened known first after × AllCome lines after more × (came ≡ first ∷ more)
 
--- A write is to be cut as a line says: the write of that number, with what it leaves.
+-- A `cut` line arms this cut: the write of that number, and what it leaves.
 pub record IsCutBy (write : ℕ) (torn : SaidTorn) (cut : Armed) : Type 0 where
   pub number : cut.at ≡ write
   pub leaves : Leaves torn cut.torn
 
--- The writes that are to be cut by lines, one after the other.
+-- The cuts of lines in order.
 abbrev pub AllCut : List Said → List Armed → Type 0
 AllCut [] cuts = cuts ≡ []
 AllCut (said.Cut write torn ∷ lines) cuts =
@@ -87,8 +88,8 @@ AllCut (said.Cut write torn ∷ lines) cuts =
     × (cuts ≡ first ∷ more)
 AllCut (said.Event happened ∷ lines) cuts = AllCut lines cuts
 
--- A text is a script by which these writes are to be cut and this comes to the device: each of its
--- lines says something, cuts stand before events and their numbers rise.
+-- A text is a script with these cuts and these events. Each of its lines says something, `cut`
+-- lines come before events, and their numbers rise.
 pub record IsScript (text : List ℕ) (known : Known) (cuts : List Armed)
     (came : List (Event (List ℕ))) : Type 0 where
   pub lines : List Said

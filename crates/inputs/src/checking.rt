@@ -1,4 +1,4 @@
-//! Checks a script before anything is run: whether each of its lines can be done.
+//! Checks a script before anything is run: each of its lines and the files that they name.
 ghost use Rattle.std.specs.Prelude.{◌≡◌, ◌++◌, ◌∷◌, [], IfOk, OnOk, false, true};
 ghost use Rattle.std.specs.Option.{option_map};
 ghost use Rattle.common.specs.Event.{event_map};
@@ -26,10 +26,10 @@ pub struct BufferedInput<'a> {
     pub bytes: Vec<u8>,
 }
 
-/// What is stored of a script whose lines were checked.
+/// What was found out about a script while its lines were checked.
 #[derive(Drop)]
 pub struct CheckedScript<'a> {
-    /// The writes that are cut, by rising numbers.
+    /// The writes that a power cut interrupts, in the order of their numbers.
     pub cuts: Vec<CutWrite>,
     /// The inputs of lines that can't be read twice, in the order of the lines.
     pub buffered: Vec<BufferedInput<'a>>,
@@ -105,7 +105,7 @@ fn check_line<'a, H: Host>(
     }
 }
 
-/// The write that a line of a script cuts.
+/// Returns the write that a `cut` line of a script interrupts.
 fn cut_write(alloc: Global, write: u32, torn: TornText<'_>) -> Result<CutWrite, Refusal>
     ensures { IfOk result (λ cut. IsCutBy write (said_torn torn.entry) (armed_of cut)) }
 {
@@ -115,7 +115,7 @@ fn cut_write(alloc: Global, write: u32, torn: TornText<'_>) -> Result<CutWrite, 
     }
 }
 
-/// Adds a write that is cut to those of the lines before.
+/// Adds a `cut` to those of the earlier lines.
 fn add_cut(cuts: &mut Vec<CutWrite>, cut: CutWrite) -> Result<(), Refusal>
     ensures { OnOk result (cuts.new.items ≡ cuts.old.items ++ cut ∷ []) }
 {
@@ -125,7 +125,7 @@ fn add_cut(cuts: &mut Vec<CutWrite>, cut: CutWrite) -> Result<(), Refusal>
     }
 }
 
-/// What an event names of a file, if it names one.
+/// Returns the file that an event names, and the part of it, if it names one.
 fn file_of(event: Event<FileText<'_>>) -> Option<FileText<'_>>
     ensures { option_map said_file result ≡ file_in (event_map said_file event.entry) }
 {
@@ -135,7 +135,8 @@ fn file_of(event: Event<FileText<'_>>) -> Option<FileText<'_>>
     }
 }
 
-/// Reads what the line of this number names of a file, and buffers it if it can't be read again.
+/// Reads the bytes that the line of this number names, and buffers them if they can't be read
+/// again.
 fn check_file<'a, H: Host>(
     alloc: Global,
     flash: Option<&str>,
@@ -168,7 +169,7 @@ fn check_file<'a, H: Host>(
     }
 }
 
-/// Adds an input to those of the lines before.
+/// Adds an input to those of the earlier lines.
 fn add_input<'a>(
     buffered: &mut Vec<BufferedInput<'a>>,
     input: BufferedInput<'a>,
@@ -181,8 +182,8 @@ fn add_input<'a>(
     }
 }
 
-/// What the line of this number names of standard input. Refuses the line if standard input was
-/// read before.
+/// Reads the bytes of standard input that the line of this number names. Refuses the line if
+/// standard input was read before.
 fn input_part<H: Host>(
     alloc: Global,
     is_read: &mut bool,
@@ -205,8 +206,8 @@ fn input_part<H: Host>(
     part_of(alloc, number, bytes, file.part)
 }
 
-/// Whether a file gives the same bytes again when its event comes: it is a plain file, and isn't
-/// the file of the flash by another name. If the host can't say so, it is taken not to.
+/// Returns whether a file gives the same bytes again at its event: it is a plain file, and isn't
+/// the file of the flash by another name. If the host can't say so, the answer is no.
 fn can_be_read_again<H: Host>(host: &H, name: &str, flash: Option<&str>) -> bool
     ensures { result ≡ true
         → CanBeReadAgain (H.plain host.now) (H.apart host.now) name.now flash.entry }

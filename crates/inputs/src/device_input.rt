@@ -17,6 +17,13 @@ use std::io::Write;
 /// memory of `alloc`.
 ///
 /// Returns `None` if the sizes in the file make no map, after writing the reason to `out`.
+///
+/// # Errors
+/// Nothing was written to `out`, except for `CannotWrite`:
+/// - `DeviceFile` if the bytes are no device file, or more than [`MOST_JSON`];
+/// - `OfSource` if the source can't be read;
+/// - `CannotWrite` if the reason could not be written;
+/// - `NoMemory` if memory ran out.
 pub fn read_device<H: Host, O: Write>(
     alloc: Global,
     device: Source<'_>,
@@ -60,8 +67,17 @@ fn tell_map<O: Write>(alloc: Global, fault: MapError, out: &mut O) -> Result<(),
 }
 
 /// Reads the bytes of a device's flash from `host` into memory of `alloc`: exactly the number that
-/// the map says. If the flash is a file, it is opened for `access` and locked until the program
-/// ends. For [`Access::WriteDurably`] the file and its name are on the medium before this returns.
+/// the map says. If the flash is a file, it is opened for `access`, and the host keeps it open and
+/// locked. For [`Access::WriteDurably`] the file and its name are on the medium before this
+/// returns.
+///
+/// # Errors
+/// No byte of the flash was changed:
+/// - `FlashSize` if the flash doesn't have exactly that number of bytes;
+/// - `FlashInUse` if another program uses the file;
+/// - `OfSource` if it can't be opened or read;
+/// - `FlashFile` if the sync for [`Access::WriteDurably`] failed;
+/// - `NoMemory` if memory ran out.
 pub fn read_flash<H: Host>(
     alloc: Global,
     flash: Source<'_>,

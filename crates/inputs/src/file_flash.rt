@@ -102,8 +102,8 @@ fn write_through<F: FlashFile, M: Ledger>(
 impl<F: FlashFile, L: Ledger, M: Ledger> FileFlash<F, L, M> {
     ghost use Rattle.inputs.specs.FileFlash.{chip_of, cut_short, file_of, new_over, over_file};
 
-    /// A flash with the sectors and bytes of `memory`, over a file that holds these bytes already.
-    /// Both are on. What was armed stays armed.
+    /// Creates a flash with the sectors and bytes of `memory`, over a file that holds these bytes
+    /// already. Both are on. Cuts that were armed stay armed.
     ///
     /// The ledger's token has two parts, as `Blank::new(2)` makes it.
     pub fn over(memory: MemFlash<M>, blank: Blank, file: F) -> Self
@@ -128,8 +128,8 @@ impl<F: FlashFile, L: Ledger, M: Ledger> FileFlash<F, L, M> {
         }
     }
 
-    /// Whether a write of the file failed. Until then the file is known to hold what the flash
-    /// holds, and each cut was armed.
+    /// Returns whether a write of the file failed. Until then the file is known to have the
+    /// contents of the flash, and each cut was armed.
     pub fn has_failed(&self) -> bool
         ensures answer { result ≡ (over_file self.now).has_failed }
         ensures faults { OnFalse result ((chip_of self.now).faults ≡ 0) }
@@ -140,21 +140,21 @@ impl<F: FlashFile, L: Ledger, M: Ledger> FileFlash<F, L, M> {
         self.has_failed
     }
 
-    /// The bytes, in the order of their addresses, whether it is on or off.
+    /// Returns the bytes in the order of their addresses, whether the flash is on or off.
     pub fn bytes(&self) -> &[u8]
         ensures { result.now ≡ (chip_of self.now).bytes }
     {
         self.memory.bytes()
     }
 
-    /// The file, as the last write left it.
+    /// Returns the file, as the last write left it.
     pub fn file(&self) -> &F
         ensures { result.now ≡ file_of self.now }
     {
         &self.file
     }
 
-    /// Ends a write of which the file failed: counts the fault, and turns the flash off.
+    /// Ends a write that failed in the file: counts the fault, and turns the flash off.
     fn cut(&mut self) -> Result<()>
         requires { (over_file self.old).has_failed ≡ true }
         ensures cut { IsErrOf result FlashError.Cut }

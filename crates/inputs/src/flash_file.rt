@@ -1,4 +1,4 @@
-//! The file that a flash is written through to.
+//! The trait of a file to which a flash is written through.
 
 ghost use Rattle.std.specs.Prelude.{◌≡◌, ◌+◌, ◌≤◌, ℕ, List, None, Option, length, option_map, OnOk};
 ghost use Rattle.std.specs.Option.{ForSome};
@@ -6,12 +6,12 @@ ghost use Rattle.flash_model.specs.Torn.{replaced};
 
 use std::io;
 
-/// A file that a flash is written through to. It is open for writing, and as long as the flash.
+/// A file to which a flash is written through. It is open for writing, and as long as the flash.
 ///
-/// Contracts know what the file holds if the implementation defines `contents`. Otherwise they say
-/// nothing about it.
+/// Contracts know the contents of the file if the implementation defines `contents`. Otherwise they
+/// say nothing about them.
 pub trait FlashFile {
-    // What the file holds, where it is known.
+    // The contents of the file, if they are known.
     ghost contents: { Self → Option (List ℕ) } = { λ _. None };
 
     /// Overwrites the bytes of the file from `at` on. The file has at least as many there, so its

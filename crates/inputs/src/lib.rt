@@ -1,17 +1,17 @@
-//! Reads the inputs of commands on a device: device file, flash, script, and the files that its
-//! lines name.
+//! Reads the inputs of commands on a device: the device file, the flash, the script, and the files
+//! that the script's lines name.
 //!
 //! - Promises: The device is that of the bytes of its file, and its flash has the size that the
 //!   file says. A script that passes its check has exactly the cuts and the events that its lines
 //!   say. A flash in a file keeps the trait `Flash`, also if a write of the file fails.
-//! - Main calls: `read_device`, `read_flash`, `check_script`, `load`, `Sources::load_event`, `Lines`,
-//!   `FileFlash`
+//! - Main calls: `read_device`, `read_flash`, `check_script`, `load`, `Sources::load_event`,
+//!   `Lines`, `FileFlash`
 //! - Allocates: the input, what can't be read twice, the bytes of an event.
 //! - Callers: the commands.
 //!
 //! The flash of `run` is in memory, and each changed range is written to its file immediately
-//! (`FileFlash`). A failed write of the file is a power cut that stays, and until one fails the
-//! file holds what the flash holds.
+//! (`FileFlash`). A failed write of the file counts as a power cut, and no later write succeeds.
+//! Until one fails, the file has the contents of the flash.
 #![tactic(auto)]
 
 mod checking;

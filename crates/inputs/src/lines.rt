@@ -12,16 +12,16 @@ use script::{Line, LineOrder, line_of};
 /// The lines of a script's text that weren't read yet.
 #[derive(Drop)]
 pub struct Lines<'a> {
-    /// Their text.
+    /// The text of these lines.
     pub rest: &'a [u8],
-    /// Which lines can follow those that were read.
+    /// Says which lines can follow those that were read.
     pub order: LineOrder,
-    /// How many lines were read.
+    /// The number of lines that were read.
     pub number: usize,
 }
 
 impl<'a> Lines<'a> {
-    /// All lines of a text.
+    /// Returns all lines of a text.
     pub fn of(text: &'a [u8]) -> Self
         ensures all { result.rest.now ≡ text.now }
         ensures order { (lines : List Said) → CanFollow result.order lines ↔ AreInOrder 0 lines }
@@ -33,7 +33,7 @@ impl<'a> Lines<'a> {
         }
     }
 
-    /// What the next line says. At least one must be left.
+    /// Reads the next line and returns what it says. At least one line must be left.
     ///
     /// # Errors
     /// `ScriptLine` if it isn't a line of a script, or can't follow the lines before it.

@@ -1,4 +1,4 @@
-//! The text of a script, and all events of a script that runs more than once.
+//! Reads the text of a script, and all events of a script that runs more than once.
 ghost use Rattle.std.specs.Prelude.{◌≡◌, ◌++◌, ◌∷◌, [], IfOk, OnOk};
 ghost use Rattle.host.specs.Input.{Gives, KeepsFiles, KeepsOthers};
 ghost use Rattle.inputs.specs.Loading.{LoadsAll, came_in};
@@ -12,7 +12,7 @@ use host::{Host, MOST_SCRIPT, Refusal, Source};
 use script::Line;
 use std::alloc::Global;
 
-/// The text of a script, from `host`, in memory of `alloc`.
+/// Reads the text of a script from `host` into memory of `alloc`.
 ///
 /// # Errors
 /// `ScriptLine` if it is too long, with the number of the line that exceeds the limit. `CannotRead`
@@ -41,12 +41,12 @@ pub fn read_script<H: Host>(
     Err(Refusal::ScriptLine(ended.saturating_add(1)))
 }
 
-/// The events of a script that cuts no write, from its text, with the bytes of the files that its
-/// lines name. The files are read from `host` into memory of `alloc`. If standard input was read
-/// before, no line may name it.
+/// Returns the events of a script that has no `cut` lines, from its text, with the bytes of the
+/// files that its lines name. The files are read from `host` into memory of `alloc`. If standard
+/// input was read before, no line may name it.
 ///
 /// # Errors
-/// The errors of [`check_script`], and `ScriptLine(1)` if the script cuts a write.
+/// The errors of [`check_script`], and `ScriptLine(1)` if the script has a `cut` line.
 pub fn load<H: Host>(
     alloc: Global,
     text: &[u8],
@@ -61,7 +61,7 @@ pub fn load<H: Host>(
 {
     let checked = check_script(alloc, text, None, is_input_read, host)?;
     if !checked.cuts.as_slice().is_empty() {
-        // Cuts come first in a script.
+        // The `cut` lines come first in a script.
         return Err(Refusal::ScriptLine(1));
     }
     let sources = Sources {
@@ -72,7 +72,7 @@ pub fn load<H: Host>(
     load_events(text, &sources)
 }
 
-/// All events of a checked script.
+/// Loads all events of a checked script.
 fn load_events<H: Host>(
     text: &[u8],
     sources: &Sources<'_, '_, '_, H>,
@@ -92,7 +92,7 @@ fn load_events<H: Host>(
     Ok(events)
 }
 
-/// Adds an event to those of the lines before.
+/// Adds an event to those of the earlier lines.
 fn add_event(events: &mut Vec<Event<Vec<u8>>>, event: Event<Vec<u8>>) -> Result<(), Refusal>
     ensures { OnOk result (events.new.items ≡ events.old.items ++ event ∷ []) }
 {

@@ -1,4 +1,4 @@
-//! Reads the table of a device at rest from its flash, for notes.
+//! Reads the table of a device at rest from its flash, to write notes about it.
 
 ghost use Rattle.std.specs.Prelude.{◌≡◌};
 ghost use Rattle.sector_map.specs.Map.{IsLaidOut};
@@ -10,8 +10,8 @@ use machine::Reading;
 use sector_map::SectorMap;
 use set_log::{RecordKind, read_state};
 
-/// The table of running and requested images on a flash. `None` if the device isn't at rest, or the
-/// table can't be read.
+/// Returns the table of running and requested images on a flash, or `None` if the device isn't at
+/// rest or the table can't be read.
 pub fn table_on<F: Flash>(flash: &mut F, map: &SectorMap) -> Option<Table>
     requires { IsLaidOut map.now (F.chip flash.old) }
     ensures { F.chip flash.new ≡ F.chip flash.old }
@@ -26,7 +26,7 @@ pub fn table_on<F: Flash>(flash: &mut F, map: &SectorMap) -> Option<Table>
     }
 }
 
-/// Whether the log of a flash has a state, that is whether the flash was provisioned.
+/// Returns whether the log of a flash has a state, which means that the flash was provisioned.
 pub fn has_state<F: Flash>(flash: &mut F, map: &SectorMap) -> bool
     requires { IsLaidOut map.now (F.chip flash.old) }
     ensures { F.chip flash.new ≡ F.chip flash.old }

@@ -1,15 +1,15 @@
-//! Notes on a run, written beside its replies.
+//! The trait of the notes on a run, which are written beside its replies.
 
 use common::event::Event;
 use device_texts::DeviceFile;
 use machine::Reply;
 
-/// Is called during a run, and may write notes on it. The result of the run doesn't depend on it.
+/// Writes notes during a run. The result of the run doesn't depend on them.
 pub trait RunNotes {
-    /// Called before the first event. `flash` has the bytes of the device's flash.
+    /// Is called before the first event. `flash` has the bytes of the device's flash.
     fn begin(&mut self, device: &DeviceFile, flash: &[u8]);
 
-    /// Called after each reply. The events are numbered from 1.
+    /// Is called after each reply. `number` is that of the event, from 1.
     fn tell(&mut self, number: usize, event: &Event<Vec<u8>>, reply: &Reply);
 }
 

@@ -14,8 +14,8 @@ use host::{Host, MOST_FILE, Refusal, Source, SourceFault};
 use script::{FileText, PartText};
 use std::alloc::Global;
 
-/// What the lines of a checked script are loaded from: the files of a host, and the inputs that
-/// were buffered.
+/// The inputs from which the lines of a checked script are loaded: the files of a host, and the
+/// buffered inputs.
 #[derive(Drop)]
 pub struct Sources<'a, 'r, 'k, H> {
     /// The memory that events are loaded into.
@@ -27,11 +27,11 @@ pub struct Sources<'a, 'r, 'k, H> {
 }
 
 impl<H: Host> Sources<'_, '_, '_, H> {
-    /// The event that the line of this number says, with the bytes of its file. `used` counts the
-    /// buffered inputs that were used.
+    /// Returns the event of the line of this number, with the bytes of its file. `used` is the
+    /// number of buffered inputs that were used, and is increased if this event uses one.
     ///
     /// # Errors
-    /// If the file isn't as it was when the script was checked: `CannotRead`, `TooLong`, or
+    /// The file isn't as it was when the script was checked: `CannotRead`, `TooLong`, or
     /// `ScriptLine` if it doesn't have the part. `NoMemory` if memory ran out.
     pub fn load_event(
         &self,
@@ -64,8 +64,8 @@ impl<H: Host> Sources<'_, '_, '_, H> {
         }
     }
 
-    /// What the line of this number names of a file: from the next buffered input if it is of this
-    /// line, else read now.
+    /// Returns the bytes that the line of this number names: those of the next buffered input if
+    /// that is of this line, and else those that are read from the file.
     fn bytes_of(
         &self,
         used: &mut usize,
@@ -96,7 +96,7 @@ impl<H: Host> Sources<'_, '_, '_, H> {
     }
 }
 
-/// Whether two lines name the same file and part, in the same words.
+/// Returns whether two lines name the same file and part, by the same words.
 fn is_same_text(one: FileText<'_>, other: FileText<'_>) -> bool
     ensures same { IsTrue result → said_file one.entry ≡ said_file other.entry }
     ensures differ { result ≡ false → said_file one.entry ≢ said_file other.entry }
@@ -109,8 +109,8 @@ fn is_same_text(one: FileText<'_>, other: FileText<'_>) -> bool
     is_same_part && one.name == other.name
 }
 
-/// What the line of this number names of a file: a part of it, or the complete file. No other part
-/// is read. Standard input is refused.
+/// Reads the bytes that the line of this number names: a part of a file, or the complete file. No
+/// other part of a plain file is read. Standard input is refused.
 pub fn piece_of<H: Host>(
     alloc: Global,
     host: &H,
@@ -129,7 +129,7 @@ pub fn piece_of<H: Host>(
     }
 }
 
-/// The complete bytes of a file that isn't standard input.
+/// Reads the complete contents of a file that isn't standard input.
 fn whole_file<H: Host>(alloc: Global, host: &H, name: &str) -> Result<Vec<u8>, Refusal>
     ensures bytes { IfOk result (λ bytes. IsKnownAs (H.file host.now name.now) bytes.items) }
     ensures most { IfOk result (λ bytes. length bytes.items ≤ MOST_FILE) }
@@ -145,9 +145,9 @@ fn whole_file<H: Host>(alloc: Global, host: &H, name: &str) -> Result<Vec<u8>, R
     }
 }
 
-/// The part that the line of this number names of a file that isn't standard input.
+/// Reads the part that the line of this number names of a file that isn't standard input.
 ///
-/// The file is read even if the words aren't numbers: that it can't be read is reported first.
+/// The file is read even if the words aren't numbers, because an unreadable file is reported first.
 fn file_part<H: Host>(
     alloc: Global,
     host: &H,
@@ -171,8 +171,8 @@ fn file_part<H: Host>(
     Ok(piece)
 }
 
-/// `count` bytes of a file, from the byte of number `from` on, if the file has them. The most is
-/// that of a complete file.
+/// Reads `count` bytes of a file from byte `from` on, or returns `None` if the file doesn't have
+/// them. The limit is that of a complete file.
 fn part_at<H: Host>(
     alloc: Global,
     host: &H,
@@ -195,7 +195,8 @@ fn part_at<H: Host>(
     }
 }
 
-/// The part of these bytes that the line of this number names, or all of them if it names no part.
+/// Returns the part of these bytes that the line of this number names, or all of them if it names
+/// no part.
 pub fn part_of(
     alloc: Global,
     number: usize,

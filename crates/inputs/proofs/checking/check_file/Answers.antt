@@ -3,7 +3,7 @@ use Rattle.std.proofs.lemmas.Result.{on_ok_weaker}
 use Rattle.inputs.proofs.ScriptLaws.{KeepsBuffered-file, KeepsBuffered-input}
 use Rattle.inputs.proofs.checking.check_file.Goals as goal
 
--- It was read of standard input, and is buffered ..
+-- The bytes were read from standard input, and they are buffered.
 pub returns-in_ok-bytes-in-StandardInput-clause-buffered : goal.returns-in_ok-bytes-in-StandardInput-clause-buffered
 returns-in_ok-bytes-in-StandardInput-clause-buffered g c =
     let named = rw c.in-StandardInput.is at c.named.ensures in
@@ -12,14 +12,14 @@ returns-in_ok-bytes-in-StandardInput-clause-buffered g c =
     (λ pushed. KeepsBuffered-input _ _ _ _ _ _ _ (g.H.Host.file c.args.host.now) pushed named read.first read.read read.piece)
     c.add_input.ensures
 
--- .. or of a file that can't be read again.
+-- The bytes were read from a file that can't be read again, and they are buffered.
 pub returns-else-can_be_read_again-clause-buffered : goal.returns-else-can_be_read_again-clause-buffered
 returns-else-can_be_read_again-clause-buffered g c =
     on_ok_weaker c.add_input-in-File.result
     (λ pushed. KeepsBuffered-file _ _ _ _ _ _ pushed c.in_ok-bytes-in-File.ensures.read)
     c.add_input-in-File.ensures
 
--- What was buffered is of what the line names.
+-- The buffered bytes are those that the line names.
 pub returns-in_ok-bytes-in-StandardInput-clause-again : goal.returns-in_ok-bytes-in-StandardInput-clause-again
 returns-in_ok-bytes-in-StandardInput-clause-again g c =
     on_ok_weaker c.add_input.result (λ pushed. inl (_, refl, pushed)) c.add_input.ensures

@@ -17,7 +17,7 @@ loop-lines-init g c = record {
   input = λ unread. kept_itself (g.H.Host.input c.args.host.now);
 }
 
--- One line more was checked.
+-- One more line was checked.
 pub loop-lines-preserved : goal.loop-lines-preserved
 loop-lines-preserved g c =
     let before = c.loop-lines.invariant in
@@ -32,7 +32,7 @@ loop-lines-preserved g c =
       input = held.1;
     }
 
--- One line could not be checked, and its file may have been read.
+-- A line was refused, and its file may have been read.
 pub returns-in_err-check_line-clause-files : goal.returns-in_err-check_line-clause-files
 returns-in_err-check_line-clause-files g c =
     KeepsFiles-twice _ _ _ c.loop-lines.invariant.files c.check_line.ensures.files

@@ -6,9 +6,9 @@ use Rattle.inputs.specs.Loading.{AreBuffered}
 use Rattle.inputs.proofs.ScriptLaws.{CutSoFar}
 use Rattle.inputs.proofs.checking.check_script.Given as goal
 
--- the cuts so far are those of the lines so far, and of what lines name that can't be read again all
--- is kept, as of the host as it was; its files are as they were, and its input too, unless a line
--- named it; and it opened nothing more
+-- The cuts so far are those of the checked lines. The named bytes that can't be read again are
+-- buffered, as of the host at the start. The host's files are unchanged. So is its input, unless a
+-- line named it. The host opened no more files.
 abbrev pub invariant-loop-lines : goal.invariant-loop-lines
 invariant-loop-lines g l = record {
   cuts : CutSoFar l.text l.lines.rest.now (armed_in l.checked.cuts.items);

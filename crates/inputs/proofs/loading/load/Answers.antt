@@ -4,7 +4,7 @@ use Rattle.inputs.specs.Loading.{AreCutsOf, LoadsAll, came_in}
 use Rattle.inputs.proofs.ScriptLaws.{IsScript-loaded, no_cuts}
 use Rattle.inputs.proofs.loading.load.Goals as goal
 
--- No line cuts a write, and all events were brought.
+-- No line is a `cut`, and all events were loaded.
 pub returns-clause-script : goal.returns-clause-script
 returns-clause-script g c =
     let checked = c.in_ok-checked.checked in

@@ -3,7 +3,7 @@ use Rattle.inputs.specs.Loading.{came_in, came_of}
 use Rattle.inputs.proofs.ScriptLaws.{AreTaken, AreTaken-cut, AreTaken-event, AreTaken-none, LoadsAll-taken, came_in-push}
 use Rattle.inputs.proofs.loading.load_events.Goals as goal
 
--- No line was taken yet.
+-- No line was loaded yet.
 pub loop-lines-init : goal.loop-lines-init
 loop-lines-init g c = (
   0,
@@ -14,7 +14,7 @@ loop-lines-init g c = (
       (g.H.Host.file c.args.sources.now.host.now) c.of-lines.ensures.all c.of-lines.ensures.order),
 )
 
--- A line more was taken, which is an event ..
+-- One more line was loaded, which is an event.
 pub loop-lines-preserved-in-Continue-branch-4 : goal.loop-lines-preserved-in-Continue-branch-4
 loop-lines-preserved-in-Continue-branch-4 g c =
     let before = c.loop-lines.invariant in
@@ -29,7 +29,7 @@ loop-lines-preserved-in-Continue-branch-4 g c =
           (came_of c.in_ok-event-2.event) next c.in_ok-event-2.ensures.loaded before.1),
     )
 
--- .. or a cut.
+-- One more line was loaded, which is a `cut`.
 pub loop-lines-preserved : goal.loop-lines-preserved
 loop-lines-preserved g c =
     let before = c.loop-lines.invariant in
@@ -40,7 +40,7 @@ loop-lines-preserved g c =
           next before.1,
     )
 
--- All lines were taken.
+-- All lines were loaded.
 pub returns : goal.returns
 returns g c =
     LoadsAll-taken c.args.text.now c.loop-lines.lines.rest.now c.loop-lines.lines.order c.loop-lines.invariant.0

@@ -3,7 +3,7 @@ use Rattle.inputs.specs.Loading.{came_in}
 use Rattle.inputs.proofs.ScriptLaws.{AreTaken}
 use Rattle.inputs.proofs.loading.load_events.Given as goal
 
--- what the lines so far bring came in the events so far
+-- The events so far are those of the lines so far.
 abbrev pub invariant-loop-lines : goal.invariant-loop-lines
 invariant-loop-lines g l =
     (taken : ℕ) × AreTaken l.text l.lines.rest.now l.lines.order taken l.sources.buffered.now

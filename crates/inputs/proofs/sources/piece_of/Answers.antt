@@ -4,7 +4,7 @@ use Rattle.inputs.specs.Loading.{ReadsNow}
 use Rattle.inputs.proofs.ScriptLaws.{ReadsNow-whole, not_input, said_file-named}
 use Rattle.inputs.proofs.sources.piece_of.Goals as goal
 
--- A part of the file was read ..
+-- A part of the file was read.
 pub returns-in-File-Some-clause-read : goal.returns-in-File-Some-clause-read
 returns-in-File-Some-clause-read g c =
     let file = said_file-named c.args.file c.named.result c.in-File-Some.name (Some c.in-File-Some.part) c.named.ensures
@@ -12,7 +12,7 @@ returns-in-File-Some-clause-read g c =
     subst (λ said. IfOk c.file_part.result (λ bytes. ReadsNow said bytes.items (g.H.Host.file c.args.host.now)))
     file c.file_part.ensures.read
 
--- .. or all of it.
+-- The complete file was read.
 pub returns-in-File-None-clause-read : goal.returns-in-File-None-clause-read
 returns-in-File-None-clause-read g c =
     let name = c.in-File-None.name in

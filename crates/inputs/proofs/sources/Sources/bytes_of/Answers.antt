@@ -7,7 +7,7 @@ use Rattle.inputs.specs.Script.{ReadsFile}
 use Rattle.inputs.proofs.ScriptLaws.{Loads-buffered, Loads-now}
 use Rattle.inputs.proofs.sources.Sources.bytes_of.Goals as goal
 
--- What was buffered is what the line names.
+-- The buffered bytes are those that the line names.
 pub returns-in-Ok-clause-loaded : goal.returns-in-Ok-clause-loaded
 returns-in-Ok-clause-loaded g c =
     let buffered = c.args.self.now.buffered.now in
@@ -20,7 +20,7 @@ returns-in-Ok-clause-loaded g c =
     (slice_get-get_or buffered c.args.used.now item found.0 ∙ ap Some (sym (found.1 item)))
     (c.if-not-is_same_text.ensures.same refl))
 
--- No input more was buffered, and the file is read now ..
+-- No more inputs are buffered, and the file is read at the event.
 pub returns-in_default-clause-loaded : goal.returns-in_default-clause-loaded
 returns-in_default-clause-loaded g c =
     IfOk-weaker c.piece_of.result _ _
@@ -28,7 +28,7 @@ returns-in_default-clause-loaded g c =
     (said_file c.args.file) bytes.items read)
     c.piece_of.ensures.read
 
--- .. or the next buffered input is of another line.
+-- The next buffered input is of another line, and the file is read at the event.
 pub returns-then-not-is_same_text-clause-loaded : goal.returns-then-not-is_same_text-clause-loaded
 returns-then-not-is_same_text-clause-loaded g c =
     IfOk-weaker c.piece_of-then-not-is_same_text.result _ _
@@ -36,7 +36,7 @@ returns-then-not-is_same_text-clause-loaded g c =
     (said_file c.args.file) bytes.items read)
     c.piece_of-then-not-is_same_text.ensures.read
 
--- What was buffered next is the item that was used.
+-- The next buffered input is the one that was used.
 pub returns-in-Ok-clause-next : goal.returns-in-Ok-clause-next
 returns-in-Ok-clause-next g c =
     let buffered = c.args.self.now.buffered.now in

@@ -7,7 +7,7 @@ use Rattle.inputs.specs.Script.{Comes}
 use Rattle.inputs.proofs.ScriptLaws.{Loads-accept, Loads-piece}
 use Rattle.inputs.proofs.sources.Sources.load_event.Goals as goal
 
--- A manifest comes ..
+-- The event is a manifest.
 pub returns-in_ok-text-in-Accept-clause-loaded : goal.returns-in_ok-text-in-Accept-clause-loaded
 returns-in_ok-text-in-Accept-clause-loaded g c =
     let buffered = c.args.self.now.buffered.now in
@@ -17,7 +17,7 @@ returns-in_ok-text-in-Accept-clause-loaded g c =
     (sym c.in-Accept.is)
     (Loads-accept buffered files (said_file c.in-Accept.file) text c.in_ok-text-in-Accept.ensures.loaded)
 
--- .. or a piece.
+-- The event is a piece.
 pub returns-in_ok-piece-in-Piece-clause-loaded : goal.returns-in_ok-piece-in-Piece-clause-loaded
 returns-in_ok-piece-in-Piece-clause-loaded g c =
     let buffered = c.args.self.now.buffered.now in
