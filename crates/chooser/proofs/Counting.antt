@@ -1,4 +1,4 @@
--- How many drops and looks a choice makes.
+-- The number of drops and looks that a choice makes.
 use Rattle.std.proofs.Common.{◌≡◌, ℕ, zero, suc, ◌+◌, ◌-◌, ◌≤◌, true, false, List, [], ◌∷◌, ◌++◌, length, Option, Some, None, inl, inr, refl, sym, ap, subst, ◌∙◌, add-one, append_assoc, length-append, arith}
 use Rattle.std.specs.Prelude.{◌==◌, IfSome, find, filter_map, nat_lt, option_map}
 use Rattle.std.specs.List.{cons_option, enumerate_from, list_any}
@@ -31,17 +31,17 @@ use Rattle.chooser.proofs.Order.{HasNeed-from_reason}
 
 -- ---- drops
 
--- no drop, if there is a reason at all
+-- There is no reason, or it is no drop.
 abbrev IsNoDrop : Option Reason → Type 0
 IsNoDrop found = IfSome found (λ reason. nat_lt 4 (reason_number reason) ≡ false)
 
--- a missing image is no drop
+-- A missing image is no drop.
 missing-no_drop : (found : Option Dependency)
     → IsNoDrop (option_map (λ (dependency : Dependency). NoSuchImage dependency.image) found)
 missing-no_drop None = tt
 missing-no_drop (Some dependency) = refl
 
--- what is refused by itself is no drop
+-- A refusal of a request by itself is no drop.
 own-no_drop : (table : Table) (image : Image) (asked : Request) → IsNoDrop (own_reason table image asked)
 own-no_drop table image request.None = tt
 own-no_drop table image request.Damaged = refl
@@ -50,7 +50,7 @@ own-no_drop table image (request.Entry entry) =
     (λ _. cond_both (nat_lt entry.counter image.floor) (Some Counter) _ IsNoDrop (λ _. refl)
     (λ _. missing-no_drop (find (is_missing table) entry.dependencies.items)))
 
--- a refusal for such a reason, before others of which none is a drop
+-- A refusal that is no drop doesn't change the number of drops.
 no_drop-cons : (n : ℕ) (found : Option Reason) (refusals : List Refusal) → IsNoDrop found
     → list_any is_drop refusals ≡ false
     → list_any is_drop (cons_option (option_map (λ reason. record { image = n; reason = reason }) found) refusals)
@@ -59,7 +59,7 @@ no_drop-cons n None refusals first rest = rest
 no_drop-cons n (Some reason) refusals first rest =
     or_from (nat_lt 4 (reason_number reason)) (list_any is_drop refusals) first rest
 
--- none of the requests that are refused by themselves is a drop
+-- No refusal of a request by itself is a drop.
 no_drop-own : (table : Table) (n : ℕ) (images : List Image)
     → list_any is_drop (filter_map (own_refusal table) (enumerate_from n images)) ≡ false
 no_drop-own table n [] = refl
@@ -71,7 +71,7 @@ no_drop-own table n (image ∷ images) =
 pub drops_in-own : (table : Table) → drops_in (own_refusals table) ≡ 0
 drops_in-own table = count_by-none is_drop (own_refusals table) (no_drop-own table 0 table.images.items)
 
--- the next need is a drop
+-- The next need is a drop.
 pub drops_in-push : (table : Table) (refusals : List Refusal) (refusal : Refusal) → IsNextNeed table refusals refusal
     → drops_in (refusals ++ refusal ∷ []) ≡ drops_in refusals + 1
 drops_in-push table refusals refusal need =
@@ -85,16 +85,16 @@ drops_in-push table refusals refusal need =
 
 -- ---- looks
 
--- how many looks there are at most until so many requests are refused
+-- The most looks until this number of requests is refused.
 abbrev pub most_looks : ℕ → ℕ
 most_looks zero = 0
 most_looks (suc refused) = most_looks refused + (7 - refused)
 
--- after one refusal more each request that is left is looked at once more at most
+-- After one more refusal, each remaining request is looked at at most once more.
 pub most_looks-more : (refused : ℕ) → most_looks (refused + 1) ≡ most_looks refused + (7 - refused)
 most_looks-more refused = ap most_looks (add-one refused)
 
--- they are at most 28, since no more than eight are refused
+-- There are at most 28 looks, since at most eight requests are refused.
 pub most_looks-le : (refused : ℕ) → refused ≤ 8 → most_looks refused ≤ 28
 most_looks-le refused few = omega (arith, grows refused (8 - refused) 8 (omega arith))
   where
@@ -102,7 +102,7 @@ most_looks-le refused few = omega (arith, grows refused (8 - refused) 8 (omega a
     grows m zero n is = let same : m ≡ n = omega arith in omega (arith, ap most_looks same)
     grows m (suc k) n is = omega (arith, grows (suc m) k n (omega arith))
 
--- looks change nothing but their count
+-- A look changes only the number of looks.
 pub counts_only_looks : (before now next : Steps) → now ≡ record before { looks = now.looks }
     → next ≡ record now { looks = now.looks + 1 } → next ≡ record before { looks = next.looks }
 counts_only_looks before now next so_far looked =
@@ -110,8 +110,8 @@ counts_only_looks before now next so_far looked =
     looked ∙ ap (λ (steps : Steps). record steps { looks = now.looks + 1 }) so_far
     ∙ ap (λ (n : ℕ). record before { looks = n }) (sym count)
 
--- the requests that were looked at among the first images, each in the place of a refusal: so many
--- looks were made
+-- `looked` has a refusal for each request that was looked at among the first n images. The number
+-- of looks is its length.
 pub record AreLooks (table : Table) (refusals : List Refusal) (n before after : ℕ) : Type 0 where
   pub looked : List Refusal
   pub once : IsOnce table (refusals ++ looked)
@@ -119,7 +119,7 @@ pub record AreLooks (table : Table) (refusals : List Refusal) (n before after : 
   pub few : length looked ≤ n
   pub count : after ≡ before + length looked
 
--- no look at image n
+-- Image n is not looked at.
 pub AreLooks-skip : (table : Table) (refusals : List Refusal) (n before after : ℕ)
     → AreLooks table refusals n before after → AreLooks table refusals (n + 1) before after
 AreLooks-skip table refusals n before after so_far = record {
@@ -130,7 +130,7 @@ AreLooks-skip table refusals n before after so_far = record {
   count = so_far.count;
 }
 
--- a dependant has a request
+-- A dependant has a request.
 has_request-dependant : (table : Table) (j i : ℕ) → is_dependant table j i ≡ true → has_request table i ≡ true
 has_request-dependant table j i dependant =
     let (image, has_image, asks) = option_map_or-true (asks_for j) (image_at table i) dependant in
@@ -138,7 +138,7 @@ has_request-dependant table j i dependant =
     option_map_or-true (λ (any_entry : Entry). names any_entry j) (intact_entry image.request) asks in
     has_request-intact table i image entry has_image has_entry
 
--- a look at image n
+-- Image n is looked at.
 pub AreLooks-look : (table : Table) (refusals : List Refusal) (j n before after : ℕ)
     → is_dependant table j n ≡ true → is_refused refusals n ≡ false → AreLooks table refusals n before after
     → AreLooks table refusals (n + 1) before (after + 1)
@@ -161,7 +161,7 @@ AreLooks-look table refusals j n before after dependant unrefused so_far =
       count = omega (arith, length_push looked look, so_far.count);
     }
 
--- no more looks than there are images whose requests aren't refused
+-- There are at most as many looks as images whose requests aren't refused.
 pub looks-le : (table : Table) (refusals : List Refusal) (n before after : ℕ)
     → AreLooks table refusals n before after → after + length refusals ≤ before + length table.images.items
 looks-le table refusals n before after so_far =

@@ -23,20 +23,20 @@ use Rattle.common.proofs.Lists.{StandsIn, find-Some, Contains-from_stands, filte
 use Rattle.common.proofs.Numbered.{numbered-stands}
 use Rattle.chooser.proofs.Order.{HasNeed-from_reason}
 
--- a reason that is another holds where that holds
+-- If a reason holds, so does one that is equal to it.
 holds_as : (table : Table) (before : List Refusal) (i : ℕ) (found reason : Reason) → found ≡ reason
     → ReasonHolds table before i found → ReasonHolds table before i reason
 holds_as table before i found reason same holds = subst (ReasonHolds table before i) same holds
 
 module _ (table : Table) (before : List Refusal) (i : ℕ) (image : Image)
     (has_image : image_at table i ≡ Some image) where
-  -- what holds of the requested entry
+  -- A property of the requested entry is one of the image's request.
   meets : (P : Image → Entry → Type 0) (entry : Entry) → intact_entry image.request ≡ Some entry → P image entry
       → RequestMeets table i P
   meets P entry has_entry holds = IsSomeAnd-from (image_at table i) _ image has_image (IsSomeAnd-from
       (intact_entry image.request) (P image) entry has_entry holds)
 
-  -- a missing image is missing
+  -- The reason `NoSuchImage` holds.
   missing-holds : (entry : Entry) → intact_entry image.request ≡ Some entry → (reason : Reason)
       → missing_image table entry ≡ Some reason → ReasonHolds table before i reason
   missing-holds entry has_entry reason is =
@@ -54,7 +54,7 @@ module _ (table : Table) (before : List Refusal) (i : ℕ) (image : Image)
         no_value (image_at table dependency.image) missing,
       ))
 
-  -- the reason of an intact request
+  -- The reason of an intact request holds.
   entry-holds : (entry : Entry) → intact_entry image.request ≡ Some entry → (reason : Reason)
       → own_reason_of_entry table image entry ≡ Some reason → ReasonHolds table before i reason
   entry-holds entry has_entry reason is =
@@ -79,7 +79,7 @@ module _ (table : Table) (before : List Refusal) (i : ℕ) (image : Image)
             ]
       ]
 
-  -- the reason of a request
+  -- The reason of a request holds.
   own-holds : (asked : Request) → image.request ≡ asked → (reason : Reason)
       → own_reason table image asked ≡ Some reason → ReasonHolds table before i reason
   own-holds request.None asks reason is = absurd (none-some reason is)
@@ -89,7 +89,7 @@ module _ (table : Table) (before : List Refusal) (i : ℕ) (image : Image)
       (λ (any_image : Image). any_image.request ≡ request.Damaged) image has_image asks)
   own-holds (request.Entry entry) asks reason is = entry-holds entry (ap intact_entry asks) reason is
 
--- a refusal by itself holds after whatever refusals
+-- A refusal of a request by itself holds after any refusals.
 own_refusal-holds : (table : Table) (refusal : Refusal) → StandsIn (own_refusals table) refusal
     → (before : List Refusal) → ReasonHolds table before refusal.image refusal.reason
 own_refusal-holds table refusal stands before =
@@ -100,7 +100,7 @@ own_refusal-holds table refusal stands before =
     (own-holds table before numbered.0 numbered.1
     (numbered-stands table.images.items numbered stands_numbered) numbered.1.request refl reason is)
 
--- a need holds
+-- A need holds.
 need-holds : (table : Table) (before : List Refusal) (i : ℕ) (reason : Reason)
     → needs_reason table before i ≡ Some reason → ReasonHolds table before i reason
 need-holds table before i reason is =
@@ -126,7 +126,7 @@ need-holds table before i reason is =
           (Contains-from_stands need.entry.groups.items group stands, out_of_reach))
     ]
 
--- a list in the standard order is founded
+-- A list in the standard order is founded.
 pub IsFounded-from_standard : (table : Table) (refusals : List Refusal) → IsInStandardOrder table refusals
     → IsFounded table refusals
 IsFounded-from_standard table refusals (later, is, each) =

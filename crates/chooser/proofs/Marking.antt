@@ -1,4 +1,4 @@
--- What a pass, a look and a drop make of the marks.
+-- How a pass, a look and a drop change the marks.
 use Rattle.std.proofs.Common.{◌≡◌, ℕ, zero, suc, ◌+◌, ◌<◌, ◌≤◌, Bool, true, false, cond, not, ◌&&◌, ◌||◌, eqb, List, [], ◌∷◌, ◌++◌, length, get_or, set, get_or-set_same, get_or-set_other, Option, Some, None, inl, inr, refl, sym, ap, ◌∙◌, arith}
 use Rattle.std.specs.Prelude.{◌==◌, is_some, nat_lt, option_and_then, option_map, position}
 use Rattle.std.specs.List.{list_any, position_or_len}
@@ -27,7 +27,7 @@ use Rattle.chooser.specs.Marks.{AreMarks, AreMarksApartFrom, has_need, is_left_d
 use Rattle.chooser.proofs.Order.{HasNeed-from_reason}
 use Rattle.chooser.proofs.Searches.{find-same, list_any-same}
 
--- behind the last image no request needs anything
+-- After the last image, no request has a need.
 pub has_need-past : (table : Table) (refusals : List Refusal) (i : ℕ) → length table.images.items ≤ i
     → has_need table refusals i ≡ false
 has_need-past table refusals i past =
@@ -36,13 +36,13 @@ has_need-past table refusals i past =
     (option_and_then (λ image. option_and_then (needs_reason_of_entry table refusals i) (intact_entry image.request)) found))
     (slice_get_past table.images.items i past))
 
--- a request that isn't refused needs what it needs
+-- If a request isn't refused, it is marked exactly if it has a need.
 has_need-unrefused : (table : Table) (refusals : List Refusal) (i : ℕ) → is_refused refusals i ≡ false
     → has_need table refusals i ≡ is_some (needs_reason table refusals i)
 has_need-unrefused table refusals i unrefused =
     ap (λ refused. not refused && is_some (needs_reason table refusals i)) unrefused
 
--- what is marked stands in the list of marks
+-- A place that is marked is within the list of marks.
 pub marked_within : (marks : List Bool) (i : ℕ) → get_or marks i false ≡ true → i < length marks
 marked_within [] zero marked = absurd (false≢true marked)
 marked_within [] (suc i) marked = absurd (false≢true marked)
@@ -51,7 +51,7 @@ marked_within (mark ∷ marks) (suc i) marked = omega (arith, marked_within mark
 
 -- ---- the lowest mark
 
--- where a search for a mark finds none, there is none
+-- If a search for a mark finds none, there is none.
 unmarked : (marks : List Bool) → position (λ is_marked. is_marked) marks ≡ None → (i : ℕ)
     → get_or marks i false ≡ false
 unmarked marks none i =
@@ -75,19 +75,19 @@ none_left None none = refl
 none_left (Some x) none = absurd (false≢true (sym none))
 
 module _ (table : Table) (refusals : List Refusal) (marks : List Bool) (right : AreMarks table refusals marks) where
-  -- a request that isn't refused and isn't marked needs nothing that can't come
+  -- A request that isn't refused and isn't marked has no need.
   none-unmarked : (i : ℕ) → get_or marks i false ≡ false → is_refused refusals i ≡ false
       → needs_reason table refusals i ≡ None
   none-unmarked i is unrefused =
       none_left (needs_reason table refusals i)
       (sym (has_need-unrefused table refusals i unrefused) ∙ sym (right.each i) ∙ is)
 
-  -- where none is marked, none does
+  -- If no image is marked, no remaining request has a need.
   pub none-left : position (λ is_marked. is_marked) marks ≡ None
       → (i : ℕ) → is_refused refusals i ≡ false → needs_reason table refusals i ≡ None
   none-left none i unrefused = none-unmarked i (unmarked marks none i) unrefused
 
-  -- the lowest that is marked has a reason
+  -- The lowest marked request has a reason.
   pub lowest-reason : (n : ℕ) → position (λ is_marked. is_marked) marks ≡ Some n
       → needs_reason table refusals n ≡ None → ⊥
   lowest-reason n lowest none =
@@ -96,7 +96,7 @@ module _ (table : Table) (refusals : List Refusal) (marks : List Bool) (right : 
       (sym (right.each n) ∙ found.1) in
       false≢true (ap is_some (sym none) ∙ need.1)
 
-  -- and is the next need
+  -- The lowest marked request is the next need.
   pub lowest-next : (n : ℕ) → position (λ is_marked. is_marked) marks ≡ Some n → (reason : Reason)
       → needs_reason table refusals n ≡ Some reason
       → IsNextNeed table refusals (record { image = n; reason = reason })
@@ -112,12 +112,12 @@ module _ (table : Table) (refusals : List Refusal) (marks : List Bool) (right : 
 
 -- ---- a pass
 
--- the images below n are marked that need what can't come, and none from n on
+-- The images below n are marked exactly if they have a need, and none from n on is marked.
 pub record AreMarksBelow (table : Table) (refusals : List Refusal) (n : ℕ) (marks : List Bool) : Type 0 where
   pub below : (i : ℕ) → i < n → get_or marks i false ≡ has_need table refusals i
   pub above : (i : ℕ) → n ≤ i → get_or marks i false ≡ false
 
--- one image more
+-- One more image is marked.
 pub AreMarksBelow-more : (table : Table) (refusals : List Refusal) (n : ℕ) (marks : List Bool) → n < length marks
     → AreMarksBelow table refusals n marks
     → AreMarksBelow table refusals (n + 1) (set marks n (has_need table refusals n))
@@ -133,7 +133,7 @@ AreMarksBelow-more table refusals n marks within so_far =
           ∙ so_far.above i (omega arith);
     }
 
--- all images
+-- All images are marked.
 pub AreMarks-from_below : (table : Table) (refusals : List Refusal) (n : ℕ) (marks : List Bool)
     → length table.images.items ≤ n → AreMarksBelow table refusals n marks → AreMarks table refusals marks
 AreMarks-from_below table refusals n marks past so_far = record {
@@ -145,19 +145,19 @@ AreMarks-from_below table refusals n marks past so_far = record {
 
 -- ---- looks after a drop
 
--- tests that count the same are the same
+-- Tests that count the same are the same.
 pub once_if-same : (a b : Bool) → once_if a ≡ once_if b → a ≡ b
 once_if-same true true same = refl
 once_if-same true false same = absurd (omega arith)
 once_if-same false true same = absurd (omega arith)
 once_if-same false false same = refl
 
--- the marks are right but for the remaining dependants of image j from n on
+-- The marks are right, except those of the remaining dependants of image j from n on.
 pub record AreMarksUpTo (table : Table) (refusals : List Refusal) (j n : ℕ) (marks : List Bool) : Type 0 where
   pub each : (i : ℕ) → (n ≤ i → is_left_dependant table refusals j i ≡ false)
       → get_or marks i false ≡ has_need table refusals i
 
--- a look at image n
+-- Image n is looked at.
 pub AreMarksUpTo-look : (table : Table) (refusals : List Refusal) (j n : ℕ) (marks : List Bool) → n < length marks
     → is_refused refusals n ≡ false → AreMarksUpTo table refusals j n marks
     → AreMarksUpTo table refusals j (n + 1) (set marks n (is_some (needs_reason table refusals n)))
@@ -172,7 +172,7 @@ AreMarksUpTo-look table refusals j n marks within unrefused so_far =
       ];
     }
 
--- no look at image n
+-- Image n is not looked at.
 pub AreMarksUpTo-skip : (table : Table) (refusals : List Refusal) (j n : ℕ) (marks : List Bool)
     → is_left_dependant table refusals j n ≡ false → AreMarksUpTo table refusals j n marks
     → AreMarksUpTo table refusals j (n + 1) marks
@@ -183,7 +183,7 @@ AreMarksUpTo-skip table refusals j n marks other so_far = record {
   ]);
 }
 
--- after the last image
+-- All images were looked at.
 pub AreMarks-from_up_to : (table : Table) (refusals : List Refusal) (j n : ℕ) (marks : List Bool)
     → length table.images.items ≤ n → AreMarksUpTo table refusals j n marks → AreMarks table refusals marks
 AreMarks-from_up_to table refusals j n marks past so_far = record {
@@ -193,19 +193,19 @@ AreMarks-from_up_to table refusals j n marks past so_far = record {
 
 -- ---- a drop
 
--- what is added to a list that another refusal doesn't refuse
+-- A disjunction with false is the other test.
 or_none : (b : Bool) → (b || false) ≡ b
 or_none true = refl
 or_none false = refl
 
--- a refusal more refuses no other image
+-- One more refusal refuses no other image.
 pub is_refused-push_other : (refusals : List Refusal) (refusal : Refusal) (i : ℕ) → (refusal.image == i) ≡ false
     → is_refused (refusals ++ refusal ∷ []) i ≡ is_refused refusals i
 is_refused-push_other refusals refusal i other =
     list_any-append (λ (any_refusal : Refusal). any_refusal.image == i) refusals (refusal ∷ [])
     ∙ ap (λ b. is_refused refusals i || (b || false)) other ∙ or_none (is_refused refusals i)
 
--- and it refuses its own
+-- One more refusal refuses its own image.
 pub is_refused-push_same : (refusals : List Refusal) (refusal : Refusal)
     → is_refused (refusals ++ refusal ∷ []) refusal.image ≡ true
 is_refused-push_same refusals refusal =
@@ -214,14 +214,14 @@ is_refused-push_same refusals refusal =
     (or_left (refusal.image == refusal.image) false (eq-eqb refusal.image refusal.image refl))
 
 module _ (table : Table) (refusals : List Refusal) (refusal : Refusal) (i : ℕ) where
-  -- another image is refused as it was before
+  -- Another image is refused exactly if it was before.
   is_refused-push : (j : ℕ) → (j == refusal.image) ≡ false
       → is_refused (refusals ++ refusal ∷ []) j ≡ is_refused refusals j
   is_refused-push j other =
       is_refused-push_other refusals refusal j
       (ne_eqb refusal.image j (λ same. eqb-false j refusal.image other (sym same)))
 
-  -- a dependency on another image is as far out of reach as before
+  -- A dependency on another image is out of reach exactly if it was before.
   is_out_of_reach-push : (dependency : Dependency) → (dependency.image == refusal.image) ≡ false
       → is_out_of_reach table (refusals ++ refusal ∷ []) i dependency ≡ is_out_of_reach table refusals i dependency
   is_out_of_reach-push dependency other =
@@ -231,7 +231,7 @@ module _ (table : Table) (refusals : List Refusal) (refusal : Refusal) (i : ℕ)
       (cond refused image.running.version (newest_version image))) dependency.minimum) (image_at table j) false)
       (is_refused-push j other)
 
-  -- and such an alternative is as much in reach
+  -- An alternative of another image is in reach exactly if it was before.
   is_in_reach-push : (alternative : Dependency) → (alternative.image == refusal.image) ≡ false
       → is_in_reach table (refusals ++ refusal ∷ []) i alternative ≡ is_in_reach table refusals i alternative
   is_in_reach-push alternative other =
@@ -241,7 +241,7 @@ module _ (table : Table) (refusals : List Refusal) (refusal : Refusal) (i : ℕ)
       (cond refused image.running.version (newest_version image))) alternative.minimum)) (image_at table j) false)
       (is_refused-push j other)
 
-  -- a group without the dropped image is as far out of reach as before
+  -- A group without the dropped image is out of reach exactly if it was before.
   is_group_out_of_reach-push : (group : Group) → has_alternative refusal.image group ≡ false
       → is_group_out_of_reach table (refusals ++ refusal ∷ []) i group ≡ is_group_out_of_reach table refusals i group
   is_group_out_of_reach-push group other =
@@ -249,7 +249,7 @@ module _ (table : Table) (refusals : List Refusal) (refusal : Refusal) (i : ℕ)
       (λ (alternative : Dependency). alternative.image == refusal.image) is_in_reach-push group.alternatives.items
       other)
 
-  -- an entry that doesn't name the dropped image needs what it needed
+  -- An entry that doesn't name the dropped image has the need that it had before.
   reason_of_entry-push : (requested : Option Entry)
       → option_map_or (λ (entry : Entry). names entry refusal.image) requested false ≡ false
       → option_and_then (needs_reason_of_entry table (refusals ++ refusal ∷ []) i) requested
@@ -271,7 +271,7 @@ module _ (table : Table) (refusals : List Refusal) (refusal : Refusal) (i : ℕ)
       ∙ ap (λ found. option_or (unmet_dependency table refusals i entry)
       (option_map (λ (group : Group). NeedsOne group) found)) groups
 
-  -- nor does what is requested of an image
+  -- If an image's request doesn't name the dropped image, it has the need that it had before.
   reason_of_image-push : (found : Option Image) → option_map_or (asks_for refusal.image) found false ≡ false
       → option_and_then (λ (image : Image). option_and_then
       (needs_reason_of_entry table (refusals ++ refusal ∷ []) i) (intact_entry image.request)) found
@@ -280,13 +280,13 @@ module _ (table : Table) (refusals : List Refusal) (refusal : Refusal) (i : ℕ)
   reason_of_image-push None independent = refl
   reason_of_image-push (Some image) independent = reason_of_entry-push (intact_entry image.request) independent
 
-  -- a request that doesn't name the dropped image needs what it needed
+  -- The same of the request of image i.
   needs_reason-push : is_dependant table refusal.image i ≡ false
       → needs_reason table (refusals ++ refusal ∷ []) i ≡ needs_reason table refusals i
   needs_reason-push independent = reason_of_image-push (image_at table i) independent
 
-  -- a request that remains and isn't a dependant of the dropped image needs what can't come after
-  -- the drop exactly where it did before
+  -- A request that remains and isn't a dependant of the dropped image has a need exactly if it had
+  -- one before the drop.
   has_need-push : (refusal.image == i) ≡ false
       → is_left_dependant table (refusals ++ refusal ∷ []) refusal.image i ≡ false
       → has_need table (refusals ++ refusal ∷ []) i ≡ has_need table refusals i
@@ -310,7 +310,7 @@ module _ (table : Table) (refusals : List Refusal) (refusal : Refusal) (i : ℕ)
       and_true true = refl
       and_true false = refl
 
--- without the mark of the dropped image the marks are right but for those that depend on it
+-- Without the mark of the dropped image, the marks are right, except those of its dependants.
 pub AreMarksApartFrom-drop : (table : Table) (refusals : List Refusal) (refusal : Refusal) (marks : List Bool)
     → IsNextNeed table refusals refusal → AreMarks table refusals marks
     → AreMarksApartFrom table (refusals ++ refusal ∷ []) refusal.image (set marks refusal.image false)
@@ -333,7 +333,7 @@ AreMarksApartFrom-drop table refusals refusal marks need right =
       ];
     }
 
--- what is dropped is the request of an image of the table
+-- The dropped request is that of an image of the table.
 pub next_need-within : (table : Table) (refusals : List Refusal) (refusal : Refusal)
     → IsNextNeed table refusals refusal → refusal.image < length table.images.items
 next_need-within table refusals refusal need =

@@ -1,4 +1,4 @@
--- The standard order: how it begins, and how it goes on.
+-- Laws of the standard order: its start, and its next refusal.
 use Rattle.std.proofs.Common.{◌≡◌, ◌⊎◌, ℕ, ◌<◌, length, arith, false, List, [], ◌∷◌, ◌++◌, eqb, Some, None, inl, inr, sym, ap, ◌∙◌, subst}
 use Rattle.std.specs.Prelude.{find}
 use Rattle.std.proofs.lemmas.Bool.{or_parts}
@@ -23,11 +23,11 @@ use Rattle.certificate.proofs.Counts.{IsOnce, IsOnce-push, length-once}
 use Rattle.chooser.proofs.Searches.{option_or-Some}
 use Rattle.chooser.proofs.OwnRefusals.{IsOnce-own_refusals, own_reason-unlisted}
 
--- it begins with the requests that are refused by themselves
+-- It begins with the requests that are refused by themselves.
 pub standard-start : (table : Table) → IsInStandardOrder table (own_refusals table)
 standard-start table = ([], sym (append-nil (own_refusals table)), λ k. tt)
 
--- it goes on with the next need
+-- It continues with the next need.
 pub standard-push : (table : Table) (refusals : List Refusal) (refusal : Refusal) → IsInStandardOrder table refusals
     → IsNextNeed table refusals refusal → IsInStandardOrder table (refusals ++ refusal ∷ [])
 standard-push table refusals refusal (later, is, each) need =
@@ -40,21 +40,21 @@ standard-push table refusals refusal (later, is, each) need =
           (subst (λ (before : List Refusal). IsNextNeed table before refusal) is need),
     )
 
--- the first dependency of an entry that is out of reach
+-- The first dependency of an entry that is out of reach.
 pub record IsUnmetDependency
     (table : Table) (before : List Refusal) (i : ℕ) (entry : Entry) (reason : Reason) : Type 0 where
   pub dependency : Dependency
   pub found : find (is_out_of_reach table before i) entry.dependencies.items ≡ Some dependency
   pub names : Needs dependency.image dependency.minimum ≡ reason
 
--- the first group of an entry that is out of reach
+-- The first group of an entry that is out of reach.
 pub record IsUnmetGroup
     (table : Table) (before : List Refusal) (i : ℕ) (entry : Entry) (reason : Reason) : Type 0 where
   pub group : Group
   pub found : find (is_group_out_of_reach table before i) entry.groups.items ≡ Some group
   pub names : NeedsOne group ≡ reason
 
--- what the request of image i needs that is out of reach
+-- The need of the request of image i: a dependency or a group out of reach.
 pub record HasNeed (table : Table) (before : List Refusal) (i : ℕ) (reason : Reason) : Type 0 where
   pub image : Image
   pub entry : Entry
@@ -62,7 +62,7 @@ pub record HasNeed (table : Table) (before : List Refusal) (i : ℕ) (reason : R
   pub has_entry : intact_entry image.request ≡ Some entry
   pub unmet : IsUnmetDependency table before i entry reason ⊎ IsUnmetGroup table before i entry reason
 
--- a need of an entry is a dependency or a group
+-- A need of an entry is a dependency or a group.
 unmet-of_entry : (table : Table) (before : List Refusal) (i : ℕ) (entry : Entry) (reason : Reason)
     → needs_reason_of_entry table before i entry ≡ Some reason
     → IsUnmetDependency table before i entry reason ⊎ IsUnmetGroup table before i entry reason
@@ -78,7 +78,7 @@ unmet-of_entry table before i entry reason is =
           inr (record { group = group; found = found; names = names })
     ]
 
--- a need has a request
+-- An image with a need has a request.
 pub HasNeed-from_reason : (table : Table) (before : List Refusal) (i : ℕ) (reason : Reason)
     → needs_reason table before i ≡ Some reason → HasNeed table before i reason
 HasNeed-from_reason table before i reason is =
@@ -93,19 +93,19 @@ HasNeed-from_reason table before i reason is =
       unmet = unmet-of_entry table before i entry reason of_entry;
     }))
 
--- a list of refusals as the choice makes it: in the standard order, each request once at most
+-- A list of refusals as the choice makes it: in the standard order, with each request at most once.
 pub record IsRefusalList (table : Table) (refusals : List Refusal) : Type 0 where
   pub standard : IsInStandardOrder table refusals
   pub once : IsOnce table refusals
 
--- it begins with the requests that are refused by themselves
+-- It begins with the requests that are refused by themselves.
 pub IsRefusalList-start : (table : Table) (refusals : List Refusal) → refusals ≡ own_refusals table
     → IsRefusalList table refusals
 IsRefusalList-start table refusals is =
     subst (λ (listed : List Refusal). IsRefusalList table listed) (sym is)
     (record { standard = standard-start table; once = IsOnce-own_refusals table })
 
--- it goes on with the next need
+-- It continues with the next need.
 pub IsRefusalList-push : (table : Table) (refusals before : List Refusal) (refusal : Refusal)
     → IsRefusalList table refusals → before ≡ refusals → IsNextNeed table before refusal
     → IsRefusalList table (refusals ++ refusal ∷ [])
@@ -118,7 +118,7 @@ IsRefusalList-push table refusals before refusal listed same need_before =
           (has_request-intact table refusal.image has.image has.entry has.has_image has.has_entry);
     }
 
--- it goes on as long as an image isn't refused
+-- It continues only while an image isn't refused.
 pub length-refusal_list : (table : Table) (refusals before : List Refusal) (refusal : Refusal)
     → IsRefusalList table refusals → before ≡ refusals → IsNextNeed table before refusal
     → length refusals < length table.images.items
@@ -130,7 +130,7 @@ length-refusal_list table refusals before refusal listed same need =
           (IsRefusalList-push table refusals before refusal listed same need).once,
     )
 
--- a request that isn't refused in a list in the standard order isn't refused by itself
+-- A request that a list in the standard order doesn't refuse isn't refused by itself.
 pub own_reason-unrefused : (table : Table) (refusals : List Refusal) → IsInStandardOrder table refusals
     → (j : ℕ) (image : Image) → image_at table j ≡ Some image → is_refused refusals j ≡ false
     → own_reason table image image.request ≡ None

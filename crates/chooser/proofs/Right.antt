@@ -1,4 +1,4 @@
--- A report that takes what isn't refused in the end is right.
+-- A report that takes the requests that aren't refused in the end is right.
 use Rattle.std.proofs.Common.{◌≡◌, ℕ, ◌+◌, false, List, length, Some, None, inl, inr, zero-add, refl, sym, ap, subst, ◌∙◌, arith}
 use Rattle.std.specs.Prelude.{◌==◌, option_map, slice_get}
 use Rattle.std.specs.List.{enumerate_from}
@@ -25,7 +25,7 @@ use Rattle.chooser.proofs.Order.{own_reason-unrefused}
 use Rattle.chooser.proofs.Founded.{IsFounded-from_standard}
 use Rattle.chooser.proofs.Taken.{IsSettled, IsValid-taken, taken-refused, taken-unrefused}
 
--- what is reported of image j
+-- What is reported of image j.
 slice_get-reported_images : (table : Table) (refusals : List Refusal) (j : ℕ)
     → slice_get (reported_images table refusals) j ≡ option_map (λ image. reported_image refusals (j, image))
     (image_at table j)
@@ -37,7 +37,7 @@ slice_get-reported_images table refusals j =
     ∙ ap (λ n. option_map (λ (x : Image). (n, x)) (slice_get images j)) (zero-add j))
     ∙ option_map-option_map (reported_image refusals) (λ (x : Image). (j, x)) (slice_get images j)
 
--- what a complete list of refusals is
+-- A complete list of refusals.
 pub record IsComplete (table : Table) (refusals : List Refusal) : Type 0 where
   pub standard : IsInStandardOrder table refusals
   pub once : IsOnce table refusals
@@ -45,7 +45,7 @@ pub record IsComplete (table : Table) (refusals : List Refusal) : Type 0 where
 
 module _ (table : Table) (report : Report) (complete : IsComplete table report.refusals.items)
     (images : report.images.items ≡ reported_images table report.refusals.items) where
-  -- the requests that aren't refused have no reason
+  -- The requests that aren't refused have no reason.
   settled : IsSettled table report.refusals.items
   settled = record {
     own =
@@ -53,12 +53,12 @@ module _ (table : Table) (report : Report) (complete : IsComplete table report.r
     needs = complete.none_left;
   }
 
-  -- what is reported of image j
+  -- What is reported of image j.
   reported-at : (j : ℕ) → slice_get report.images.items j ≡ option_map (λ image.
       reported_image report.refusals.items (j, image)) (image_at table j)
   reported-at j = ap (λ items. slice_get items j) images ∙ slice_get-reported_images table report.refusals.items j
 
-  -- what the report takes
+  -- The images that the report takes.
   takes : (j : ℕ)
       → taken_in report j ≡ option_map_or (is_taken_unless_refused report.refusals.items j) (image_at table j) false
   takes j =
@@ -66,7 +66,7 @@ module _ (table : Table) (report : Report) (complete : IsComplete table report.r
       ∙ option_map_or-option_map (λ (reported : ReportedImage). reported.is_taken)
       (λ image. reported_image report.refusals.items (j, image)) (image_at table j) false
 
-  -- the version that the report names
+  -- The version that the report names.
   version-reported : (j : ℕ) (image : Image) → image_at table j ≡ Some image → (reported : ReportedImage)
       → slice_get report.images.items j ≡ Some reported
       → reported.version ≡ (entry_in image reported.is_taken).version
@@ -77,7 +77,7 @@ module _ (table : Table) (report : Report) (complete : IsComplete table report.r
       subst (λ (any_reported : ReportedImage). any_reported.version ≡
       (entry_in image any_reported.is_taken).version) is refl
 
-  -- taken and refused requests are all requests, each once
+  -- Each request is either taken or refused, and only once.
   requests-once : (j : ℕ)
       → times_refused report.refusals.items j + once_if (taken_in report j) ≡ once_if (has_request table j)
   requests-once j =
@@ -102,7 +102,7 @@ module _ (table : Table) (report : Report) (complete : IsComplete table report.r
             )
       ]
 
-  -- the report is right
+  -- The report is right.
   pub IsRight-from_complete : IsValid table running_set → IsRight table report
   IsRight-from_complete running = record {
     images = ap length images

@@ -1,4 +1,4 @@
--- What isn't refused in the end is a valid combination.
+-- The requests that aren't refused in the end are a valid combination.
 use Rattle.std.proofs.Common.{◌≡◌, ℕ, ◌≤◌, Bool, true, false, cond, eqb, not, ◌&&◌, List, Option, Some, None, inl, inr, refl, sym, ap, subst, ◌∙◌}
 use Rattle.std.specs.Prelude.{⊤, IfSome, find, is_none, is_some, nat_lt, unwrap_or}
 use Rattle.std.specs.List.{list_all}
@@ -27,13 +27,13 @@ use Rattle.certificate.proofs.Members.{entry_in-member}
 use Rattle.certificate.proofs.BestVersion.{version_of_request, newer_version}
 use Rattle.version_order.proofs.OrderLaws.{IsAtLeast_refl, IsAtLeast_trans}
 
--- the requested entry has the requested version
+-- The requested entry has the requested version.
 version_of_request-reached : (requested : Option Entry) (running : Entry)
     → IsAtLeast (unwrap_or requested running).version (version_of_request requested running)
 version_of_request-reached None running = IsAtLeast_refl running.version
 version_of_request-reached (Some entry) running = IsAtLeast_refl entry.version
 
--- a requested entry that isn't older has the newer version
+-- A requested entry that isn't older has the newer version.
 newer_version-reached : (requested : Option Entry) (running : Entry)
     → IfSome requested (λ entry. IsAtLeast entry.version running.version)
     → IsAtLeast (unwrap_or requested running).version (newer_version requested running)
@@ -42,7 +42,7 @@ newer_version-reached (Some entry) running newer =
     cond_both (is_older running.version entry.version) entry.version running.version
     (λ v. IsAtLeast entry.version v) (λ _. IsAtLeast_refl entry.version) (λ _. newer)
 
--- the best version is reached where all that isn't refused is taken
+-- The best version is reached if all requests that aren't refused are taken.
 best-reached : (requested : Option Entry) (running : Entry) (is_own is_refused is_member : Bool)
     → (is_own ≡ true → is_member ≡ true) → is_member ≡ (is_some requested && not is_refused)
     → IfSome requested (λ entry. is_refused ≡ false → IsAtLeast entry.version running.version)
@@ -61,19 +61,19 @@ best-reached (Some entry) running false false true own member newer =
     newer_version-reached (Some entry) running (newer refl)
 best-reached (Some entry) running false false false own member newer = absurd (false≢true member)
 
--- what a requested entry is like that isn't refused by itself
+-- A requested entry that isn't refused by itself.
 record IsAccepted (table : Table) (image : Image) (entry : Entry) : Type 0 where
   pub at_least_running : IsAtLeast entry.version image.running.version
   pub counter_accepted : image.floor ≤ entry.counter
   pub none_missing : find (λ dependency. is_none (image_at table dependency.image)) entry.dependencies.items ≡ None
 
--- a test that chose nothing failed
+-- If a test chose nothing, it failed.
 fails_for_none : {X : Type 0} (test : Bool) (x : X) (other : Option X) → cond test (Some x) other ≡ None
     → (test ≡ false) × (other ≡ None)
 fails_for_none true x other none = absurd (none-some x (sym none))
 fails_for_none false x other none = (refl, none)
 
--- an intact request with no reason of its own
+-- An intact request without a reason of its own isn't refused by itself.
 IsAccepted-from_none : (table : Table) (image : Image) (asked : Request) (entry : Entry)
     → intact_entry asked ≡ Some entry → own_reason table image asked ≡ None → IsAccepted table image entry
 IsAccepted-from_none table image request.None entry has_entry none = absurd (none-some entry has_entry)
@@ -91,32 +91,32 @@ IsAccepted-from_none table image (request.Entry intact) entry has_entry none =
           (λ dependency. is_none (image_at table dependency.image)) entry.dependencies.items) not_low.1;
     }
 
--- all requests that are left have no reason
+-- All remaining requests have no reason.
 pub record IsSettled (table : Table) (refusals : List Refusal) : Type 0 where
   pub own : (j : ℕ) (image : Image) → image_at table j ≡ Some image → is_refused refusals j ≡ false
       → own_reason table image image.request ≡ None
   pub needs : (j : ℕ) → is_refused refusals j ≡ false → needs_reason table refusals j ≡ None
 
--- an image whose intact request isn't refused
+-- An image whose intact request isn't refused.
 record IsTaken (table : Table) (refusals : List Refusal) (j : ℕ) (image : Image) (entry : Entry) : Type 0 where
   pub has_image : image_at table j ≡ Some image
   pub has_entry : intact_entry image.request ≡ Some entry
   pub unrefused : is_refused refusals j ≡ false
 
--- nothing is taken that is refused
+-- No refused request is taken.
 none_if_refused : (refusals : List Refusal) (j : ℕ) → is_refused refusals j ≡ true → (found : Option Image)
     → option_map_or (is_taken_unless_refused refusals j) found false ≡ false
 none_if_refused refusals j refused None = refl
 none_if_refused refusals j refused (Some image) = and_right _ (not (is_refused refusals j)) (not_from_true _ refused)
 
--- a request with no reason is intact
+-- A request without a reason is intact.
 intact_if_no_reason : (table : Table) (image : Image) (unrefused : Bool) → unrefused ≡ true → (asked : Request)
     → own_reason table image asked ≡ None → (is_some (intact_entry asked) && unrefused) ≡ is_requested asked
 intact_if_no_reason table image unrefused is request.None none = refl
 intact_if_no_reason table image unrefused is request.Damaged none = absurd (none-some Damaged (sym none))
 intact_if_no_reason table image unrefused is (request.Entry entry) none = is
 
--- all requests are taken that aren't refused
+-- All requests that aren't refused are taken.
 all_if_unrefused : (table : Table) (refusals : List Refusal) (j : ℕ)
     → ((image : Image) → image_at table j ≡ Some image → own_reason table image image.request ≡ None)
     → is_refused refusals j ≡ false → (found : Option Image) → image_at table j ≡ found
@@ -130,13 +130,13 @@ all_if_unrefused table refusals j own unrefused (Some image) is =
 module _ (table : Table) (refusals : List Refusal) (taken : ℕ → Bool)
     (takes : (j : ℕ) → taken j ≡ option_map_or (is_taken_unless_refused refusals j) (image_at table j) false)
     (settled : IsSettled table refusals) where
-  -- what is taken at an image
+  -- Whether the request of an image is taken.
   taken-at : (j : ℕ) (image : Image) → image_at table j ≡ Some image
       → taken j ≡ is_taken_unless_refused refusals j image
   taken-at j image has_image = takes j ∙ ap (λ found. option_map_or
       (is_taken_unless_refused refusals j) found false) has_image
 
-  -- what is taken has an intact request that isn't refused
+  -- A taken image has an intact request that isn't refused.
   IsTaken-at : (j : ℕ) (image : Image) → image_at table j ≡ Some image → taken j ≡ true → (entry : Entry)
       × IsTaken table refusals j image entry
   IsTaken-at j image has_image is =
@@ -145,7 +145,7 @@ module _ (table : Table) (refusals : List Refusal) (taken : ℕ → Bool)
       let (entry, has_entry) = is_some_value (intact_entry image.request) parts.0 in
       (entry, record { has_image = has_image; has_entry = has_entry; unrefused = not-true _ parts.1 })
 
-  -- what is taken has an image
+  -- A taken image is in the table.
   IsTaken-from_taken : (j : ℕ) → taken j ≡ true → (image : Image) × (entry : Entry)
       × IsTaken table refusals j image entry
   IsTaken-from_taken j is =
@@ -154,13 +154,13 @@ module _ (table : Table) (refusals : List Refusal) (taken : ℕ → Bool)
       let (entry, is_taken) = IsTaken-at j image has_image is in
       (image, entry, is_taken)
 
-  -- and isn't refused by itself
+  -- A taken image isn't refused by itself.
   accepted : (j : ℕ) (image : Image) (entry : Entry) → image_at table j ≡ Some image
       → intact_entry image.request ≡ Some entry → is_refused refusals j ≡ false → IsAccepted table image entry
   accepted j image entry has_image has_entry unrefused =
       IsAccepted-from_none table image image.request entry has_entry (settled.own j image has_image unrefused)
 
-  -- what is in reach is met
+  -- An alternative in reach is met.
   is_met-in_reach : (own : ℕ) → taken own ≡ true → (dependency : Dependency)
       → is_in_reach table refusals own dependency ≡ true → is_met table taken dependency ≡ true
   is_met-in_reach own is dependency in_reach =
@@ -176,7 +176,7 @@ module _ (table : Table) (refusals : List Refusal) (taken : ℕ → Bool)
       (is_older (entry_in any_image (taken j)).version dependency.minimum)) found false) has_image
       ∙ IsAtLeast_trans (entry_in image (taken j)).version best dependency.minimum reached enough
 
-  -- a dependency on an image that exists is met where it isn't out of reach
+  -- A dependency on an image that exists is met if it isn't out of reach.
   is_met-within_reach : (own : ℕ) → taken own ≡ true → (dependency : Dependency)
       → is_none (image_at table dependency.image) ≡ false → is_out_of_reach table refusals own dependency ≡ false
       → is_met table taken dependency ≡ true
@@ -191,14 +191,14 @@ module _ (table : Table) (refusals : List Refusal) (taken : ℕ → Bool)
       (ap (λ found. option_map_or (λ any_image. not
       (is_older (best_version refusals own j any_image) dependency.minimum)) found false) has_image ∙ enough)
 
-  -- a group is met where it isn't out of reach
+  -- A group is met if it isn't out of reach.
   is_group_met-in_reach : (own : ℕ) → taken own ≡ true → (group : Group)
       → is_group_out_of_reach table refusals own group ≡ false → is_group_met table taken group ≡ true
   is_group_met-in_reach own is group within =
       list_any-weaker (is_in_reach table refusals own) (is_met table taken) (is_met-in_reach own is)
       group.alternatives.items (not-false _ within)
 
-  -- no dependency and no group of an unrefused request is out of reach
+  -- No dependency and no group of an unrefused request is out of reach.
   none_out_of_reach : (j : ℕ) (image : Image) (entry : Entry) → IsTaken table refusals j image entry
       → (find (is_out_of_reach table refusals j) entry.dependencies.items ≡ None)
       × (find (is_group_out_of_reach table refusals j) entry.groups.items ≡ None)
@@ -210,7 +210,7 @@ module _ (table : Table) (refusals : List Refusal) (taken : ℕ → Bool)
         option_map-None _ (find (is_group_out_of_reach table refusals j) entry.groups.items) none.1,
       )
 
-  -- the dependencies and groups of what is taken are met
+  -- The dependencies and groups of a taken image are met.
   met-taken : (j : ℕ) (image : Image) (entry : Entry) → taken j ≡ true → IsTaken table refusals j image entry
       → meets_all table taken entry ≡ true
   met-taken j image entry is_taken is =
@@ -225,7 +225,7 @@ module _ (table : Table) (refusals : List Refusal) (taken : ℕ → Bool)
       (list_all-from_finds out_of_reach out_of_reach (is_group_met table taken)
       (λ group within _. is_group_met-in_reach j is_taken group within) entry.groups.items none.1 none.1)
 
-  -- what runs then is at least what ran
+  -- The version that runs then is at least the one that ran before.
   entry_in-at_least_running : (j : ℕ) (image : Image) → image_at table j ≡ Some image
       → IsAtLeast (entry_in image (taken j)).version image.running.version
   entry_in-at_least_running j image has_image =
@@ -239,7 +239,7 @@ module _ (table : Table) (refusals : List Refusal) (taken : ℕ → Bool)
             (IsAtLeast_refl image.running.version)
       ]
 
-  -- a dependency that the running images meet stays met
+  -- A dependency that the running images meet stays met.
   is_met-running : (dependency : Dependency) → is_met table running_set dependency ≡ true
       → is_met table taken dependency ≡ true
   is_met-running dependency met =
@@ -250,13 +250,13 @@ module _ (table : Table) (refusals : List Refusal) (taken : ℕ → Bool)
       ∙ IsAtLeast_trans (entry_in image (taken j)).version image.running.version dependency.minimum
       (entry_in-at_least_running j image has_image) enough
 
-  -- and so does a group
+  -- A group that the running images meet stays met.
   is_group_met-running : (group : Group) → is_group_met table running_set group ≡ true
       → is_group_met table taken group ≡ true
   is_group_met-running group met =
       list_any-weaker (is_met table running_set) (is_met table taken) is_met-running group.alternatives.items met
 
-  -- all that the running images ask stays met
+  -- All dependencies and groups of the running images stay met.
   meets_all-running : (entry : Entry) → meets_all table running_set entry ≡ true → meets_all table taken entry ≡ true
   meets_all-running entry met =
       let parts = and_parts (list_all (is_met table running_set) entry.dependencies.items)
@@ -267,7 +267,7 @@ module _ (table : Table) (refusals : List Refusal) (taken : ℕ → Bool)
       (list_all-weaker (is_group_met table running_set) (is_group_met table taken) is_group_met-running
       entry.groups.items parts.1)
 
-  -- the combination is valid
+  -- The combination is valid.
   pub IsValid-taken : IsValid table running_set → IsValid table taken
   IsValid-taken running = record {
     members = λ j is.
@@ -291,11 +291,11 @@ module _ (table : Table) (refusals : List Refusal) (taken : ℕ → Bool)
         ]);
   }
 
-  -- a request that is refused isn't taken
+  -- A refused request isn't taken.
   pub taken-refused : (j : ℕ) → is_refused refusals j ≡ true → taken j ≡ false
   taken-refused j refused = takes j ∙ none_if_refused refusals j refused (image_at table j)
 
-  -- a request that isn't refused is taken
+  -- A request that isn't refused is taken.
   pub taken-unrefused : (j : ℕ) → is_refused refusals j ≡ false → taken j ≡ has_request table j
   taken-unrefused j unrefused = takes j ∙ all_if_unrefused table refusals j (λ image has_image.
       settled.own j image has_image unrefused) unrefused (image_at table j) refl

@@ -18,16 +18,16 @@ reason_number (NeedsOne group) = 6
 abbrev pub is_drop : Refusal → Bool
 is_drop refusal = nat_lt 4 (reason_number refusal.reason)
 
--- How many of these refusals are drops.
+-- The number of drops among these refusals.
 abbrev pub drops_in : List Refusal → ℕ
 drops_in refusals = count_by is_drop refusals
 
--- Each count has room for what a choice adds.
+-- Each count is low enough that a choice can't make it overflow.
 pub record HasRoom (steps : Steps) : Type 0 where
   pub passes : steps.passes < 2 ^ 31
   pub drops : steps.drops < 2 ^ 31
   pub looks : steps.looks < 2 ^ 31
 
--- A count doesn't fall, and rises by this much at most.
+-- A count doesn't fall, and rises by at most `most`.
 abbrev pub RisesAtMost : ℕ → ℕ → ℕ → Type 0
 RisesAtMost most old new = (old ≤ new) × (new ≤ old + most)

@@ -1,4 +1,4 @@
-//! The choice among the requests of a table.
+//! Chooses among the requests of a table.
 
 ghost use Rattle.std.specs.Prelude.{◌≡◌, ◌+◌, ◌≤◌, ℕ, None, false};
 ghost use Rattle.certificate.specs.Combination.{IsGreatest, IsValid, running_set};
@@ -16,12 +16,12 @@ use crate::steps::Steps;
 use arrayvec::ArrayVec;
 use certificate::{MOST_REFUSALS, Refusal, Report, Table, right_reports_are_greatest};
 
-/// Chooses among the requests of a table: takes those of the greatest valid combination, and
+/// Chooses among the requests of a table. Takes the requests of the greatest valid combination, and
 /// refuses each other one with the lowest reason that holds of it, in the standard order.
 ///
-/// The running images have to fit each other, which `certificate::is_valid` tells. It does not
-/// allocate and always answers; a table of no images has an empty report. The report of a table
-/// that fits its fields, as one that was read does, has a text:
+/// The running images must fit each other, which `certificate::is_valid` checks. The call doesn't
+/// allocate and never fails. A table of no images has an empty report. If the table fits its
+/// fields, as any table does that was read, its report has a text: see
 /// `certificate::right_reports_have_a_text`.
 pub fn choose(table: &Table) -> Report
     requires { IsValid table.now running_set }
@@ -32,11 +32,13 @@ pub fn choose(table: &Table) -> Report
     choose_counted(table, &mut Steps::default())
 }
 
-/// The same choice, which adds to a count of its steps: one pass over all requests at most, a drop
-/// for each refusal with a reason above 4 (`Needs` and `NeedsOne`), and after each drop a look at
-/// the remaining requests that depend on what was dropped, or have it as an alternative. Each count
-/// has to be below 2^31, so that it has room: a count that began with `Steps::default()` is, over
-/// the first seventy million choices.
+/// Chooses as [`choose`] does, and adds to a count of its steps: at most one pass over all
+/// requests; a drop for each refusal with a reason above 4 (`Needs` and `NeedsOne`); and after each
+/// drop a look at the remaining requests that depend on the dropped one or have it as an
+/// alternative.
+///
+/// Each count must be below 2^31, so that it can't overflow. A count that began with
+/// `Steps::default()` is below that for at least the first seventy million choices.
 pub fn choose_counted(table: &Table, steps: &mut Steps) -> Report
     requires running { IsValid table.now running_set }
     requires room { HasRoom steps.old }
@@ -53,10 +55,10 @@ pub fn choose_counted(table: &Table, steps: &mut Steps) -> Report
     report_of(table, all_refusals(table, steps))
 }
 
-/// All refusals of a table. First come those of the requests that are refused by themselves. One
-/// pass then marks the requests that need what can't come; again and again the lowest marked one is
-/// refused, and those that depend on it or have it as an alternative are marked anew, until no mark
-/// is left.
+/// Returns all refusals of a table. First come the requests that are refused by themselves. Then
+/// one pass marks the requests that have a dependency or a group out of reach. The lowest marked
+/// request is refused, and the requests that depend on it or have it as an alternative are marked
+/// again. This is repeated until no mark is left.
 fn all_refusals(table: &Table, steps: &mut Steps) -> ArrayVec<Refusal, MOST_REFUSALS>
     requires { HasRoom steps.old }
     ensures standard { IsInStandardOrder table.now result.items }
@@ -73,7 +75,7 @@ fn all_refusals(table: &Table, steps: &mut Steps) -> ArrayVec<Refusal, MOST_REFU
     let mut marks = marks_after(table, &refusals);
     steps.passes += 1;
     while let Some(refusal) = next_need(table, &refusals, &marks) {
-        // No image is refused twice, so there is room for one more.
+        // No image is refused twice, so the list isn't full.
         prove!(refusals.len() < table.images.len());
         let dropped = refusal.image;
         refusals.push(refusal);

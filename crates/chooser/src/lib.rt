@@ -1,4 +1,4 @@
-//! The choice: which requests of a table are taken, and why each other one is refused.
+//! Chooses which requests of a table are taken, and says why each other request is refused.
 //!
 //! - Promises: The report is right and takes the greatest valid set. It lists the refusals in the
 //!   standard order. Its steps are counted.
@@ -6,9 +6,9 @@
 //! - Allocates: no.
 //! - Callers: anybody who has a table: a bootloader of its slots, a program of its input.
 //!
-//! `choose` never fails. It looks at all requests once, then again only at those that depend on one
-//! that was dropped or have it as an alternative. Others can check its report without it, by
-//! `certificate::check`.
+//! `choose` never fails. It looks at all requests once. After it drops a request, it looks again
+//! only at those that depend on it or have it as an alternative. `certificate::check` checks a
+//! report without this crate.
 #![tactic(auto)]
 
 mod choice;

@@ -1,4 +1,4 @@
-//! Marks: which of the remaining requests need what can't come.
+//! Marks the remaining requests that have a dependency or a group out of reach.
 
 ghost use Rattle.std.specs.Prelude.{◌≡◌, ◌+◌, ◌^◌, ◌<◌, ◌≤◌, ℕ, length};
 ghost use Rattle.std.specs.Int.{bit_at};
@@ -11,7 +11,7 @@ use crate::steps::Steps;
 use certificate::{Refusal, Table, dependants};
 use common::limits::MOST_IMAGES;
 
-/// The marks after these refusals, by one look at each remaining request.
+/// Returns the marks after these refusals, with one look at each remaining request.
 pub(crate) fn marks_after(table: &Table, refusals: &[Refusal]) -> [bool; MOST_IMAGES]
     ensures { AreMarks table.now refusals.now result }
 {
@@ -22,16 +22,17 @@ pub(crate) fn marks_after(table: &Table, refusals: &[Refusal]) -> [bool; MOST_IM
     marks
 }
 
-/// Whether the request of an image remains after these refusals and needs what can't come.
+/// Returns whether the request of an image isn't refused and has a dependency or a group out of
+/// reach.
 fn has_need(table: &Table, refusals: &[Refusal], number: u8) -> bool
     ensures { result ≡ has_need table.now refusals.now number }
 {
     !is_refused(refusals, number) && has_unmet(table, refusals, number)
 }
 
-/// Marks anew the remaining requests that depend on an image or have it as an alternative, now that
-/// its request is refused, and counts the looks. The marks of all others are right: what they need
-/// can come as it could before.
+/// Updates the marks after the request of `dropped` was refused, and counts the looks. It looks at
+/// the remaining requests that depend on that image or have it as an alternative. The marks of all
+/// others stay right, because the refusal puts nothing that they need out of reach.
 pub(crate) fn mark_dependants(
     table: &Table,
     refusals: &[Refusal],
@@ -57,7 +58,7 @@ pub(crate) fn mark_dependants(
     }
 }
 
-/// Whether an image is in a mask.
+/// Returns whether an image is in a mask.
 fn is_member(mask: u8, number: u8) -> bool
     requires { number < MOST_IMAGES }
     ensures { once_if result ≡ bit_at mask number }

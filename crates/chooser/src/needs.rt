@@ -1,4 +1,4 @@
-//! Requests that need what can't come, given those that are refused so far.
+//! Finds the requests that have a dependency or a group out of reach, given the refusals so far.
 
 ghost use Rattle.std.specs.List.{list_any};
 ghost use Rattle.std.specs.Option.{option_copied};
@@ -12,8 +12,9 @@ use certificate::{Entry, Image, Reason, Refusal, Request, Table};
 use common::limits::MOST_IMAGES;
 use version_order::{Dependency, Group, Version};
 
-/// After these refusals comes this one: the lowest request that is marked, with the first of its
-/// dependencies that is out of reach, else the first such group. `None` where no request is marked.
+/// Returns the next refusal after `before`: that of the lowest marked request. Its reason is the
+/// first of its dependencies that is out of reach, or else its first such group. Returns `None` if
+/// no request is marked.
 pub(crate) fn next_need(
     table: &Table,
     before: &[Refusal],
@@ -25,7 +26,8 @@ pub(crate) fn next_need(
         ((i : ℕ) → is_refused before.now i ≡ false → needs_reason table.now before.now i ≡ None) }
 {
     let number = lowest_marked(marks)? as u8;
-    // Its reason is found now and not when it was marked: more may be out of reach since then.
+    // The reason is found only here, because more may be out of reach than when the request was
+    // marked.
     let reason = needs_reason(table, before, number)?;
     Some(Refusal {
         image: number,
@@ -39,15 +41,15 @@ fn lowest_marked(marks: &[bool; MOST_IMAGES]) -> Option<usize>
     marks.iter().position(|&is_marked| is_marked)
 }
 
-/// Whether the list refuses the request of an image.
+/// Returns whether the list refuses the request of an image.
 pub(crate) fn is_refused(refusals: &[Refusal], number: u8) -> bool
     ensures { result ≡ is_refused refusals.now number }
 {
     refusals.iter().any(|refusal| refusal.image == number)
 }
 
-/// Whether the intact request of an image has a dependency or a group that is out of reach after
-/// these refusals. Unlike `needs_reason` it copies no group.
+/// Returns whether the intact request of an image has a dependency or a group that is out of reach
+/// after these refusals. Unlike `needs_reason` it copies no group.
 pub(crate) fn has_unmet(table: &Table, before: &[Refusal], number: u8) -> bool
     ensures { result ≡ is_some (needs_reason table.now before.now number) }
 {
@@ -60,7 +62,7 @@ pub(crate) fn has_unmet(table: &Table, before: &[Refusal], number: u8) -> bool
     }
 }
 
-/// Whether an entry that is requested of image `own` has a dependency or a group that is out of
+/// Returns whether an entry that is requested of image `own` has a dependency or a group out of
 /// reach.
 fn is_unmet(table: &Table, before: &[Refusal], own: u8, entry: &Entry) -> bool
     ensures { result ≡ is_some (needs_reason_of_entry table.now before.now own entry.now) }
@@ -86,8 +88,8 @@ fn has_unmet_group(table: &Table, before: &[Refusal], own: u8, groups: &[Group])
     first_group_out_of_reach(table, before, own, groups).is_some()
 }
 
-/// The first dependency of the intact request of an image that is out of reach after these
-/// refusals, as a reason; where there is none, the first such group.
+/// Returns as a reason the first dependency of an image's intact request that is out of reach after
+/// these refusals, or else the first such group.
 fn needs_reason(table: &Table, before: &[Refusal], number: u8) -> Option<Reason>
     ensures { result ≡ needs_reason table.now before.now number }
 {
@@ -110,8 +112,8 @@ fn needs_reason_of_entry(
     }
 }
 
-/// The first dependency of an entry that is requested of image `own` which is out of reach, as a
-/// reason.
+/// Returns as a reason the first dependency out of reach of an entry that is requested of image
+/// `own`.
 fn unmet_dependency(table: &Table, before: &[Refusal], own: u8, entry: &Entry) -> Option<Reason>
     ensures { result ≡ unmet_dependency table.now before.now own entry.now }
 {
@@ -119,7 +121,7 @@ fn unmet_dependency(table: &Table, before: &[Refusal], own: u8, entry: &Entry) -
     Some(Reason::Needs(dependency.image, dependency.minimum))
 }
 
-/// The same of its groups.
+/// Returns as a reason the first group out of reach of such an entry.
 fn unmet_group(table: &Table, before: &[Refusal], own: u8, entry: &Entry) -> Option<Reason>
     ensures { result ≡ unmet_group table.now before.now own entry.now }
 {
@@ -153,7 +155,7 @@ fn first_group_out_of_reach<'a>(
         .find(|group| is_group_out_of_reach(table, before, own, group))
 }
 
-/// Whether no alternative of a group of the request of image `own` is in reach.
+/// Returns whether a group of the request of image `own` has no alternative in reach.
 fn is_group_out_of_reach(table: &Table, before: &[Refusal], own: u8, group: &Group) -> bool
     ensures { result ≡ is_group_out_of_reach table.now before.now own group.now }
 {
@@ -168,8 +170,8 @@ fn is_one_in_reach(table: &Table, before: &[Refusal], own: u8, alternatives: &[D
         .any(|alternative| is_in_reach(table, before, own, alternative))
 }
 
-/// Whether an alternative in a group of the request of image `own` names an image that exists and
-/// whose best version isn't below the minimum.
+/// Returns whether an alternative in a group of the request of image `own` is in reach: its image
+/// exists, and the best version of that isn't below the minimum.
 fn is_in_reach(table: &Table, before: &[Refusal], own: u8, alternative: &Dependency) -> bool
     ensures { result ≡ is_in_reach table.now before.now own alternative.now }
 {
@@ -179,8 +181,8 @@ fn is_in_reach(table: &Table, before: &[Refusal], own: u8, alternative: &Depende
     }
 }
 
-/// Whether a dependency of the request of image `own` names an image that exists and whose best
-/// version is below the minimum.
+/// Returns whether a dependency of the request of image `own` is out of reach: its image exists,
+/// and the best version of that is below the minimum.
 fn is_out_of_reach(table: &Table, before: &[Refusal], own: u8, dependency: &Dependency) -> bool
     ensures { result ≡ is_out_of_reach table.now before.now own dependency.now }
 {
@@ -190,7 +192,7 @@ fn is_out_of_reach(table: &Table, before: &[Refusal], own: u8, dependency: &Depe
     }
 }
 
-/// The best version that the request of image `own` can hope for at the image of a number.
+/// Returns the best version of image `number` that the request of image `own` can still get.
 fn best_version(before: &[Refusal], own: u8, number: u8, image: &Image) -> Version
     ensures { result ≡ best_version before.now own number image.now }
 {
@@ -203,7 +205,7 @@ fn best_version(before: &[Refusal], own: u8, number: u8, image: &Image) -> Versi
     }
 }
 
-/// The version of an intact request, or else the running one.
+/// Returns the version of an intact request, or else the running version.
 fn requested_version(image: &Image) -> Version
     ensures { result ≡ requested_version image.now }
 {
@@ -213,7 +215,7 @@ fn requested_version(image: &Image) -> Version
     }
 }
 
-/// The newer of the running version and the version of an intact request.
+/// Returns the newer of the running version and the version of an intact request.
 fn newest_version(image: &Image) -> Version
     ensures { result ≡ newest_version image.now }
 {
@@ -223,7 +225,7 @@ fn newest_version(image: &Image) -> Version
     }
 }
 
-/// The intact image that is requested in the place of an image, if there is one.
+/// Returns the intact entry that is requested of an image, if there is one.
 fn requested_entry(image: &Image) -> Option<&Entry>
     ensures { option_copied result ≡ intact_entry image.now.request }
 {

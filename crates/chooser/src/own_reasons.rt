@@ -1,4 +1,4 @@
-//! Requests that are refused by themselves, whatever becomes of the others.
+//! Finds the requests that are refused by themselves, whatever happens to the others.
 
 ghost use Rattle.std.specs.Option.{option_copied};
 ghost use Rattle.std.specs.Prelude.{◌≡◌, find};
@@ -8,7 +8,8 @@ use arrayvec::ArrayVec;
 use certificate::{Entry, Image, MOST_REFUSALS, Reason, Refusal, Request, Table};
 use version_order::Dependency;
 
-/// The requests that are refused by themselves, by ascending number, each with the lowest reason.
+/// Returns the requests that are refused by themselves, in the order of their images, each with its
+/// lowest reason.
 pub(crate) fn own_refusals(table: &Table) -> ArrayVec<Refusal, MOST_REFUSALS>
     ensures { result.items ≡ own_refusals table.now }
 {
@@ -21,7 +22,7 @@ pub(crate) fn own_refusals(table: &Table) -> ArrayVec<Refusal, MOST_REFUSALS>
     refusals
 }
 
-/// The refusal of an image's request by itself, if there is one.
+/// Returns the refusal of an image's request by itself, if there is one.
 fn own_refusal(table: &Table, number: u8, image: &Image) -> Option<Refusal>
     ensures { result ≡ own_refusal table.now (number, image.now) }
 {
@@ -32,7 +33,7 @@ fn own_refusal(table: &Table, number: u8, image: &Image) -> Option<Refusal>
     })
 }
 
-/// Why a request is refused by itself, if it is.
+/// Returns why a request is refused by itself, if it is.
 fn own_reason(table: &Table, image: &Image) -> Option<Reason>
     ensures { result ≡ own_reason table.now image.now image.now.request }
 {
@@ -55,7 +56,7 @@ fn own_reason_of_entry(table: &Table, image: &Image, entry: &Entry) -> Option<Re
     }
 }
 
-/// The first dependency on an image that the table doesn't have, as a reason.
+/// Returns as a reason the first dependency on an image that the table doesn't have.
 fn missing_image(table: &Table, entry: &Entry) -> Option<Reason>
     ensures { result ≡ missing_image table.now entry.now }
 {

@@ -1,4 +1,4 @@
-//! The report of a list of refusals: what isn't refused is taken.
+//! Makes the report of a list of refusals: the requests that aren't refused are taken.
 
 ghost use Rattle.std.specs.Prelude.{◌≡◌};
 ghost use Rattle.chooser.specs.Reported.{reported_image, reported_images};
@@ -7,7 +7,7 @@ use crate::needs::is_refused;
 use arrayvec::ArrayVec;
 use certificate::{Image, MOST_REFUSALS, Refusal, Report, ReportedImage, Request, Table};
 
-/// The report that takes each intact request that these refusals don't name.
+/// Returns the report that takes each intact request that these refusals don't name.
 pub(crate) fn report_of(table: &Table, refusals: ArrayVec<Refusal, MOST_REFUSALS>) -> Report
     ensures images { result.images.items ≡ reported_images table.now refusals.items }
     ensures refusals { result.refusals ≡ refusals }
@@ -19,7 +19,7 @@ pub(crate) fn report_of(table: &Table, refusals: ArrayVec<Refusal, MOST_REFUSALS
     Report { images, refusals }
 }
 
-/// What becomes of an image where these requests are refused.
+/// Returns what the report says of an image if these requests are refused.
 fn reported_image(refusals: &[Refusal], number: u8, image: &Image) -> ReportedImage
     ensures { result ≡ reported_image refusals.now (number, image.now) }
 {

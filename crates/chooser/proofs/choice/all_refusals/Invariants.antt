@@ -6,8 +6,8 @@ use Rattle.chooser.proofs.Counting.{most_looks}
 use Rattle.chooser.proofs.Order.{IsRefusalList}
 use Rattle.chooser.proofs.choice.all_refusals.Given as goal
 
--- the list so far is in the standard order and refuses each request once at most, the marks are
--- right for it, and the steps are counted
+-- The list so far is in the standard order and refuses each request at most once. The marks are
+-- right for it, and the steps are counted.
 abbrev pub invariant-loop-refusal : goal.invariant-loop-refusal
 invariant-loop-refusal l = record {
   listed : IsRefusalList l.table l.refusals.items;
@@ -18,6 +18,6 @@ invariant-loop-refusal l = record {
   at_most : l.steps.looks ≤ l.fn.steps.looks + most_looks (length l.refusals.items);
 }
 
--- the images that aren't refused yet
+-- The number of images that aren't refused yet.
 abbrev pub decreases-loop-refusal : goal.decreases-loop-refusal
 decreases-loop-refusal l = array_vec_len l.table.images - array_vec_len l.refusals

@@ -3,8 +3,8 @@ use Rattle.chooser.proofs.Counting.{AreLooks}
 use Rattle.chooser.proofs.Marking.{AreMarksUpTo}
 use Rattle.chooser.proofs.marks.mark_dependants.Given as goal
 
--- the images so far are marked anew where they had to be, with a look each, and nothing else is
--- counted
+-- The marks of the images so far are updated, with a look for each dependant, and no other count
+-- changed.
 abbrev pub invariant-loop-number : goal.invariant-loop-number
 invariant-loop-number l = record {
   marked : AreMarksUpTo l.table l.refusals l.dropped l.number l.marks;

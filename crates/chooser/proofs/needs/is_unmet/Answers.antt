@@ -12,7 +12,7 @@ use Rattle.certificate.specs.StandardOrder.{needs_reason_of_entry}
 use Rattle.chooser.proofs.Searches.{is_some-first_found}
 use Rattle.chooser.proofs.needs.is_unmet.Goals as goal
 
--- an entry has a reason where a dependency or a group is out of reach
+-- An entry has a reason if a dependency or a group is out of reach.
 has_reason : (table : Table) (before : List Refusal) (own : ℕ) (entry : Entry)
     → is_some (needs_reason_of_entry table before own entry)
     ≡ (list_any (is_out_of_reach table before own) entry.dependencies.items

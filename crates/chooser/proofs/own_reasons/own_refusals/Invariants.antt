@@ -4,7 +4,7 @@ use Rattle.arrayvec.specs.ArrayVec.{array_vec_len}
 use Rattle.certificate.specs.StandardOrder.{own_refusal}
 use Rattle.chooser.proofs.own_reasons.own_refusals.Given as goal
 
--- the requests so far that are refused by themselves are listed
+-- The refusals of the images so far are listed.
 abbrev pub invariant-loop-number : goal.invariant-loop-number
 invariant-loop-number l = record {
   listed : l.refusals.items ≡ filter_map (own_refusal l.table) (take l.number (enumerate_from 0 l.table.images.items));

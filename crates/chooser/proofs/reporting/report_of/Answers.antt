@@ -4,7 +4,7 @@ use Rattle.std.proofs.lemmas.List.{length-take-le, map-append, take_more}
 use Rattle.chooser.specs.Reported.{reported_image}
 use Rattle.chooser.proofs.reporting.report_of.Goals as goal
 
--- one more element has the next number
+-- One more element has the next number.
 enumerate_from-more : {X : Type 0} (n : ℕ) (xs : List X) (x : X)
     → enumerate_from n (xs ++ x ∷ []) ≡ enumerate_from n xs ++ (n + length xs, x) ∷ []
 enumerate_from-more n [] x = ap (λ m. (m, x) ∷ []) (sym (add-zero n))
@@ -13,7 +13,7 @@ enumerate_from-more n (y ∷ ys) x =
     ap (λ zs. (n, y) ∷ zs)
     (enumerate_from-more (n + 1) ys x ∙ ap (λ m. enumerate_from (n + 1) ys ++ (m, x) ∷ []) same)
 
--- what is made of the numbered elements so far, and of one more
+-- Mapping the numbered elements so far and one more.
 map-numbered_more : {X Y : Type 0} (h : ℕ × X → Y) (xs : List X) (i : ℕ) (x : X) → i < length xs
     → x ≡ get_or xs i x
     → map h (enumerate_from 0 (take (i + 1) xs)) ≡ map h (enumerate_from 0 (take i xs)) ++ h (i, x) ∷ []

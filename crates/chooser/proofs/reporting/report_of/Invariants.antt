@@ -4,7 +4,7 @@ use Rattle.arrayvec.specs.ArrayVec.{array_vec_len}
 use Rattle.chooser.specs.Reported.{reported_image}
 use Rattle.chooser.proofs.reporting.report_of.Given as goal
 
--- the images so far are reported
+-- The images so far are reported.
 abbrev pub invariant-loop-number : goal.invariant-loop-number
 invariant-loop-number l = record {
   images : l.images.items ≡ map (reported_image l.refusals.items)
