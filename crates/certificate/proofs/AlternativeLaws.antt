@@ -1,4 +1,4 @@
--- Reading the alternatives of a group finds what their text says, and nothing else.
+-- Reading the alternatives of a group finds exactly those of their text.
 use Rattle.std.proofs.Common.{◌≡◌, ℕ, zero, suc, ◌-◌, ◌^◌, ◌<◌, ◌≤◌, List, [], ◌∷◌, ◌++◌, length, Option, Some, None, refl, sym, ap, subst, ◌∙◌, inl, append_assoc, length-append, arith, rules}
 use Rattle.std.specs.Prelude.{codes, decimal}
 use Rattle.std.specs.List.{AllByRecursion, flat_map}
@@ -18,12 +18,12 @@ use Rattle.common.proofs.Options.{option_map-Some}
 use Rattle.certificate.specs.DependencyText.{AreAlternativesText, alternatives_text, FitsDependency, FitsGroup, HasFewAlternatives, IsNeedsOneText, needs_one_text}
 use Rattle.certificate.specs.LineReading.{alternative_of, group_from, group_of, more_alternatives}
 
--- The fields behind the space that a text begins with, where there is more text.
+-- The fields after the space with which a text begins, or `None` if the text is empty.
 abbrev fields_of : List ℕ → Option (List ℕ)
 fields_of [] = None
 fields_of (b ∷ bs) = Some bs
 
--- The text in which these fields follow a space, empty where there are none.
+-- The text of these fields after a space, which is empty if there are none.
 abbrev text_of : Option (List ℕ) → List ℕ
 text_of None = []
 text_of (Some fields) = 32 ∷ fields
@@ -34,7 +34,7 @@ group_with alternatives = record { alternatives = record { items = alternatives 
 
 -- ---- what is said is read
 
--- A version is cut off before the alternatives after it.
+-- A version ends before the alternatives after it.
 cut-before : (spelled rest : List ℕ) (version : Version) (alternatives : List Dependency)
     → IsVersionText spelled version → AreAlternativesText rest alternatives
     → cut 32 (spelled ++ rest) ≡ (spelled, fields_of rest)
@@ -56,7 +56,7 @@ alternative_of-text alternative spelled small says =
       version_of-text spelled alternative.minimum says,
     ) refl
 
--- Alternatives that a text says are read after those before them, where there is room.
+-- The alternatives of a text are read after those before them, if there are at most `room`.
 more_alternatives-text : (room : ℕ) (before : List Dependency) (text : List ℕ) (alternatives : List Dependency)
     → AreAlternativesText text alternatives → length alternatives ≤ room
     → more_alternatives room before (fields_of text) ≡ Some (before ++ alternatives)
@@ -76,7 +76,7 @@ more_alternatives-text (suc room) before text (alternative ∷ alternatives) (sm
     (more_alternatives-text room (before ++ alternative ∷ []) rest alternatives others (omega arith)
     ∙ ap (λ found. Some found) (append_assoc before (alternative ∷ []) alternatives))
 
--- The text of one alternative or more begins with a space.
+-- The text of at least one alternative begins with a space.
 begins_with_space : (text : List ℕ) (alternatives : List Dependency) → AreAlternativesText text alternatives
     → 1 ≤ length alternatives → (fields : List ℕ) × (text ≡ 32 ∷ fields)
 unfolding AreAlternativesText
@@ -84,7 +84,7 @@ begins_with_space text [] is some = absurd (omega arith)
 begins_with_space text (alternative ∷ alternatives) (small, spelled, rest, says, others, is) some =
     ((decimal alternative.image ␣ spelled) ++ rest, is)
 
--- A group that a text says is read of the fields after the first word.
+-- The group of a text is read from the fields after the first word.
 pub group_of-text : (text : List ℕ) (group : Group) → IsNeedsOneText text group
     → (fields : List ℕ) × (text ≡ codes "needs-one" ␣ fields) × (group_of fields ≡ Some group)
 group_of-text text group (few, spelled, says, is) =
@@ -106,7 +106,7 @@ alternative_of-spelled image minimum alternative read =
     (same_Some (record { image = number; minimum = version }) alternative made)
     (found.1, found.0, version_of-spelled minimum version is_version)))
 
--- A text that is cut, or is whole.
+-- A text is its first word, followed by the fields if there are any.
 text_of-cut : (text : List ℕ) → text ≡ (cut 32 text).0 ++ text_of (cut 32 text).1
 text_of-cut text =
     elim (cut 32 text).1 as (λ o. (cut 32 text).1 ≡ o → text ≡ (cut 32 text).0 ++ text_of o) [
@@ -114,7 +114,7 @@ text_of-cut text =
       | Some after ↦ λ found. cut-parts 32 text after found
     ] refl
 
--- Alternatives that were read after others are said by the text.
+-- Alternatives that were read after others are those of the text.
 record AreRead (room : ℕ) (before : List Dependency) (text : List ℕ) (found : List Dependency) : Type 0 where
   more : List Dependency
   is : before ++ more ≡ found
@@ -152,14 +152,14 @@ more_alternatives-spelled (suc room) before (Some fields) found read =
       );
     }))
 
--- A text that begins with a space says one alternative or more.
+-- A text that begins with a space is that of at least one alternative.
 some_alternative : (fields : List ℕ) (alternatives : List Dependency) → AreAlternativesText (32 ∷ fields) alternatives
     → 1 ≤ length alternatives
 unfolding AreAlternativesText
 some_alternative fields [] is = cc
 some_alternative fields (alternative ∷ alternatives) is = omega arith
 
--- A group that is read is said.
+-- The fields are a text of the group that is read from them.
 pub group_of-spelled : (fields : List ℕ) (group : Group) → group_of fields ≡ Some group
     → IsNeedsOneText (codes "needs-one" ␣ fields) group
 group_of-spelled fields group read =
@@ -173,7 +173,7 @@ group_of-spelled fields group read =
 
 -- ---- what alternatives lack, and what fits
 
--- The text of alternatives, and of a group, has no line feed.
+-- The texts of alternatives and of a group have no line feed.
 LacksByte-alternatives : (text : List ℕ) (alternatives : List Dependency) → AreAlternativesText text alternatives
     → LacksByte 10 text
 unfolding AreAlternativesText
@@ -193,7 +193,7 @@ LacksByte-needs_one text group (few, spelled, says, is) =
     rw is (LacksByte-append 10 (codes "needs-one") spelled (search rules)
     (LacksByte-alternatives spelled group.alternatives.items says))
 
--- What is printed of alternatives, and of a group, says them.
+-- The printed texts of alternatives and of a group are texts of them.
 alternatives_text-said : (alternatives : List Dependency) → AllByRecursion FitsDependency alternatives
     → AreAlternativesText (alternatives_text alternatives) alternatives
 unfolding AreAlternativesText alternatives_text
@@ -211,7 +211,7 @@ pub needs_one_text-said : (group : Group) → FitsGroup group → IsNeedsOneText
 needs_one_text-said group (few, fit) =
     (few, alternatives_text group.alternatives.items, alternatives_text-said group.alternatives.items fit, refl)
 
--- What alternatives say fits its fields, and what a group says.
+-- The numbers of alternatives and of a group that have a text fit their fields.
 fit-from_alternatives : (text : List ℕ) (alternatives : List Dependency) → AreAlternativesText text alternatives
     → AllByRecursion FitsDependency alternatives
 unfolding AreAlternativesText
@@ -225,14 +225,14 @@ FitsGroup-from_text text group (few, spelled, says, is) =
 
 -- ---- reading them in a loop
 
--- Nothing is read where no version follows the number ..
+-- No alternative is read if no version follows the number.
 more_alternatives-no_version : (room : ℕ) (before : List Dependency) (fields : List ℕ) → (cut 32 fields).1 ≡ None
     → more_alternatives room before (Some fields) ≡ None
 unfolding more_alternatives
 more_alternatives-no_version zero before fields missing = refl
 more_alternatives-no_version (suc room) before fields missing = rw missing refl
 
--- .. and where the two words say no alternative.
+-- No alternative is read from two words that are none.
 more_alternatives-wrong : (room : ℕ) (before : List Dependency) (fields rest : List ℕ)
     → (cut 32 fields).1 ≡ Some rest → alternative_of (cut 32 fields).0 (cut 32 rest).0 ≡ None
     → more_alternatives room before (Some fields) ≡ None
@@ -240,7 +240,7 @@ unfolding more_alternatives
 more_alternatives-wrong zero before fields rest is_rest wrong = refl
 more_alternatives-wrong (suc room) before fields rest is_rest wrong = rw (is_rest, wrong) refl
 
--- No group is read then.
+-- Then no group is read.
 pub group_from-no_version : (before : List Dependency) (fields : List ℕ) → None ≡ (cut 32 fields).1
     → None ≡ group_from before (Some fields)
 group_from-no_version before fields missing =
@@ -251,14 +251,14 @@ pub group_from-wrong : (before : List Dependency) (fields rest : List ℕ) → S
 group_from-wrong before fields rest is_rest wrong =
     rw (more_alternatives-wrong (MOST_ALTERNATIVES - length before) before fields rest (sym is_rest) (sym wrong)) refl
 
--- No group is read where an alternative would be one too many.
+-- No group is read if an alternative would be one too many.
 pub group_from-full : (before : List Dependency) (fields : List ℕ) → MOST_ALTERNATIVES ≤ length before
     → None ≡ group_from before (Some fields)
 unfolding more_alternatives
 group_from-full before fields full =
     let none : MOST_ALTERNATIVES - length before ≡ 0 = omega arith in rw none refl
 
--- One more alternative.
+-- One more alternative is read.
 pub group_from-step : (before : List Dependency) (fields rest : List ℕ) (alternative : Dependency)
     → length before < MOST_ALTERNATIVES → Some rest ≡ (cut 32 fields).1
     → Some alternative ≡ alternative_of (cut 32 fields).0 (cut 32 rest).0

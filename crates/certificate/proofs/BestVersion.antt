@@ -1,4 +1,4 @@
--- The best version that a request can hope for is at least the one that a valid combination has.
+-- The best version that a request can still get is at least the one in a valid combination.
 use Rattle.std.proofs.Common.{◌≡◌, Bool, true, false, cond, Option, Some, None, refl}
 use Rattle.std.specs.Prelude.{unwrap_or}
 use Rattle.std.specs.Option.{option_map_or}
@@ -8,22 +8,22 @@ use Rattle.version_order.specs.Order.{is_older, IsAtLeast}
 use Rattle.certificate.specs.declared.table.Entry.{Entry}
 use Rattle.version_order.proofs.OrderLaws.{IsAtLeast_refl, IsAtLeast-from_older}
 
--- the version of the requested entry, or else the running one
+-- The version of the requested entry, or else the running version.
 abbrev pub version_of_request : Option Entry → Entry → Version
 version_of_request requested running = option_map_or (λ entry. entry.version) requested running.version
 
--- the newer of the running version and that of the requested entry
+-- The newer of the running version and that of the requested entry.
 abbrev pub newer_version : Option Entry → Entry → Version
 newer_version requested running = option_map_or (λ entry. cond
     (is_older running.version entry.version) entry.version running.version) requested running.version
 
--- the version that is requested is that of the requested entry
+-- The requested version is that of the requested entry.
 version_of_request-at_least : (requested : Option Entry) (running : Entry)
     → IsAtLeast (version_of_request requested running) (unwrap_or requested running).version
 version_of_request-at_least None running = IsAtLeast_refl running.version
 version_of_request-at_least (Some entry) running = IsAtLeast_refl entry.version
 
--- the newer version is at least the running one
+-- The newer version is at least the running one.
 newer_version-at_least_running : (requested : Option Entry) (running : Entry)
     → IsAtLeast (newer_version requested running) running.version
 newer_version-at_least_running None running = IsAtLeast_refl running.version
@@ -32,7 +32,7 @@ newer_version-at_least_running (Some entry) running =
     (λ v. IsAtLeast v running.version) (λ older. IsAtLeast-from_older entry.version running.version older)
     (λ _. IsAtLeast_refl running.version)
 
--- the newer version is at least the requested one
+-- The newer version is at least the requested one.
 newer_version-at_least_requested : (requested : Option Entry) (running : Entry)
     → IsAtLeast (newer_version requested running) (unwrap_or requested running).version
 newer_version-at_least_requested None running = IsAtLeast_refl running.version
@@ -40,7 +40,7 @@ newer_version-at_least_requested (Some entry) running =
     cond_both (is_older running.version entry.version) entry.version running.version
     (λ v. IsAtLeast v entry.version) (λ _. IsAtLeast_refl entry.version) (λ older. not_from_false _ older)
 
--- whatever is a member, as long as the request's own image is and no other member is refused
+-- This holds whatever is a member, if the request's own image is and no member is refused.
 pub best-at_least : (requested : Option Entry) (running : Entry) (is_own is_refused is_member : Bool)
     → (is_own ≡ true → is_member ≡ true) → (is_member ≡ true → is_refused ≡ false)
     → IsAtLeast (cond is_own (version_of_request requested running)

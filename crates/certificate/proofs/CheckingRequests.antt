@@ -1,4 +1,4 @@
--- The requests of all images are decided once where those of the first images are, and no other is
+-- The requests of all images are decided once if those of the first images are and no other is
 -- refused.
 use Rattle.std.proofs.Common.{◌≡◌, ℕ, ◌<◌, ◌≤◌, false, length, count_by, get_or, inl, inr, refl, ap, arith, eq-eqb}
 use Rattle.std.specs.Prelude.{◌==◌, All}
@@ -14,19 +14,19 @@ use Rattle.common.proofs.Lists.{Passes-from_count_by}
 
 module _ (table : Table) (report : Report) (count : ℕ) (in_table : length table.images.items ≤ count)
     (in_report : length report.images.items ≤ count) where
-  -- nothing is taken past the last image
+  -- No request is taken beyond the last image.
   taken_in-past : (j : ℕ) → count ≤ j → taken_in report j ≡ false
   taken_in-past j past =
       ap (λ found. option_map_or (λ image. image.is_taken) found false)
       (slice_get_past report.images.items j (omega arith))
 
-  -- nothing is requested past the last image
+  -- There is no request beyond the last image.
   has_request-past : (j : ℕ) → count ≤ j → has_request table j ≡ false
   has_request-past j past =
       ap (λ found. option_map_or (λ image. is_requested image.request) found false)
       (slice_get_past table.images.items j (omega arith))
 
-  -- with no refusal past the last image, nothing there is to be decided
+  -- If no request is refused beyond the last image, there is nothing to decide there.
   decided_past : All (λ refusal. refusal.image < count) report.refusals.items → (j : ℕ) → count ≤ j
       → IsDecidedOnce table report j
   decided_past below j past =
@@ -42,7 +42,7 @@ module _ (table : Table) (report : Report) (count : ℕ) (in_table : length tabl
         | inr none ↦ omega (arith, ap once_if (taken_in-past j past), ap once_if (has_request-past j past))
       ]
 
-  -- where each request is decided once, no refusal names an image past the last one
+  -- If each request is decided once, no refusal names an image beyond the last one.
   pub refusals_below : ((j : ℕ) → IsDecidedOnce table report j)
       → All (λ refusal. refusal.image < count) report.refusals.items
   refusals_below decided k d within =
@@ -62,7 +62,8 @@ module _ (table : Table) (report : Report) (count : ℕ) (in_table : length tabl
             ))
       ]
 
-  -- what holds of the first images, with no refusal past them, holds of all
+  -- If the requests of the first images are decided once and no other is refused, all are decided
+  -- once.
   pub all_decided : All (λ refusal. refusal.image < count) report.refusals.items
       → ((j : ℕ) → j < count → IsDecidedOnce table report j) → (j : ℕ) → IsDecidedOnce table report j
   all_decided below decided j = elim (cases_lt j count) [

@@ -1,4 +1,4 @@
--- What a comparison of the code says, in the words of the definitions.
+-- The comparisons of the code in the terms of the definitions.
 use Rattle.std.proofs.Common.{◌≡◌, refl}
 use Rattle.std.specs.Prelude.{not}
 use Rattle.std.specs.declared.cmp.Ordering.{Ordering}

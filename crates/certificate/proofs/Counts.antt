@@ -1,4 +1,4 @@
--- How often a list refuses a request: at most once, if there is one.
+-- A list refuses a request at most once, if there is one.
 use Rattle.std.proofs.Common.{◌≡◌, ℕ, ◌+◌, ◌<◌, ◌≤◌, Bool, true, false, eqb, List, [], ◌∷◌, ◌++◌, length, map, inl, inr, refl, sym, ap, ◌∙◌, arith}
 use Rattle.std.specs.Prelude.{◌==◌}
 use Rattle.std.specs.List.{list_any, IsDistinct, AllByRecursion}
@@ -15,25 +15,25 @@ use Rattle.certificate.specs.Rightness.{has_request, once_if}
 use Rattle.common.proofs.Options.{option_map_or-true}
 use Rattle.common.proofs.Lists.{count_by-none, count_by-some}
 
--- each request is refused at most once, and nothing else is
+-- Each request is refused at most once, and nothing else is.
 pub record IsOnce (table : Table) (refusals : List Refusal) : Type 0 where
   pub once : (j : ℕ) → times_refused refusals j ≤ once_if (has_request table j)
 
--- once for a test is once or never
+-- `once_if` is 0 or 1.
 pub once_if-le : (test : Bool) → once_if test ≤ 1
 once_if-le true = omega arith
 once_if-le false = omega arith
 
--- a test that is counted holds
+-- If `once_if` of a test isn't 0, the test holds.
 pub once_if-some : (test : Bool) → 0 < once_if test → test ≡ true
 once_if-some true some = refl
 once_if-some false some = absurd (omega arith)
 
--- the numbers of the refused requests
+-- The numbers of the images whose requests are refused.
 abbrev images_of : List Refusal → List ℕ
 images_of refusals = map (λ refusal. refusal.image) refusals
 
--- a number that no entry refuses isn't among theirs
+-- An image that no refusal names isn't among these numbers.
 apart_from_unrefused : (refusals : List Refusal) (j : ℕ) → is_refused refusals j ≡ false
     → AllByRecursion (λ i. eqb j i ≡ false) (images_of refusals)
 apart_from_unrefused [] j unrefused = tt
@@ -41,7 +41,7 @@ apart_from_unrefused (refusal ∷ refusals) j unrefused =
     let parts = or_parts (refusal.image == j) (is_refused refusals j) unrefused in
     (ne_eqb j refusal.image (λ same. eqb-false _ _ parts.0 (sym same)), apart_from_unrefused refusals j parts.1)
 
--- numbers that are refused once at most are distinct
+-- If each request is refused at most once, these numbers are distinct.
 distinct_images : (refusals : List Refusal) → ((j : ℕ) → times_refused refusals j ≤ 1)
     → IsDistinct eqb (images_of refusals)
 unfolding IsDistinct
@@ -68,7 +68,7 @@ distinct_images (refusal ∷ refusals) once =
           (λ j. omega (arith, once j, added j)),
     )
 
--- a number among those of the refused requests is refused
+-- An image among these numbers is refused.
 is_refused-images_of : (refusals : List Refusal) (j : ℕ) → list_any (eqb j) (images_of refusals) ≡ true
     → is_refused refusals j ≡ true
 is_refused-images_of [] j among = among
@@ -81,13 +81,13 @@ is_refused-images_of (refusal ∷ refusals) j among =
           or_right _ (is_refused refusals j) (is_refused-images_of refusals j (rw apart at among))
     ]
 
--- a request stands at an image of the table
+-- A request is that of an image of the table.
 pub below-has_request : (table : Table) (j : ℕ) → has_request table j ≡ true → j < length table.images.items
 below-has_request table j asked =
     let (image, has_image, _) = option_map_or-true _ (image_at table j) asked in
     slice_get_within table.images.items j image has_image
 
--- there are no more refusals than images
+-- There are at most as many refusals as images.
 pub length-once : (table : Table) (refusals : List Refusal) → IsOnce table refusals
     → length refusals ≤ length table.images.items
 length-once table refusals is =
@@ -105,7 +105,7 @@ length-once table refusals is =
           (images_of refusals) _ distinct below,
     )
 
--- a request that isn't refused yet can be refused
+-- A request that isn't refused yet can be refused.
 pub IsOnce-push : (table : Table) (refusals : List Refusal) (refusal : Refusal) → IsOnce table refusals
     → is_refused refusals refusal.image ≡ false → has_request table refusal.image ≡ true
     → IsOnce table (refusals ++ refusal ∷ [])

@@ -1,5 +1,5 @@
--- The combination of a right report contains every valid one: no request that a valid combination
--- takes is refused.
+-- The combination of a right report contains every valid one, because no request that a valid
+-- combination takes is refused.
 use Rattle.std.proofs.Common.{◌≡◌, ℕ, zero, suc, ◌<◌, Bool, true, false, not, List, take, Some, None, count_by, inl, inr, sym, ap, ◌∙◌, eqb, arith}
 use Rattle.std.specs.Prelude.{◌==◌, ⊤, IsTrue, Contains, slice_get}
 use Rattle.std.specs.List.{list_all, list_any}
@@ -27,14 +27,15 @@ use Rattle.certificate.proofs.BestVersion.{best-at_least}
 use Rattle.certificate.proofs.Members.{IsMember, IsMember-from_valid}
 use Rattle.certificate.proofs.Requests.{has_request-intact}
 
--- a test that all of a list pass, at what the list contains
+-- If all elements of a list pass a test, so does one that the list contains.
 passes_where_contained : {X : Type 0} (p : X → Bool) (xs : List X) (x : X) → list_all p xs ≡ true → Contains xs x
     → p x ≡ true
 passes_where_contained p xs x all (k, within, is) =
     MatchOption-at_some ⊤ _ x (slice_get-get_or xs k x within ∙ ap Some is) (IfSome-from_list_all p xs k all)
 
 module _ (table : Table) (other : ℕ → Bool) (valid : IsValid table other) where
-  -- what a valid combination meets is in reach of a member, where no member is refused
+  -- If no member of a valid combination is refused, an alternative that the combination meets is in
+  -- reach of a member.
   in_reach : (before : List Refusal) (unrefused : (j : ℕ) → other j ≡ true → is_refused before j ≡ false)
       (i : ℕ) (member : other i ≡ true) (dependency : Dependency) → is_met table other dependency ≡ true
       → is_in_reach table before i dependency ≡ true
@@ -48,7 +49,7 @@ module _ (table : Table) (other : ℕ → Bool) (valid : IsValid table other) wh
       ∙ IsAtLeast_trans (best_version before i j image) (entry_in image (other j)).version dependency.minimum
       best reaches
 
-  -- and so isn't out of reach
+  -- Then a dependency that the combination meets isn't out of reach.
   within_reach : (before : List Refusal) (unrefused : (j : ℕ) → other j ≡ true → is_refused before j ≡ false)
       (i : ℕ) (member : other i ≡ true) (dependency : Dependency) → is_met table other dependency ≡ true
       → is_out_of_reach table before i dependency ≡ true → ⊥
@@ -58,7 +59,7 @@ module _ (table : Table) (other : ℕ → Bool) (valid : IsValid table other) wh
       both_ways _ (not-true _ reaches)
       (option_map_or-at _ (image_at table dependency.image) image has_image out_of_reach)
 
-  -- of a group that is met an alternative is in reach, where no member is refused
+  -- Then a group that the combination meets has an alternative in reach.
   group_within_reach : (before : List Refusal) (unrefused : (j : ℕ) → other j ≡ true → is_refused before j ≡ false)
       (i : ℕ) (member : other i ≡ true) (group : Group) → is_group_met table other group ≡ true
       → is_group_out_of_reach table before i group ≡ true → ⊥
@@ -69,14 +70,14 @@ module _ (table : Table) (other : ℕ → Bool) (valid : IsValid table other) wh
       ∙ any_passes_from_place (is_in_reach table before i) alternatives alternative.place alternative.element
       alternative.at (in_reach before unrefused i member alternative.element alternative.passes))
 
-  -- what a reason says of a member
+  -- A property of the request of a member.
   requested_at : (i : ℕ) (image : Image) (entry : Entry) → IsMember table other i image entry
       → (P : Image → Entry → Type 0) → RequestMeets table i P → P image entry
   requested_at i image entry is P meets =
       IsSomeAnd-at (intact_entry image.request) (P image) entry is.has_entry
       (IsSomeAnd-at (image_at table i) _ image is.has_image meets)
 
-  -- no reason holds of a member, where no member is refused before
+  -- If no member is refused before, no reason to refuse a member holds.
   no_reason : (before : List Refusal) (unrefused : (j : ℕ) → other j ≡ true → is_refused before j ≡ false) (i : ℕ)
       (member : other i ≡ true) (image : Image) (entry : Entry) → IsMember table other i image entry
       → (reason : Reason) → ReasonHolds table before i reason → ⊥
@@ -116,7 +117,7 @@ module _ (table : Table) (other : ℕ → Bool) (valid : IsValid table other) wh
       group_within_reach before unrefused i member group
       (passes_where_contained _ entry.groups.items group is.groups_met contained) out_of_reach
 
-  -- no member is refused at a place, where none is refused before
+  -- If no member is refused before a place, none is refused at that place.
   no_member_at : (refusals : List Refusal) → IsFounded table refusals
       → (k : ℕ) (earlier : (i : ℕ) (refusal : Refusal) → i < k → slice_get refusals i ≡ Some refusal
       → other refusal.image ≡ true → ⊥) (refusal : Refusal) → slice_get refusals k ≡ Some refusal
@@ -133,7 +134,7 @@ module _ (table : Table) (other : ℕ → Bool) (valid : IsValid table other) wh
       no_reason (take k refusals) unrefused refusal.image member image entry is refusal.reason
       (MatchOption-at_some ⊤ _ refusal at (founded k))
 
-  -- no member is refused at the first n places
+  -- No member is refused at the first n places.
   no_member_below : (refusals : List Refusal) → IsFounded table refusals → (n k : ℕ) (refusal : Refusal) → k < n
       → slice_get refusals k ≡ Some refusal → other refusal.image ≡ true → ⊥
   no_member_below refusals founded zero k refusal below at member = absurd (omega arith)
@@ -141,13 +142,13 @@ module _ (table : Table) (other : ℕ → Bool) (valid : IsValid table other) wh
       no_member_at refusals founded k
       (λ i earlier less. no_member_below refusals founded n i earlier (omega arith)) refusal at member
 
-  -- each member has a request
+  -- Each member has a request.
   has_request-member : (j : ℕ) → other j ≡ true → has_request table j ≡ true
   has_request-member j member =
       let (image, entry, is) = IsMember-from_valid table other valid j member in
       has_request-intact table j image entry is.has_image is.has_entry
 
-  -- each member is taken
+  -- Each member is taken.
   taken_in-member : (report : Report) → IsRight table report → (j : ℕ) → other j ≡ true → taken_in report j ≡ true
   taken_in-member report right j member =
       elim (cases_Bool (taken_in report j)) [
@@ -164,7 +165,7 @@ module _ (table : Table) (other : ℕ → Bool) (valid : IsValid table other) wh
             (ap other (eqb-true _ j refused.passes) ∙ member))
       ]
 
--- the combination of a right report is the greatest
+-- The combination of a right report is the greatest.
 pub right_is_greatest : (table : Table) (report : Report) → IsRight table report → IsGreatest table (taken_in report)
 right_is_greatest table report right =
     record { valid = right.valid; contains = λ other valid. taken_in-member table other valid report right }

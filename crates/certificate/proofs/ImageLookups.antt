@@ -1,4 +1,4 @@
--- A lookup in a list, such as that of a table's images, finds what the list has at that number.
+-- A lookup in a list, such as that of a table's images, finds the element of that number.
 use Rattle.std.proofs.Common.{◌≡◌, ℕ, false, true, nat_lt, List, length, get_or, None, Some, refl, rules, slice_get, tests}
 use Rattle.std.proofs.lemmas.Option.{slice_get_past, slice_get_read}
 use Rattle.certificate.specs.declared.table.Image.{Image}
@@ -11,7 +11,7 @@ pub looked_up : {X : Type 0} (all items : List X) (number place : ℕ) (x : X)
 looked_up all items number place x same here within is =
     rw (← same, ← here) (slice_get_read items (length items) place x refl (search (rules, tests)) is)
 
--- .. and nothing where the list ends before
+-- A lookup finds nothing if the list ends before that number.
 pub looked_past : {X : Type 0} (all items : List X) (number place : ℕ)
     → items ≡ all → place ≡ number → false ≡ nat_lt place (length items) → slice_get all number ≡ None
 looked_past all items number place same here past =

@@ -1,4 +1,4 @@
--- Reading a line finds what its text says, and nothing else.
+-- Reading a line finds exactly the meaning of its text.
 use Rattle.std.proofs.Common.{◌≡◌, ℕ, ◌^◌, ◌<◌, List, ◌∷◌, ◌++◌, Some, refl, ap, ◌∙◌, subst, inl, inr, arith, rules}
 use Rattle.std.specs.Prelude.{codes, decimal, bytes_eq, option_map}
 use Rattle.std.proofs.lemmas.Bool.{cases_Bool}
@@ -25,7 +25,7 @@ use Rattle.certificate.specs.ReportText.{FitsReason, FitsReportLine, reason_text
 use Rattle.certificate.specs.LineReading.{group_of, image_and_version_of, image_line_of, needs_line_of, request_line_of, table_line_at, table_line_of, run_line_of, take_line_of, reason_at, reason_of, refuse_line_of, report_line_at, report_line_of}
 use Rattle.certificate.proofs.AlternativeLaws.{FitsGroup-from_text, LacksByte-needs_one, group_of-spelled, group_of-text, needs_one_text-said}
 
--- A word is cut off at the space after it.
+-- A word ends at the space after it.
 cut-number : (n : ℕ) (after : List ℕ) → n < 2 ^ 32 → cut 32 (decimal n ++ 32 ∷ after) ≡ (decimal n, Some after)
 cut-number n after fits = cut-found 32 (decimal n) after (LacksByte-decimal 32 n (omega arith) (omega arith))
 
@@ -79,7 +79,7 @@ request_line_of-text counter version spelled fits says =
       number_of-decimal counter fits,
     ) refl
 
--- The first word tells which fields follow.
+-- The first word says which fields follow.
 table_line_of-image : (fields : List ℕ) → table_line_of (codes "image" ␣ fields) ≡ image_line_of fields
 unfolding table_line_of cut
 table_line_of-image fields = refl
@@ -101,7 +101,7 @@ table_line_of-damaged : table_line_of (codes "damaged") ≡ Some table_line.Dama
 unfolding table_line_of
 table_line_of-damaged = refl
 
--- A text that says a line is read as that line.
+-- A text of a line is read as that line.
 pub table_line_of-text : (text : List ℕ) (said : TableLine) → IsTableLineText text said → table_line_of text ≡ Some said
 table_line_of-text text (table_line.Image number version counter floor)
     (small, counter_fits, floor_fits, spelled, says, is) =
@@ -118,11 +118,11 @@ table_line_of-text text (table_line.Request version counter) (fits, spelled, say
     ∙ request_line_of-text counter version spelled fits says
 table_line_of-text text table_line.Damaged is = ap table_line_of is ∙ table_line_of-damaged
 
--- The two parts of a text that is cut, where the first is known.
+-- The two parts of a text, if the first is known.
 cut-spelled : (text word rest : List ℕ) → (cut 32 text).0 ≡ word → (cut 32 text).1 ≡ Some rest → text ≡ word ␣ rest
 cut-spelled text word rest is_word is_rest = cut-parts 32 text rest is_rest ∙ ap (λ first. first ␣ rest) is_word
 
--- The fields that are read are spelled so.
+-- The fields are a text of the line that is read from them.
 image_line_of-spelled : (fields : List ℕ) (said : TableLine) → image_line_of fields ≡ Some said
     → IsTableLineText (codes "image" ␣ fields) said
 unfolding image_line_of
@@ -154,7 +154,7 @@ image_line_of-spelled fields said read =
           (λ t. codes "image" ␣ t) whole,
     ))))))))
 
--- A text says the number of an image and a version.
+-- A text of an image's number and a version.
 abbrev IsImageAndVersion : List ℕ → ℕ → Version → Type 0
 IsImageAndVersion text image version = (image < 2 ^ 8) × (spelled : List ℕ) × IsVersionText spelled version
     × (text ≡ decimal image ␣ spelled)
@@ -221,7 +221,7 @@ table_line_at-spelled word fields said read =
     on_word word (codes "request") Says (λ is. request_line_of-spelled fields said (rw is at read)) (λ not_request.
     absurd (none-some said (rw not_request at read))))))
 
--- A text that is read as a line says that line.
+-- A text that is read as a line is a text of that line.
 pub table_line_of-spelled : (text : List ℕ) (said : TableLine) → table_line_of text ≡ Some said
     → IsTableLineText text said
 unfolding table_line_of
@@ -237,7 +237,7 @@ table_line_of-spelled text said read =
 
 -- ---- bytes that a line lacks
 
--- Words that lack the line feed, with a space between them.
+-- If two words have no line feed, both with a space between them have none.
 LacksByte-words : (first others : List ℕ) → LacksByte 10 first → LacksByte 10 others → LacksByte 10 (first ␣ others)
 LacksByte-words first others front back = LacksByte-append 10 first (32 ∷ others) front (λ e. omega arith, back)
 
@@ -272,7 +272,7 @@ LacksByte-table_line text table_line.Damaged is = rw is (search rules)
 
 -- ---- what is printed
 
--- What is printed of a line says that line.
+-- The printed text of a line is a text of it.
 pub table_line_text-said : (said : TableLine) → FitsTableLine said → IsTableLineText (table_line_text said) said
 table_line_text-said (table_line.Image number version counter floor) (small, fits, counter_fits, floor_fits) =
     (small, counter_fits, floor_fits, version_text version, (fits, inl refl), refl)
@@ -283,7 +283,7 @@ table_line_text-said (table_line.Request version counter) (fits, counter_fits) =
     (counter_fits, version_text version, (fits, inl refl), refl)
 table_line_text-said table_line.Damaged fits = refl
 
--- What a line says fits its fields.
+-- The numbers of a line that has a text fit their fields.
 pub FitsTableLine-from_text : (text : List ℕ) (said : TableLine) → IsTableLineText text said → FitsTableLine said
 FitsTableLine-from_text text (table_line.Image number version counter floor)
     (small, counter_fits, floor_fits, spelled, says, is) = (small, says.0, counter_fits, floor_fits)
@@ -349,7 +349,7 @@ refuse_line_of-text refusal reason small says =
       reason_of-text reason refusal.reason says,
     ) refl
 
--- The first word tells which fields follow.
+-- The first word says which fields follow.
 report_line_of-run : (fields : List ℕ) → report_line_of (codes "run" ␣ fields) ≡ run_line_of fields
 unfolding report_line_of cut
 report_line_of-run fields = refl
@@ -362,7 +362,7 @@ report_line_of-refuse : (fields : List ℕ) → report_line_of (codes "refuse" �
 unfolding report_line_of cut
 report_line_of-refuse fields = refl
 
--- A text that says a line is read as that line.
+-- A text of a line is read as that line.
 pub report_line_of-text : (text : List ℕ) (said : ReportLine) → IsReportLineText text said
     → report_line_of text ≡ Some said
 report_line_of-text text (report_line.Run number version) (small, spelled, says, is) =
@@ -375,7 +375,7 @@ report_line_of-text text (report_line.Refuse refusal) (small, reason, says, is) 
     ap report_line_of is ∙ report_line_of-refuse (decimal refusal.image ␣ reason)
     ∙ refuse_line_of-text refusal reason small says
 
--- The fields that are read are spelled so.
+-- The fields are a text of the line or the reason that is read from them.
 run_line_of-spelled : (fields : List ℕ) (said : ReportLine) → run_line_of fields ≡ Some said
     → IsReportLineText (codes "run" ␣ fields) said
 unfolding run_line_of
@@ -485,7 +485,7 @@ report_line_at-spelled word fields said read =
     on_word word (codes "refuse") Says (λ is. refuse_line_of-spelled fields said (rw is at read)) (λ not_refuse.
     absurd (none-some said (rw not_refuse at read)))))
 
--- A text that is read as a line says that line.
+-- A text that is read as a line is a text of that line.
 pub report_line_of-spelled : (text : List ℕ) (said : ReportLine) → report_line_of text ≡ Some said
     → IsReportLineText text said
 unfolding report_line_of
@@ -493,7 +493,7 @@ report_line_of-spelled text said read =
     option_and_then_some _ (cut 32 text).1 said read (λ fields is_fields read_on.
     rw (cut-parts 32 text fields is_fields) (report_line_at-spelled (cut 32 text).0 fields said read_on))
 
--- The text of a reason, and of a line, has no line feed.
+-- The texts of a reason and of a line have no line feed.
 LacksByte-reason : (text : List ℕ) (reason : Reason) → IsReasonText text reason → LacksByte 10 text
 LacksByte-reason text Damaged is = rw is (search rules)
 LacksByte-reason text Older is = rw is (search rules)
@@ -518,7 +518,7 @@ LacksByte-report_line text (report_line.Refuse refusal) (small, reason, says, is
     (LacksByte-words (decimal refusal.image) reason (LacksByte-number refusal.image (omega arith))
     (LacksByte-reason reason refusal.reason says)))
 
--- What is printed of a reason, and of a line, says it.
+-- The printed texts of a reason and of a line are texts of them.
 reason_text-said : (reason : Reason) → FitsReason reason → IsReasonText (reason_text reason) reason
 reason_text-said Damaged fits = refl
 reason_text-said Older fits = refl
@@ -535,7 +535,7 @@ report_line_text-said (report_line.Take number version) (small, fits) =
 report_line_text-said (report_line.Refuse refusal) (small, fits) =
     (small, reason_text refusal.reason, reason_text-said refusal.reason fits, refl)
 
--- What a reason says fits its fields, and what a line says.
+-- The numbers of a reason and of a line that have a text fit their fields.
 FitsReason-from_text : (text : List ℕ) (reason : Reason) → IsReasonText text reason → FitsReason reason
 FitsReason-from_text text Damaged is = tt
 FitsReason-from_text text Older is = tt

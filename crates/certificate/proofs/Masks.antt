@@ -6,12 +6,12 @@ use Rattle.std.proofs.lemmas.Bool.{cases_lt}
 use Rattle.std.proofs.lemmas.Nat.Bits.{bit_at_set_same, bit_at_set_other}
 use Rattle.certificate.specs.Rightness.{once_if}
 
--- the bits below n are the answers of a test, and there are none from n on
+-- The bits below n are the results of a test, and those from n on are 0.
 pub record AreBitsBelow (test : ℕ → Bool) (n mask : ℕ) : Type 0 where
   pub below : (i : ℕ) → i < n → bit_at mask i ≡ once_if (test i)
   pub above : (i : ℕ) → n ≤ i → bit_at mask i ≡ 0
 
--- one more bit that is set
+-- One more bit is set.
 pub AreBitsBelow-set : (test : ℕ → Bool) (n mask : ℕ) → n < 8 → test n ≡ true → AreBitsBelow test n mask
     → AreBitsBelow test (n + 1) (bit_or mask (1 * 2 ^ n % 2 ^ 8))
 AreBitsBelow-set test n mask within passes built = record {
@@ -25,7 +25,7 @@ AreBitsBelow-set test n mask within passes built = record {
   above = λ i from. bit_at_set_other w8 mask n within i (λ same. absurd (omega arith)) ∙ built.above i (omega arith);
 }
 
--- one more bit that isn't set
+-- One more bit isn't set.
 pub AreBitsBelow-skip : (test : ℕ → Bool) (n mask : ℕ) → test n ≡ false → AreBitsBelow test n mask
     → AreBitsBelow test (n + 1) mask
 AreBitsBelow-skip test n mask fails built = record {
@@ -38,7 +38,7 @@ AreBitsBelow-skip test n mask fails built = record {
   above = λ i from. built.above i (omega arith);
 }
 
--- where no later number passes, all bits are built
+-- If no later number passes, all bits are built.
 pub bits-all : (test : ℕ → Bool) (n mask : ℕ) → ((i : ℕ) → n ≤ i → test i ≡ false) → AreBitsBelow test n mask
     → (i : ℕ) → bit_at mask i ≡ once_if (test i)
 bits-all test n mask later built i =

@@ -11,7 +11,7 @@ use Rattle.certificate.specs.declared.table.Table.{Table}
 use Rattle.certificate.specs.Combination.{image_at, intact_entry, entry_in, is_group_met, is_met, meets_all, IsValid}
 use Rattle.common.proofs.Options.{opened}
 
--- image j with its requested entry, as a member of a valid combination has them
+-- Image j and its requested entry, as a member of a valid combination has them.
 pub record IsMember (table : Table) (taken : ℕ → Bool) (j : ℕ) (image : Image) (entry : Entry) : Type 0 where
   pub has_image : image_at table j ≡ Some image
   pub has_entry : intact_entry image.request ≡ Some entry
@@ -20,13 +20,13 @@ pub record IsMember (table : Table) (taken : ℕ → Bool) (j : ℕ) (image : Im
   pub met : list_all (is_met table taken) entry.dependencies.items ≡ true
   pub groups_met : list_all (is_group_met table taken) entry.groups.items ≡ true
 
--- what a member contributes is its requested entry
+-- A member contributes its requested entry.
 pub entry_in-member : (image : Image) (entry : Entry) (is_member : Bool) → is_member ≡ true
     → intact_entry image.request ≡ Some entry → entry_in image is_member ≡ entry
 entry_in-member image entry is_member member has_entry =
     cond-true is_member _ _ member ∙ ap (λ requested. unwrap_or requested image.running) has_entry
 
--- each member of a valid combination has an image and a requested entry
+-- Each member of a valid combination has an image and a requested entry.
 pub IsMember-from_valid : (table : Table) (taken : ℕ → Bool) → IsValid table taken → (j : ℕ) → taken j ≡ true
     → (image : Image) × (entry : Entry) × IsMember table taken j image entry
 IsMember-from_valid table taken valid j member =

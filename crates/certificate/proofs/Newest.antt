@@ -1,4 +1,4 @@
--- Image by image, no valid combination has a newer version than the greatest.
+-- No valid combination has a newer version of any image than the greatest one.
 use Rattle.std.proofs.Common.{◌≡◌, ℕ, Bool, Some, inl, inr, sym, subst, ◌∙◌}
 use Rattle.std.proofs.lemmas.Bool.{cases_Bool}
 use Rattle.std.proofs.lemmas.Option.{same_Some}
@@ -12,7 +12,7 @@ use Rattle.common.proofs.Options.{IfSome-from}
 use Rattle.certificate.proofs.Members.{IsMember-from_valid, entry_in-member}
 
 module _ (table : Table) (j : ℕ) (image : Image) (has_image : image_at table j ≡ Some image) where
-  -- what a valid combination has isn't older than what runs
+  -- No version of a valid combination is older than the running one.
   at_least_running : (taken : ℕ → Bool) → IsValid table taken
       → IsAtLeast (entry_in image (taken j)).version image.running.version
   at_least_running taken valid =
@@ -27,7 +27,7 @@ module _ (table : Table) (j : ℕ) (image : Image) (has_image : image_at table j
             (IsAtLeast_refl image.running.version)
       ]
 
-  -- what the greatest combination has isn't older than what a valid one has
+  -- No version of the greatest combination is older than that of a valid one.
   at_least_other : (greatest other : ℕ → Bool) → IsGreatest table greatest → IsValid table other
       → IsAtLeast (entry_in image (greatest j)).version (entry_in image (other j)).version
   at_least_other greatest other is valid =
@@ -40,8 +40,8 @@ module _ (table : Table) (j : ℕ) (image : Image) (has_image : image_at table j
             (sym not) (at_least_running greatest is.valid)
       ]
 
--- the version of each image in the greatest combination is at least the one in any valid
--- combination
+-- The version of each image in the greatest combination is at least the one in any valid
+-- combination.
 pub greatest_is_newest : (table : Table) (greatest other : ℕ → Bool) → IsGreatest table greatest
     → IsValid table other → (j : ℕ) → IsAtLeastIn table greatest other j
 greatest_is_newest table greatest other is valid j =

@@ -1,4 +1,4 @@
--- Printed lines, one loop's step at a time.
+-- Printed lines, one step of a loop at a time.
 use Rattle.std.proofs.Common.{◌≡◌, ℕ, ◌+◌, ◌<◌, List, [], ◌∷◌, ◌++◌, length, get_or, map, take, sym, ap, ◌∙◌, append-nil, arith}
 use Rattle.std.proofs.lemmas.List.{take_more, length-take-le, flat_map_more, map-append}
 use Rattle.std.proofs.lemmas.List.Concat.{flat_map-append}
@@ -43,7 +43,7 @@ printed_reported_more xs i d said below is =
     flat_map_more (λ line. report_line_text line ++ 10 ∷ []) [] (reported_lines 0 (take i xs)) said
     ∙ ap (printed_lines report_line_text) (sym lines)
 
--- An image is printed as its first line, what it needs, and what is requested.
+-- An image is printed as its first line, its dependencies and groups, and its request.
 pub printed_image : (n : ℕ) (image : Image)
     → (table_line_text (line.Image n image.running.version image.running.counter image.floor) ++ 10 ∷ [])
     ++ (printed_lines table_line_text (needs_lines image.running)
@@ -55,7 +55,7 @@ printed_image n image =
     sym (ap (λ (more : List ℕ). text first ++ more)
     (flat_map-append text (needs_lines image.running) (request_lines image.request)))
 
--- One more thing is printed, on a line of its own, after the others.
+-- One more element is printed on a line of its own after the others.
 pub printed_at : {A B : Type 0} (text_of : B → List ℕ) (line_of : A → B) (xs : List A) (i : ℕ) (d : A)
     → i < length xs
     → printed_lines text_of (map line_of (take i xs)) ++ (text_of (line_of (get_or xs i d)) ++ 10 ∷ [])
@@ -65,7 +65,7 @@ printed_at text_of line_of xs i d below =
     flat_map_more (λ thing. text_of thing ++ 10 ∷ []) [] (map line_of (take i xs)) (line_of x)
     ∙ sym (ap (printed_lines text_of) (ap (map line_of) (take_more xs i d below) ∙ map-append line_of (take i xs) (x ∷ [])))
 
--- The same of a thing that is the one at its place.
+-- The same of an element that is the one at its place.
 pub printed_more : {A B : Type 0} (text_of : B → List ℕ) (line_of : A → B) (xs : List A) (i : ℕ) (x : A)
     → i < length xs → x ≡ get_or xs i x
     → printed_lines text_of (map line_of (take i xs)) ++ (text_of (line_of x) ++ 10 ∷ [])

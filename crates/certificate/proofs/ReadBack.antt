@@ -1,4 +1,4 @@
--- What is printed is the text of what was printed.
+-- The printed text of a table or a report is a text of it.
 use Rattle.common.proofs.Printed.{lines_of-printed}
 use Rattle.certificate.specs.declared.table.Table.{Table}
 use Rattle.certificate.specs.declared.report.Report.{Report}

@@ -1,4 +1,4 @@
--- Reading a report line by line gives what the lines say, and all of it.
+-- Reading a report line by line gives exactly the meaning of the lines.
 use Rattle.std.proofs.Common.{◌≡◌, ℕ, suc, ◌+◌, ◌<◌, ◌≤◌, Bool, true, false, eqb, ltb, ◌&&◌, List, [], ◌∷◌, ◌++◌, length, map, Option, Some, refl, sym, ap, ◌∙◌, append_assoc, length-append, arith, add-zero, zero-add, ◌⊎◌, inl, inr}
 use Rattle.std.proofs.lemmas.List.{append-nil, map-append, nil_from_length}
 use Rattle.std.proofs.lemmas.Bool.{and_parts, eqb-true, ltb-true, lt-ltb, eq-eqb}
@@ -31,7 +31,7 @@ reported_lines-append n (x ∷ xs) ys =
     ap (λ (ls : List ReportLine). reported_line n x ∷ ls)
     (reported_lines-append (n + 1) xs ys ∙ ap (λ (k : ℕ). reported_lines (n + 1) xs ++ reported_lines k ys) e)
 
--- What let one more image in.
+-- The conditions under which one more image is added.
 with_reported_image-some : (report next : Report) (number : ℕ) (image : ReportedImage)
     → with_reported_image report number image ≡ Some next
     → (report.refusals.items ≡ []) × (number ≡ length report.images.items)
@@ -67,7 +67,7 @@ report_lines-image report next number image e =
     ∙ ap (λ (ls : List ReportLine). ls ++ reported_line (length report.images.items) image ∷ [])
     (sym (append-nil (reported_lines 0 report.images.items))))
 
--- One more line that was placed is one more line of what the report spells.
+-- One more line that is added is one more line of the report.
 pub report_lines-grow : (report next : Report) (said : ReportLine) → with_report_line report said ≡ Some next
     → report_lines next ≡ report_lines report ++ said ∷ []
 unfolding with_report_line
@@ -84,7 +84,7 @@ report_lines-grow report next (line.Refuse refusal) e =
 
 -- ---- the limits of a report
 
--- At most eight images and eight refusals.
+-- There are at most eight images and eight refusals.
 pub record IsShort (report : Report) : Type 0 where
   pub images : length report.images.items ≤ MOST_IMAGES
   pub refusals : length report.refusals.items ≤ MOST_REFUSALS
@@ -186,14 +186,14 @@ run-refusals images front (refusal ∷ refusals) some room =
     (others ∙ ap (λ (rs : List Refusal). Some (of_lists images rs))
     (append_assoc front (refusal ∷ []) refusals))
 
--- Placing the lines of a report one after another gives the report.
+-- Adding the lines of a report one after another gives the report.
 pub run-report_lines : (report : Report) → 1 ≤ length report.images.items → IsShort report
     → run with_report_line empty_report (report_lines report) ≡ Some report
 run-report_lines report some short =
     run-reported_lines [] report.images.items (map refuse_line report.refusals.items) (omega (arith, short.images))
     ∙ run-refusals report.images.items [] report.refusals.items some (omega (arith, short.refusals))
 
--- ---- a report that tells anything has an image
+-- ---- a report that was read from a line has an image
 
 HasImage-image : (report next : Report) (number : ℕ) (image : ReportedImage)
     → with_reported_image report number image ≡ Some next → 1 ≤ length next.images.items
@@ -212,7 +212,7 @@ HasImage-with_report_line report next (line.Refuse refusal) e =
     let g = with_refusal-some report next refusal e in
     rw (← g.2) (omega (arith, g.0))
 
--- What was read of any line has an image.
+-- A report that was read from at least one line has an image.
 pub has_image_after : (line_of : List ℕ → Option ReportLine) (report final : Report) (texts : List (List ℕ))
     → run (with_text line_of with_report_line) report texts ≡ Some final
     → (0 < length texts) ⊎ (1 ≤ length report.images.items) → 1 ≤ length final.images.items

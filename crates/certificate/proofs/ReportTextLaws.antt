@@ -1,5 +1,5 @@
--- Reading a report is exact: what is read is spelled so, what is spelled so is read, and the fault
--- is the first.
+-- Reading a report is exact: a report that is read has this text, any text of a report is read, and
+-- an error names the first bad line.
 use Rattle.std.proofs.Common.{◌≡◌, ℕ, ◌≤◌, false, List, [], ◌∷◌, ◌++◌, length, Some, Result, Ok, Err, refl, ap, subst, ◌∙◌, inl, arith, lit<}
 use Rattle.std.specs.List.{AllZip}
 use Rattle.std.proofs.lemmas.List.{append-nil}
@@ -18,7 +18,7 @@ use Rattle.common.proofs.LinesLaws.{AreLines, lines_of-text_of_lines}
 use Rattle.common.proofs.ReadingLaws.{run, Spells, run-with_text, said_by_run, read_lines-ok, read_lines-run, IsFirstBadLine-stops}
 use Rattle.certificate.proofs.ReportLaws.{report_lines-grow, IsShort, IsShort-run, run-report_lines, has_image_after}
 
--- Reading from no line on, where the state that it begins with has none.
+-- Reading from no line on, if the initial state has none.
 pub from_empty_report : (start : Report) (total : Result Report ℕ) (texts : List (List ℕ)) → start.images.items ≡ []
     → start.refusals.items ≡ [] → read_lines with_text_of_report start 1 texts ≡ total
     → read_lines with_text_of_report empty_report 1 texts ≡ total
@@ -31,11 +31,11 @@ from_empty_report start total texts no_images no_refusals read =
           record { items = items };
     }) no_refusals) read
 
--- Lines of text tell lines of a report.
+-- Lines of text are read as lines of a report.
 spells : Spells report_line_of with_report_line IsReportLineText report_lines
 spells = record { again = report_line_of-text; spelled = report_line_of-spelled; grows = report_lines-grow }
 
--- Lines that say the lines of a report give it.
+-- Texts of the lines of a report give the report.
 run-text : (bytes : List ℕ) (report : Report) → IsReportText bytes report
     → run with_text_of_report empty_report (lines_of bytes) ≡ Some report
 run-text bytes report is =
@@ -46,7 +46,7 @@ run-text bytes report is =
           is.few;
     })
 
--- What was read is spelled by the lines.
+-- The lines are texts of the report that was read from them.
 said_lines : (texts : List (List ℕ)) (report : Report) → run with_text_of_report empty_report texts ≡ Some report
     → AllZip IsReportLineText texts (report_lines report) × IsShort report
 said_lines texts report read =
@@ -56,7 +56,7 @@ said_lines texts report read =
           (record { images = omega arith; refusals = omega arith }),
     )
 
--- What is read, and has an image, is spelled so.
+-- A report that is read and has an image has this text.
 pub IsReportText-read : (bytes : List ℕ) (report : Report)
     → read_lines with_text_of_report empty_report 1 (lines_of bytes) ≡ Ok report → 1 ≤ length report.images.items
     → IsReportText bytes report
@@ -65,7 +65,7 @@ IsReportText-read bytes report read some =
     (read_lines-ok with_text_of_report empty_report report 1 (lines_of bytes) read) in
     record { some = some; most = said.1.images; few = said.1.refusals; lines = said.0 }
 
--- What is spelled so fits its fields.
+-- A report that has a text fits its fields.
 pub FitsReport-from_text : (bytes : List ℕ) (report : Report) → IsReportText bytes report → FitsReport report
 FitsReport-from_text bytes report is = record {
   some = is.some;
@@ -75,7 +75,7 @@ FitsReport-from_text bytes report is = record {
       (report_lines report) is.lines;
 }
 
--- What is spelled so is read.
+-- A text of a report is read.
 pub read_lines-report : (bytes : List ℕ) (report : Report) → IsReportText bytes report
     → read_lines with_text_of_report empty_report 1 (lines_of bytes) ≡ Ok report
 read_lines-report bytes report spelled =
@@ -123,7 +123,7 @@ some_report = (
   },
 )
 
--- Lines that were read begin a report.
+-- Lines that were read are a prefix of a report's text.
 goes_on : (texts : List (List ℕ)) (report : Report) → AreLines texts
     → run with_text_of_report empty_report texts ≡ Some report → Begins IsSomeReport texts
 goes_on [] report lack read = (text_of_lines (report_line_text first_line ∷ []) ++ [], some_report)
@@ -142,14 +142,14 @@ goes_on (text ∷ texts) report lack read =
       ),
     )
 
--- The line at which reading stops is the first that no report goes on from.
+-- The line at which reading stops is the first with which no report continues.
 pub IsFirstBadLine-report : (bytes : List ℕ) (n : ℕ)
     → read_lines with_text_of_report empty_report 1 (lines_of bytes) ≡ Err n → IsFirstBadLine IsSomeReport bytes n
 IsFirstBadLine-report bytes n failed =
     IsFirstBadLine-stops IsSomeReport with_text_of_report empty_report
     (λ text is. (is.0, run-text text is.0 is.1)) goes_on bytes n failed
 
--- Where no image was read there are no lines.
+-- If no image was read, there are no lines.
 pub lines_of-no_report : (bytes : List ℕ) (report : Report)
     → read_lines with_text_of_report empty_report 1 (lines_of bytes) ≡ Ok report → report.images.items ≡ []
     → lines_of bytes ≡ []

@@ -1,4 +1,4 @@
--- What is requested of an image.
+-- Laws of the request of an image.
 use Rattle.std.proofs.Common.{◌≡◌, ℕ, true, false, Some, refl, ap, ◌∙◌}
 use Rattle.std.specs.Option.{option_map_or}
 use Rattle.std.proofs.lemmas.Option.{none-some}
@@ -10,13 +10,13 @@ use Rattle.certificate.specs.declared.table.Table.{Table}
 use Rattle.certificate.specs.Combination.{image_at, intact_entry}
 use Rattle.certificate.specs.Rightness.{has_request, is_requested}
 
--- an intact request is a request
+-- An intact request is a request.
 is_requested-intact : (asked : Request) (entry : Entry) → intact_entry asked ≡ Some entry → is_requested asked ≡ true
 is_requested-intact request.None entry is = absurd (none-some entry is)
 is_requested-intact request.Damaged entry is = absurd (none-some entry is)
 is_requested-intact (request.Entry intact) entry is = refl
 
--- an image with an intact request has a request
+-- An image with an intact request has a request.
 pub has_request-intact : (table : Table) (i : ℕ) (image : Image) (entry : Entry) → image_at table i ≡ Some image
     → intact_entry image.request ≡ Some entry → has_request table i ≡ true
 has_request-intact table i image entry has_image has_entry =

@@ -1,4 +1,4 @@
--- A report that is right for a table that fits its fields fits its own, so that it has a text.
+-- If a report is right for a table that fits its fields, the report fits its own, so it has a text.
 use Rattle.std.proofs.Common.{◌≡◌, ℕ, zero, suc, ◌+◌, ◌^◌, ◌<◌, ◌≤◌, Bool, true, false, List, [], ◌∷◌, length, map, take, Option, Some, inl, inr, refl, sym, ap, subst, ◌∙◌, arith}
 use Rattle.std.specs.Prelude.{⊤, slice_get, unwrap_or, Contains}
 use Rattle.std.specs.List.{AllByRecursion}
@@ -31,24 +31,24 @@ use Rattle.certificate.specs.ReportText.{FitsReason, FitsReport, FitsReportLine,
 use Rattle.certificate.proofs.Counts.{length-once}
 use Rattle.certificate.proofs.ReadBack.{printed_report_is_text}
 
--- an entry whose numbers fit their fields
+-- An entry whose numbers fit their fields.
 record FitsEntry (entry : Entry) : Type 0 where
   pub version : FitsFields entry.version
   pub dependencies : AllByRecursion FitsDependency entry.dependencies.items
   pub groups : AllByRecursion FitsGroup entry.groups.items
 
--- an image whose entries fit
+-- An image whose entries fit.
 record FitsImage (image : Image) : Type 0 where
   pub running : FitsEntry image.running
   pub requested : (entry : Entry) → intact_entry image.request ≡ Some entry → FitsEntry entry
 
--- things whose lines fit
+-- Elements whose lines fit.
 fits_each : {A : Type 0} (line_of : A → TableLine) (Fits : A → Type 0) → ((x : A) → FitsTableLine (line_of x) → Fits x)
     → (xs : List A) → AllByRecursion FitsTableLine (map line_of xs) → AllByRecursion Fits xs
 fits_each line_of Fits from [] fit = tt
 fits_each line_of Fits from (x ∷ xs) fit = (from x fit.0, fits_each line_of Fits from xs fit.1)
 
--- an entry whose version fits, and whose lines do
+-- An entry whose version and lines fit.
 fits_entry : (entry : Entry) → FitsFields entry.version → AllByRecursion FitsTableLine (needs_lines entry)
     → FitsEntry entry
 fits_entry entry version fit =
@@ -62,12 +62,12 @@ fits_entry entry version fit =
       groups = fits_each group_line FitsGroup (λ x fits. fits) entry.groups.items parts.1;
     }
 
--- what a list contains fits
+-- An element of a list whose elements fit.
 fits_contained : {A : Type 0} (Fits : A → Type 0) (xs : List A) (x : A) → Contains xs x → AllByRecursion Fits xs → Fits x
 fits_contained Fits xs x (k, within, is) fit =
     AllByRecursion-at Fits xs k x (slice_get-get_or xs k x within ∙ ap Some is) fit
 
--- a request whose lines fit
+-- A request whose lines fit.
 fits_request : (asked : Request) → AllByRecursion FitsTableLine (request_lines asked) → (entry : Entry)
     → intact_entry asked ≡ Some entry → FitsEntry entry
 fits_request request.None fit entry is = absurd (none-some entry is)
@@ -75,7 +75,7 @@ fits_request request.Damaged fit entry is = absurd (none-some entry is)
 fits_request (request.Entry intact) fit entry is =
     subst FitsEntry (same_Some intact entry is) (fits_entry intact fit.0.0 fit.1)
 
--- an image whose lines fit
+-- An image whose lines fit.
 fits_image : (n : ℕ) (image : Image) → AllByRecursion FitsTableLine (image_lines n image) → FitsImage image
 fits_image n image fit =
     let parts = AllByRecursion-parts FitsTableLine (needs_lines image.running) (request_lines image.request) fit.1 in
@@ -84,7 +84,7 @@ fits_image n image fit =
       requested = fits_request image.request parts.1;
     }
 
--- the image at a place of images whose lines fit
+-- The image at a place of images whose lines fit.
 fits_image-at : (n : ℕ) (images : List Image) → AllByRecursion FitsTableLine (table_lines n images)
     → (k : ℕ) (image : Image) → slice_get images k ≡ Some image → FitsImage image
 fits_image-at n [] fit k image at = absurd (none-some image at)
@@ -96,7 +96,7 @@ fits_image-at n (first ∷ images) fit (suc k) image at =
     fits_image-at (n + 1) images (AllByRecursion-parts FitsTableLine (image_lines n first)
     (table_lines (n + 1) images) fit).1 k image at
 
--- what an image contributes fits
+-- The entry that an image contributes fits.
 fits_entry_in : (image : Image) (is_member : Bool) → FitsImage image → FitsEntry (entry_in image is_member)
 fits_entry_in image false fits = fits.running
 fits_entry_in image true fits =
@@ -106,13 +106,13 @@ fits_entry_in image true fits =
           (fits.requested some.0 some.1)
     ]
 
--- the line of an image
+-- The line of an image fits.
 fits_reported_line : (n : ℕ) (is_taken : Bool) (version : Version) → n < 2 ^ 8 → FitsFields version
     → FitsReportLine (reported_line n (record { is_taken = is_taken; version = version }))
 fits_reported_line n true version small fits = (small, fits)
 fits_reported_line n false version small fits = (small, fits)
 
--- the lines of images
+-- The lines of images fit.
 fits_reported_lines : (n : ℕ) (images : List ReportedImage) → n + length images ≤ 8
     → ((k : ℕ) (image : ReportedImage) → slice_get images k ≡ Some image → FitsFields image.version)
     → AllByRecursion FitsReportLine (reported_lines n images)
@@ -123,7 +123,7 @@ fits_reported_lines n (image ∷ images) room fits = (
       (n + 1) images (omega arith) (λ k. fits (suc k)),
 )
 
--- the lines of refusals
+-- The lines of refusals fit.
 fits_refuse_lines : (refusals : List Refusal)
     → ((k : ℕ) (refusal : Refusal) → slice_get refusals k ≡ Some refusal → (refusal.image < 2 ^ 8)
     × FitsReason refusal.reason) → AllByRecursion FitsReportLine (refuse_lines refusals)
@@ -131,17 +131,17 @@ fits_refuse_lines [] fits = tt
 fits_refuse_lines (refusal ∷ refusals) fits = (fits 0 refusal refl, fits_refuse_lines refusals (λ k. fits (suc k)))
 
 module _ (table : Table) (table_fits : FitsTable table) where
-  -- each image fits
+  -- Each image fits.
   image_fits : (j : ℕ) (image : Image) → image_at table j ≡ Some image → FitsImage image
   image_fits = fits_image-at 0 table.images.items table_fits.fields
 
-  -- a number of an image is small
+  -- The number of an image is below 256.
   small_number : (j : ℕ) (image : Image) → image_at table j ≡ Some image → j < 2 ^ 8
   small_number j image has_image =
       let most : length table.images.items ≤ 8 = table_fits.most in
       omega (arith, most, slice_get_within table.images.items j image has_image)
 
-  -- a request that is refused for a reason has an image
+  -- A request that is refused for a reason that holds is that of an image.
   refused_is_small : (before : List Refusal) (i : ℕ) (reason : Reason) → ReasonHolds table before i reason → i < 2 ^ 8
   refused_is_small before i Damaged holds =
       let (image, has_image, _) = opened (image_at table i) _ holds in small_number i image has_image
@@ -156,7 +156,7 @@ module _ (table : Table) (table_fits : FitsTable table) where
   refused_is_small before i (NeedsOne group) holds =
       let (image, has_image, _) = opened (image_at table i) _ holds in small_number i image has_image
 
-  -- a reason that holds names what a dependency or a group of the table does
+  -- A reason that holds names a dependency or a group of the table.
   reason_fits : (before : List Refusal) (i : ℕ) (reason : Reason) → ReasonHolds table before i reason
       → FitsReason reason
   reason_fits before i Damaged holds = tt
@@ -181,7 +181,7 @@ module _ (table : Table) (table_fits : FitsTable table) where
       ((image_fits i image has_image).requested entry has_entry).groups
 
   module _ (report : Report) (right : IsRight table report) where
-    -- the version of each reported image fits
+    -- The version of each reported image fits.
     version_fits : (k : ℕ) (reported : ReportedImage) → slice_get report.images.items k ≡ Some reported
         → FitsFields reported.version
     version_fits k reported at =
@@ -196,7 +196,7 @@ module _ (table : Table) (table_fits : FitsTable table) where
           | inr past ↦ absurd (omega (arith, within, right.images, past.0))
         ]
 
-    -- each refusal fits
+    -- Each refusal fits.
     refusal_fits : (k : ℕ) (refusal : Refusal) → slice_get report.refusals.items k ≡ Some refusal
         → (refusal.image < 2 ^ 8) × FitsReason refusal.reason
     refusal_fits k refusal at =
@@ -206,7 +206,7 @@ module _ (table : Table) (table_fits : FitsTable table) where
           reason_fits before refusal.image refusal.reason holds,
         )
 
-    -- the report fits
+    -- The report fits.
     FitsReport-from_right : FitsReport report
     FitsReport-from_right =
         let most : length table.images.items ≤ 8 = table_fits.most in
@@ -221,7 +221,7 @@ module _ (table : Table) (table_fits : FitsTable table) where
               (fits_refuse_lines report.refusals.items refusal_fits);
         }
 
--- a report that is right for a table that fits has a text
+-- A report that is right for a table that fits has a text.
 pub right_report_has_text : (table : Table) (report : Report) → FitsTable table → IsRight table report
     → IsReportText (report_text report) report
 right_report_has_text table report fits right =

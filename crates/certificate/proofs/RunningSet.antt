@@ -1,5 +1,5 @@
--- The running images fit each other where each of their dependencies and groups is met by what
--- runs.
+-- The running images fit each other if the running versions meet each of their dependencies and
+-- groups.
 use Rattle.std.proofs.Common.{◌≡◌, Bool, true}
 use Rattle.std.specs.List.{list_all}
 use Rattle.std.proofs.lemmas.Bool.{false≢true}
@@ -7,11 +7,11 @@ use Rattle.certificate.specs.declared.table.Table.{Table}
 use Rattle.certificate.specs.Combination.{IsValid, meets_all, running_set}
 use Rattle.common.proofs.Lists.{IfSome-from_list_all, list_all-from_IfSome}
 
--- whether all dependencies and groups of all running images are met by what runs
+-- Whether the running versions meet all dependencies and groups of all running images.
 abbrev pub running_images_fit : Table → Bool
 running_images_fit table = list_all (λ image. meets_all table running_set image.running) table.images.items
 
--- a combination of no members is valid where the running images fit, and only there
+-- The combination of no members is valid exactly if the running images fit.
 pub running_set_is_valid : (table : Table) → (running_images_fit table ≡ true → IsValid table running_set)
     × (IsValid table running_set → running_images_fit table ≡ true)
 running_set_is_valid table = (

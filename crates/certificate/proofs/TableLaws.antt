@@ -1,4 +1,4 @@
--- Reading a table line by line gives what the lines say, and all of it.
+-- Reading a table line by line gives exactly the meaning of the lines.
 use Rattle.std.proofs.Common.{◌≡◌, ℕ, suc, ◌+◌, ◌<◌, eqb, ltb, ◌&&◌, List, [], ◌∷◌, ◌++◌, length, map, Option, Some, refl, sym, ap, ◌∙◌, append_assoc, arith}
 use Rattle.std.proofs.lemmas.List.{append-nil, map-append, nil_from_length}
 use Rattle.std.proofs.Common.{add-zero, zero-add}
@@ -39,7 +39,7 @@ table_lines-append n (x ∷ xs) ys =
     (table_lines-append (n + 1) xs ys ∙ ap (λ (k : ℕ). table_lines (n + 1) xs ++ table_lines k ys) e)
     ∙ simp append_assoc
 
--- One more dependency, before any group and where there is room.
+-- One more dependency, before any group and within the limit.
 pub with_dependency-some : (dependency : Dependency) (entry more : Entry)
     → with_dependency dependency entry ≡ Some more → (entry.groups.items ≡ [])
     × (length entry.dependencies.items < MOST_DEPENDENCIES)
@@ -52,7 +52,7 @@ with_dependency-some dependency entry more e =
     let a = and_parts no_groups room g.0 in
     (nil_from_length entry.groups.items (eqb-true _ _ a.0), ltb-true _ _ a.1, g.1)
 
--- One more group, where there is room.
+-- One more group, within the limit.
 pub with_group-some : (group : Group) (entry more : Entry) → with_group group entry ≡ Some more
     → (length entry.groups.items < MOST_GROUPS)
     × (record entry { groups = record { items = entry.groups.items ++ group ∷ [] } } ≡ more)
@@ -61,7 +61,7 @@ with_group-some group entry more e =
     (record entry { groups = record { items = entry.groups.items ++ group ∷ [] } }) more e in
     (ltb-true _ _ g.0, g.1)
 
--- An entry has one more line, which says what it needs.
+-- An entry has one more line, for a dependency or a group.
 abbrev HasOneMore : Entry → Entry → TableLine → Type 0
 HasOneMore entry more said =
     (needs_lines more ≡ needs_lines entry ++ said ∷ []) × (more.version ≡ entry.version)
@@ -91,7 +91,7 @@ group-more group entry more e =
       refl,
     )
 
--- One more need of the last entry is one more line of the image.
+-- One more dependency or group of the last entry is one more line of the image.
 image_lines-more : (with_one_more : Entry → Option Entry) (said : TableLine)
     → ((entry more : Entry) → with_one_more entry ≡ Some more → HasOneMore entry more said)
     → (n : ℕ) (image more : Image) (asked : Request) → image.request ≡ asked
@@ -151,7 +151,7 @@ table_lines-in_last n (image ∷ other ∷ images) next said e =
     (table_lines-in_last (n + 1) (other ∷ images) a.0 said a.1)
     ∙ sym (append_assoc (image_lines n image) (table_lines (n + 1) (other ∷ images)) (said ∷ [])))
 
--- One more line that was placed is one more line of what the images spell.
+-- One more line that is added is one more line of the images.
 images-grow : (images next : List Image) (said : TableLine) → with_line_of_images images said ≡ Some next
     → table_lines 0 next ≡ table_lines 0 images ++ said ∷ []
 unfolding with_line_of_images

@@ -1,4 +1,4 @@
--- What is read keeps the limits of a table.
+-- A table that is read keeps the limits.
 use Rattle.std.proofs.Common.{◌≡◌, ℕ, suc, ◌≤◌, eqb, ltb, ◌&&◌, List, [], ◌∷◌, ◌++◌, length, Option, Some, refl, ap, length-append, arith}
 use Rattle.std.specs.List.{AllByRecursion}
 use Rattle.std.proofs.lemmas.Bool.{and_parts, ltb-true}
@@ -21,12 +21,12 @@ use Rattle.common.proofs.Options.{and_then_some, option_map-Some}
 use Rattle.common.proofs.ReadingLaws.{run}
 use Rattle.certificate.proofs.TableLaws.{with_dependency-some, with_group-some}
 
--- At most eight images of few needs.
+-- There are at most eight images, each within the limits.
 pub record AreFew (images : List Image) : Type 0 where
   pub most : length images ≤ MOST_IMAGES
   pub few : AllByRecursion IsSmall images
 
--- An entry without needs has few.
+-- An entry without dependencies and groups is within the limits.
 few_in_new : {version : Version} {counter : ℕ} → HasFewNeeds (new_entry version counter)
 few_in_new = record { dependencies = omega arith; groups = omega arith }
 

@@ -1,4 +1,4 @@
--- Placing the lines of images one after another gives these images.
+-- Adding the lines of images one after another gives these images.
 use Rattle.std.proofs.Common.{◌≡◌, ℕ, zero, suc, ◌+◌, ◌<◌, ◌≤◌, Bool, true, false, List, [], ◌∷◌, ◌++◌, length, map, Some, None, refl, sym, ap, ◌∙◌, append_assoc, length-append, arith}
 use Rattle.std.specs.Prelude.{option_map}
 use Rattle.std.specs.List.{AllByRecursion}
@@ -26,7 +26,7 @@ unfolding with_line_in_last
 in_last-cons image last [] said = refl
 in_last-cons image last (next ∷ front) said = refl
 
--- A line that the last image takes is taken.
+-- A line that the last image accepts is added.
 pub in_last-push : (front : List Image) (last more : Image) (said : TableLine) → with_line last said ≡ Some more
     → with_line_in_last (front ++ last ∷ []) said ≡ Some (front ++ more ∷ [])
 unfolding with_line_in_last
@@ -34,7 +34,7 @@ in_last-push [] last more said taken = rw taken refl
 in_last-push (image ∷ front) last more said taken =
     in_last-cons image last front said ∙ rw (in_last-push front last more said taken) refl
 
--- A line that the last image doesn't take is refused.
+-- A line that the last image refuses is refused.
 pub in_last-refused : (front : List Image) (last : Image) (said : TableLine) → with_line last said ≡ None
     → with_line_in_last (front ++ last ∷ []) said ≡ None
 unfolding with_line_in_last
@@ -42,7 +42,7 @@ in_last-refused [] last said refused = rw refused refl
 in_last-refused (image ∷ front) last said refused =
     in_last-cons image last front said ∙ rw (in_last-refused front last said refused) refl
 
--- Things that the last image takes one by one, a line each.
+-- The last image accepts the lines of several elements one by one.
 run-each : {A : Type 0} (line_of : A → TableLine) (limit : ℕ) (put : List A → Image)
     → ((images : List Image) (x : A) → with_line_of_images images (line_of x) ≡ with_line_in_last images (line_of x))
     → ((before : List A) (x : A) → length before < limit
@@ -60,7 +60,7 @@ run-each line_of limit put later takes front before (x ∷ xs) rest few =
     rw first (others ∙ ap (λ (xs : List _). run with_line_of_images
     (front ++ put xs ∷ []) rest) (append_assoc before (x ∷ []) xs))
 
--- An entry with these needs.
+-- An entry with these dependencies and groups.
 abbrev entry_with : Version → ℕ → List Dependency → List Group → Entry
 entry_with version counter dependencies groups =
     record {
@@ -70,7 +70,7 @@ entry_with version counter dependencies groups =
       groups = record { items = groups };
     }
 
--- The lines of what an entry needs, where the last image takes them into this entry.
+-- The last image adds the lines of an entry's dependencies and groups to this entry.
 run-needs : (put : Entry → Image)
     → ((entry more : Entry) (dependency : Dependency) → with_dependency dependency entry ≡ Some more
     → with_line (put entry) (line.Needs dependency) ≡ Some (put more))
@@ -106,7 +106,7 @@ running_so_far floor entry = record { running = entry; request = request.None; f
 abbrev request_so_far : Entry → ℕ → Entry → Image
 request_so_far running floor entry = record { running = running; request = request.Entry entry; floor = floor }
 
--- The lines of what is requested, after those of the running image.
+-- The lines of a request, after those of the running image.
 run-request : (front : List Image) (image : Image) (asked : Request) (rest : List TableLine)
     → image.request ≡ request.None → AsksForFew asked
     → run with_line_of_images (front ++ image ∷ []) (request_lines asked ++ rest) ≡ run with_line_of_images
@@ -180,7 +180,7 @@ in_last-none (image ∷ next ∷ images) zero last said count is refused = absur
 in_last-none (image ∷ next ∷ images) (suc place) last said count is refused =
     rw (in_last-none (next ∷ images) place last said (omega arith) is refused) refl
 
--- What the last image makes of a line is what the images make of it.
+-- A line changes the images as it changes the last one.
 pub in_last-placed : (is_placed : Bool) (images : List Image) (place : ℕ) (last more : Image) (said : TableLine)
     → length images ≡ place + 1 → last ≡ get_or images place last
     → MatchBool is_placed (with_line last said ≡ Some more) (with_line last said ≡ None)

@@ -1,5 +1,5 @@
--- Reading a table is exact: what is read is spelled so, what is spelled so is read, and the fault
--- is the first.
+-- Reading a table is exact: a table that is read has this text, any text of a table is read, and an
+-- error names the first bad line.
 use Rattle.std.proofs.Common.{◌≡◌, ℕ, ◌≤◌, List, [], ◌∷◌, ◌++◌, length, Some, Result, Ok, Err, refl, ap, subst, ◌∙◌, inl, arith, lit<}
 use Rattle.std.specs.Prelude.{option_map}
 use Rattle.std.specs.List.{AllZip}
@@ -23,21 +23,21 @@ use Rattle.certificate.proofs.TableLaws.{table_lines-grow}
 use Rattle.certificate.proofs.TableLimits.{AreFew, AreFew-run}
 use Rattle.certificate.proofs.TableRuns.{run-table_lines}
 
--- No image yet.
+-- The table of no images.
 abbrev pub no_images : Table
 no_images = table_of []
 
--- Reading from no image on, where the state that it begins with has none.
+-- Reading from no image on, if the initial state has none.
 pub from_no_images : (start : Table) (total : Result Table ℕ) (texts : List (List ℕ)) → start.images.items ≡ []
     → read_lines with_text_of_table start 1 texts ≡ total → read_lines with_text_of_table no_images 1 texts ≡ total
 from_no_images start total texts none read =
     subst (λ (t : Table). read_lines with_text_of_table t 1 texts ≡ total) (ap table_of none) read
 
--- Lines of text tell lines of a table.
+-- Lines of text are read as lines of a table.
 spells : Spells table_line_of with_table_line IsTableLineText (λ table. table_lines 0 table.images.items)
 spells = record { again = table_line_of-text; spelled = table_line_of-spelled; grows = table_lines-grow }
 
--- Lines of images give the table of them.
+-- The lines of images give their table.
 run-lines : (table : Table) → AreFew table.images.items
     → run with_table_line no_images (table_lines 0 table.images.items) ≡ Some table
 run-lines table few =
@@ -45,7 +45,7 @@ run-lines table few =
     run-wrapped table_of with_line_of_images with_table_line (λ images said. refl) [] (table_lines 0 images)
     ∙ ap (option_map table_of) (run-table_lines [] images few.few (omega (arith, few.most)))
 
--- Lines that say the lines of a table give it.
+-- Texts of the lines of a table give the table.
 run-text : (texts : List (List ℕ)) (table : Table) → AreFew table.images.items
     → AllZip IsTableLineText texts (table_lines 0 table.images.items)
     → run with_text_of_table no_images texts ≡ Some table
@@ -58,7 +58,7 @@ nonempty : (images : List Image) (text : List ℕ) (texts : List (List ℕ))
 nonempty [] text texts say = absurd say
 nonempty (image ∷ images) text texts say = omega arith
 
--- What was read is spelled by the lines.
+-- The lines are texts of the table that was read from them.
 said_lines : (texts : List (List ℕ)) (table : Table) → run with_text_of_table no_images texts ≡ Some table
     → AllZip IsTableLineText texts (table_lines 0 table.images.items) × AreFew table.images.items
 said_lines texts table read =
@@ -66,7 +66,7 @@ said_lines texts table read =
     (λ t. table_lines 0 t.images.items) spells no_images table texts read in
     (rw said.1 said.2, AreFew-run table_line_of no_images table texts read (record { most = omega arith; few = tt }))
 
--- What is read, and isn't empty, is spelled so.
+-- A table that is read and has an image has this text.
 pub IsTableText-read : (bytes : List ℕ) (table : Table)
     → read_lines with_text_of_table no_images 1 (lines_of bytes) ≡ Ok table → 1 ≤ length table.images.items
     → IsTableText bytes table
@@ -75,7 +75,7 @@ IsTableText-read bytes table read some =
     (read_lines-ok with_text_of_table no_images table 1 (lines_of bytes) read) in
     record { some = some; most = said.1.most; few = said.1.few; lines = said.0 }
 
--- What is spelled so fits its fields.
+-- A table that has a text fits its fields.
 pub FitsTable-from_text : (bytes : List ℕ) (table : Table) → IsTableText bytes table → FitsTable table
 FitsTable-from_text bytes table is = record {
   some = is.some;
@@ -85,7 +85,7 @@ FitsTable-from_text bytes table is = record {
       (table_lines 0 table.images.items) is.lines;
 }
 
--- What is spelled so is read.
+-- A text of a table is read.
 pub read_lines-table : (bytes : List ℕ) (table : Table) → IsTableText bytes table
     → read_lines with_text_of_table no_images 1 (lines_of bytes) ≡ Ok table
 read_lines-table bytes table spelled =
@@ -126,7 +126,7 @@ some_table = (
   },
 )
 
--- Lines that were read begin a table.
+-- Lines that were read are a prefix of a table's text.
 goes_on : (texts : List (List ℕ)) (table : Table) → AreLines texts
     → run with_text_of_table no_images texts ≡ Some table → Begins IsSomeTable texts
 goes_on [] table lack read = (text_of_lines (table_line_text first_line ∷ []) ++ [], some_table)
@@ -145,7 +145,7 @@ goes_on (text ∷ texts) table lack read =
       ),
     )
 
--- The line at which reading stops is the first that no table goes on from.
+-- The line at which reading stops is the first with which no table continues.
 pub IsFirstBadLine-table : (bytes : List ℕ) (n : ℕ)
     → read_lines with_text_of_table no_images 1 (lines_of bytes) ≡ Err n → IsFirstBadLine IsSomeTable bytes n
 IsFirstBadLine-table bytes n failed =
@@ -156,7 +156,7 @@ IsFirstBadLine-table bytes n failed =
           (record { most = is.1.most; few = is.1.few }) is.1.lines,
     )) goes_on bytes n failed
 
--- Where no image was read there are no lines.
+-- If no image was read, there are no lines.
 pub lines_of-no_images : (bytes : List ℕ) (table : Table)
     → read_lines with_text_of_table no_images 1 (lines_of bytes) ≡ Ok table → table.images.items ≡ []
     → lines_of bytes ≡ []

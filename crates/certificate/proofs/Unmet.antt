@@ -1,4 +1,4 @@
--- What the request of an image can't meet, and reasons that can't hold.
+-- Requests that can't meet a property, and reasons that can't hold.
 use Rattle.std.proofs.Common.{◌≡◌, ℕ, false, List, None, Some, ap, refl, subst, sym, ◌∙◌}
 use Rattle.std.specs.Prelude.{◌↔◌, IsSomeAnd, IsTrue}
 use Rattle.std.proofs.lemmas.Bool.{false≢true}
@@ -15,30 +15,30 @@ use Rattle.certificate.specs.Combination.{image_at, intact_entry, RequestMeets}
 use Rattle.certificate.specs.Reasons.{ReasonHolds}
 use Rattle.certificate.specs.Rightness.{is_requested}
 
--- the answer no, where something can't be
+-- The answer is no if the property can't hold.
 pub no_where : {A : Type 0} → (A → ⊥) → IsTrue false ↔ A
 no_where never = (λ yes. absurd (false≢true yes), λ it. absurd (never it))
 
--- a request that is no intact one
+-- A request that isn't intact.
 pub intact-none : (asked : Request) → ((entry : Entry) → asked ≡ request.Entry entry → ⊥) → intact_entry asked ≡ None
 intact-none request.None other = refl
 intact-none request.Damaged other = refl
 intact-none (request.Entry entry) other = absurd (other entry refl)
 
--- an image that a table doesn't have meets nothing
+-- An image that a table doesn't have meets nothing.
 pub unmet-missing : (table : Table) (j : ℕ) (P : Image → Entry → Type 0) → image_at table j ≡ None
     → RequestMeets table j P → ⊥
 unmet-missing table j P none meets =
     subst (λ found. IsSomeAnd found (λ image. IsSomeAnd (intact_entry image.request) (λ entry. P image entry))) none meets
 
--- and nor does one without an intact request
+-- An image without an intact request meets nothing.
 pub unmet-other : (table : Table) (j : ℕ) (image : Image) (P : Image → Entry → Type 0)
     → image_at table j ≡ Some image → intact_entry image.request ≡ None → RequestMeets table j P → ⊥
 unmet-other table j image P at none meets =
     subst (λ found. IsSomeAnd found (λ entry. P image entry)) none
     (subst (λ found. IsSomeAnd found (λ image. IsSomeAnd (intact_entry image.request) (λ entry. P image entry))) at meets)
 
--- no reason holds for an image that a table doesn't have
+-- No reason holds for an image that a table doesn't have.
 pub no_reason-missing : (table : Table) (before : List Refusal) (own : ℕ) (reason : Reason)
     → image_at table own ≡ None → ReasonHolds table before own reason → ⊥
 no_reason-missing table before own Damaged none holds =
@@ -49,7 +49,7 @@ no_reason-missing table before own (NoSuchImage j) none holds = unmet-missing ta
 no_reason-missing table before own (Needs j minimum) none holds = unmet-missing table own _ none holds
 no_reason-missing table before own (NeedsOne group) none holds = unmet-missing table own _ none holds
 
--- where a request isn't intact, no reason holds but that it is damaged
+-- If a request isn't intact, the only reason that can hold is `Damaged`.
 pub no_reason-other : (table : Table) (before : List Refusal) (own : ℕ) (image : Image) (reason : Reason)
     → image_at table own ≡ Some image → intact_entry image.request ≡ None
     → (reason ≡ Damaged → image.request ≡ request.Damaged → ⊥) → ReasonHolds table before own reason → ⊥
@@ -63,10 +63,10 @@ no_reason-other table before own image (Needs j minimum) at none never holds =
 no_reason-other table before own image (NeedsOne group) at none never holds =
     unmet-other table own image _ at none holds
 
--- no request is missing and damaged
+-- No request is both missing and damaged.
 pub none-damaged : (asked : Request) → asked ≡ request.None → asked ≡ request.Damaged → ⊥
 none-damaged asked none damaged = false≢true (ap is_requested (sym none ∙ damaged))
 
--- .. or intact and damaged
+-- No request is both intact and damaged.
 pub damaged-intact : (asked : Request) (entry : Entry) → asked ≡ request.Damaged → asked ≡ request.Entry entry → ⊥
 damaged-intact asked entry damaged is = none-some entry (ap intact_entry (sym damaged ∙ is))

@@ -1,4 +1,4 @@
--- Which requests depend on an image, or have it as an alternative.
+-- The requests that depend on an image or have it as an alternative.
 use Rattle.std.specs.Prelude.{ℕ, ◌==◌, Bool, false, ◌||◌}
 use Rattle.std.specs.List.{list_any}
 use Rattle.std.specs.Option.{option_map_or}

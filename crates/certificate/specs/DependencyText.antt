@@ -1,4 +1,4 @@
--- The text of a dependency, and of a group.
+-- The texts of a dependency and of a group.
 use Rattle.std.specs.Prelude.{◌≡◌, ℕ, ◌^◌, ◌<◌, ◌≤◌, List, [], ◌∷◌, ◌++◌, length, codes, decimal}
 use Rattle.std.specs.List.{AllByRecursion}
 use Rattle.common.specs.Limits.{MOST_ALTERNATIVES}
@@ -8,7 +8,7 @@ use Rattle.version_order.specs.declared.dependency.Dependency.{Dependency}
 use Rattle.version_order.specs.declared.group.Group.{Group}
 use Rattle.version_order.specs.VersionText.{FitsFields, version_text, IsVersionText}
 
--- A dependency as it is printed: `needs J VERSION`.
+-- The printed text of a dependency: `needs J VERSION`.
 abbrev pub needs_text : Dependency → List ℕ
 needs_text dependency =
     codes "needs" ␣ decimal dependency.image ␣ version_text dependency.minimum
@@ -19,7 +19,7 @@ IsVersionLine text word image version =
     (image < 2 ^ 8)
     × (spelled : List ℕ) × IsVersionText spelled version × (text ≡ word ␣ decimal image ␣ spelled)
 
--- A text says a dependency.
+-- A text of a dependency.
 abbrev pub IsNeedsText : List ℕ → Dependency → Type 0
 IsNeedsText text dependency =
     IsVersionLine text (codes "needs") dependency.image dependency.minimum
@@ -33,7 +33,7 @@ pub record HasFewAlternatives (group : Group) : Type 0 where
   pub some : 1 ≤ length group.alternatives.items
   pub most : length group.alternatives.items ≤ MOST_ALTERNATIVES
 
--- Alternatives as they are printed: for each a space, the number of its image, a space, and its
+-- The printed text of alternatives: for each a space, the number of its image, a space, and its
 -- version.
 unfoldable pub alternatives_text : List Dependency → List ℕ
 alternatives_text [] = []
@@ -41,12 +41,12 @@ alternatives_text (alternative ∷ alternatives) =
     32 ∷ ((decimal alternative.image ␣ version_text alternative.minimum)
     ++ alternatives_text alternatives)
 
--- A group as it is printed: `needs-one J VERSION ..`
+-- The printed text of a group: `needs-one J VERSION ..`
 abbrev pub needs_one_text : Group → List ℕ
 needs_one_text group = codes "needs-one" ++ alternatives_text group.alternatives.items
 
--- A text says these alternatives: for each a space, the number of its image, a space, and any text
--- of its version.
+-- A text of these alternatives: for each a space, the number of its image, a space, and any text of
+-- its version.
 unfoldable pub AreAlternativesText : List ℕ → List Dependency → Type 0
 AreAlternativesText text [] = text ≡ []
 AreAlternativesText text (alternative ∷ alternatives) =
@@ -55,14 +55,14 @@ AreAlternativesText text (alternative ∷ alternatives) =
     × IsVersionText spelled alternative.minimum × AreAlternativesText rest alternatives
     × (text ≡ 32 ∷ ((decimal alternative.image ␣ spelled) ++ rest))
 
--- A text says a group.
+-- A text of a group.
 abbrev pub IsNeedsOneText : List ℕ → Group → Type 0
 IsNeedsOneText text group =
     HasFewAlternatives group
     × (spelled : List ℕ) × AreAlternativesText spelled group.alternatives.items
     × (text ≡ codes "needs-one" ++ spelled)
 
--- A group has a text: few alternatives, of which the numbers fit their fields.
+-- A group that has a text: it has one to four alternatives, and their numbers fit their fields.
 abbrev pub FitsGroup : Group → Type 0
 FitsGroup group =
     HasFewAlternatives group × AllByRecursion FitsDependency group.alternatives.items

@@ -1,5 +1,5 @@
--- Reading a line from left to right, step by step: words are cut at spaces (32), the first word
--- tells which line it is, and the last field takes the whole rest of the line.
+-- Reading a line from left to right in steps. Words end at spaces (32). The first word says which
+-- line it is, and the last field is the complete rest of the line.
 use Rattle.std.specs.Prelude.{ℕ, zero, suc, ◌-◌, ◌^◌, List, [], ◌∷◌, ◌++◌, length, Option, Some, None, codes, option_and_then, option_map, if◌then◌else◌}
 use Rattle.std.specs.Str.{bytes_eq}
 use Rattle.common.specs.Limits.{MOST_ALTERNATIVES}
@@ -28,7 +28,7 @@ image_and_version_of fields = do
   version ← version_of rest
   Some (image, version)
 
--- What follows `image`: a number, a version, a counter and a floor.
+-- The fields after `image`: a number, a version, a counter and a floor.
 unfoldable pub image_line_of : List ℕ → Option TableLine
 image_line_of fields = do
   let words = cut 32 fields
@@ -43,20 +43,20 @@ image_line_of fields = do
   floor ← number_of rest
   Some (table_line.Image number version counter floor)
 
--- What follows `needs`: the number of an image, and the lowest version that will do.
+-- The fields after `needs`: the number of an image, and the lowest version that is enough.
 unfoldable pub needs_line_of : List ℕ → Option TableLine
 needs_line_of fields = do
   needed ← image_and_version_of fields
   Some (table_line.Needs (record { image = needed.0; minimum = needed.1 }))
 
--- The alternative that two words say: the number of an image, and the lowest version that will do.
+-- The two words of an alternative: the number of an image, and the lowest version that is enough.
 unfoldable pub alternative_of : List ℕ → List ℕ → Option Dependency
 alternative_of image minimum = do
   image ← number_below (2 ^ 8) image
   minimum ← version_of minimum
   Some (record { image = image; minimum = minimum })
 
--- These alternatives, and those that the fields after them say, of which there may be so many.
+-- The alternatives `before`, followed by at most `room` that are read from the fields after them.
 unfoldable pub more_alternatives : ℕ → List Dependency → Option (List ℕ) → Option (List Dependency)
 more_alternatives room before None = Some before
 more_alternatives zero before (Some fields) = None
@@ -67,17 +67,18 @@ more_alternatives (suc room) before (Some fields) = do
   alternative ← alternative_of image.0 minimum.0
   more_alternatives room (before ++ alternative ∷ []) minimum.1
 
--- The group of these alternatives and those that the fields after them say: at most four.
+-- The group of the alternatives `before` and those that are read from the fields after them, at
+-- most four.
 abbrev pub group_from : List Dependency → Option (List ℕ) → Option Group
 group_from before rest =
     option_map (λ alternatives. record { alternatives = record { items = alternatives } })
     (more_alternatives (MOST_ALTERNATIVES - length before) before rest)
 
--- What follows `needs-one`: one to four alternatives.
+-- The fields after `needs-one`: one to four alternatives.
 abbrev pub group_of : List ℕ → Option Group
 group_of fields = group_from [] (Some fields)
 
--- What follows `request`: a version and a counter.
+-- The fields after `request`: a version and a counter.
 unfoldable pub request_line_of : List ℕ → Option TableLine
 request_line_of fields = do
   let words = cut 32 fields
@@ -86,7 +87,7 @@ request_line_of fields = do
   counter ← number_of rest
   Some (table_line.Request version counter)
 
--- The line of a table that begins with this word, with these fields after it.
+-- The line of a table that begins with this word, followed by these fields.
 abbrev pub table_line_at : List ℕ → List ℕ → Option TableLine
 table_line_at word fields =
     if bytes_eq word (codes "image") then image_line_of fields
@@ -95,7 +96,7 @@ table_line_at word fields =
     then option_map (λ group. table_line.NeedsOne group) (group_of fields)
     else (if bytes_eq word (codes "request") then request_line_of fields else None)))
 
--- The line of a table that a text says.
+-- The line of a table that is read from a text.
 unfoldable pub table_line_of : List ℕ → Option TableLine
 table_line_of text =
     if bytes_eq text (codes "damaged") then Some table_line.Damaged else (do
@@ -103,7 +104,7 @@ table_line_of text =
       fields ← words.1
       table_line_at words.0 fields)
 
--- What follows `run`, and `take`: the number of an image, and its version.
+-- The fields after `run` and after `take`: the number of an image, and its version.
 unfoldable pub run_line_of : List ℕ → Option ReportLine
 run_line_of fields = do
   runs ← image_and_version_of fields
@@ -114,7 +115,7 @@ take_line_of fields = do
   taken ← image_and_version_of fields
   Some (report_line.Take taken.0 taken.1)
 
--- The reason that begins with this word, with these fields after it.
+-- The reason that begins with this word, followed by these fields.
 abbrev pub reason_at : List ℕ → List ℕ → Option Reason
 reason_at word fields =
     if bytes_eq word (codes "no-such-image")
@@ -124,7 +125,7 @@ reason_at word fields =
     else (if bytes_eq word (codes "needs-one")
     then option_map (λ group. NeedsOne group) (group_of fields) else None))
 
--- The reason that a text says.
+-- The reason that is read from a text.
 unfoldable pub reason_of : List ℕ → Option Reason
 reason_of text =
     if bytes_eq text (codes "damaged") then Some Damaged
@@ -134,7 +135,7 @@ reason_of text =
       fields ← words.1
       reason_at words.0 fields)))
 
--- What follows `refuse`: the number of an image, and the reason.
+-- The fields after `refuse`: the number of an image, and the reason.
 unfoldable pub refuse_line_of : List ℕ → Option ReportLine
 refuse_line_of fields = do
   let words = cut 32 fields
@@ -143,14 +144,14 @@ refuse_line_of fields = do
   reason ← reason_of rest
   Some (report_line.Refuse (record { image = image; reason = reason }))
 
--- The line of a report that begins with this word, with these fields after it.
+-- The line of a report that begins with this word, followed by these fields.
 abbrev pub report_line_at : List ℕ → List ℕ → Option ReportLine
 report_line_at word fields =
     if bytes_eq word (codes "run") then run_line_of fields
     else (if bytes_eq word (codes "take") then take_line_of fields
     else (if bytes_eq word (codes "refuse") then refuse_line_of fields else None))
 
--- The line of a report that a text says.
+-- The line of a report that is read from a text.
 unfoldable pub report_line_of : List ℕ → Option ReportLine
 report_line_of text = do
   let words = cut 32 text

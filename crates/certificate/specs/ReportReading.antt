@@ -1,5 +1,5 @@
--- Reading a report line by line: what one more line makes of the lines so far. The reader follows
--- these steps; what they mean is in `ReportText`.
+-- Reading a report line by line: how one more line changes the report of the lines so far. The
+-- reader follows these steps. `ReportText` defines what they mean.
 use Rattle.std.specs.Prelude.{ℕ, ◌==◌, ◌&&◌, true, false, [], ◌∷◌, ◌++◌, List, length, Option, Some, None, nat_lt, if◌then◌else◌}
 use Rattle.common.specs.Limits.{MOST_IMAGES}
 use Rattle.common.specs.Reading.{with_text}
@@ -11,12 +11,12 @@ use Rattle.certificate.specs.declared.report_line.ReportLine.{ReportLine}
 use Rattle.certificate.specs.declared.report_line.ReportLine.TheVariants as line
 use Rattle.certificate.specs.LineReading.{report_line_of}
 
--- No line yet.
+-- The report before the first line.
 abbrev pub empty_report : Report
 empty_report = record { images = record { items = [] }; refusals = record { items = [] } }
 
--- A report with one more image, of at most eight, whose number is the count of those before it, and
--- no refusal yet.
+-- A report with one more image. There are at most eight, the number of the new one must be the
+-- count of those before it, and there must be no refusal yet.
 abbrev pub with_reported_image : Report → ℕ → ReportedImage → Option Report
 with_reported_image report number image =
     if (length report.refusals.items == 0)
@@ -24,7 +24,7 @@ with_reported_image report number image =
     then Some (record report { images = record { items = report.images.items ++ image ∷ [] } })
     else None
 
--- A report of some images with one more refusal, of at most eight.
+-- A report with one more refusal. There are at most eight, and the report must have an image.
 abbrev pub with_refusal : Report → Refusal → Option Report
 with_refusal report refusal =
     if nat_lt 0 (length report.images.items)
@@ -33,7 +33,7 @@ with_refusal report refusal =
       refusals = record { items = report.refusals.items ++ refusal ∷ [] };
     }) else None
 
--- A report with what one more line says.
+-- A report with the meaning of one more line.
 unfoldable pub with_report_line : Report → ReportLine → Option Report
 with_report_line report (line.Run number version) =
     with_reported_image report number (record { is_taken = false; version = version })
@@ -41,6 +41,6 @@ with_report_line report (line.Take number version) =
     with_reported_image report number (record { is_taken = true; version = version })
 with_report_line report (line.Refuse refusal) = with_refusal report refusal
 
--- A report with what one more line of text says.
+-- A report with the meaning of one more line of text.
 abbrev pub with_text_of_report : Report → List ℕ → Option Report
 with_text_of_report = with_text report_line_of with_report_line

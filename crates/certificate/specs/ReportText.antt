@@ -1,4 +1,4 @@
--- The text of a report.
+-- The texts of a report.
 use Rattle.std.specs.Prelude.{◌≡◌, ℕ, ◌+◌, ◌^◌, ◌<◌, ◌≤◌, List, [], ◌∷◌, ◌++◌, length, map, codes, decimal, if◌then◌else◌}
 use Rattle.std.specs.List.{AllByRecursion, AllZip}
 use Rattle.common.specs.Limits.{MOST_IMAGES}
@@ -14,7 +14,7 @@ use Rattle.certificate.specs.declared.report_line.ReportLine.{ReportLine}
 use Rattle.certificate.specs.declared.report_line.ReportLine.TheVariants as line
 use Rattle.certificate.specs.DependencyText.{needs_one_text, needs_text, FitsDependency, FitsGroup, IsNeedsOneText, IsNeedsText, IsVersionLine}
 
--- A reason as it is printed.
+-- The printed text of a reason.
 abbrev pub reason_text : Reason → List ℕ
 reason_text Damaged = codes "damaged"
 reason_text Older = codes "older"
@@ -23,14 +23,14 @@ reason_text (NoSuchImage j) = codes "no-such-image" ␣ decimal j
 reason_text (Needs j minimum) = needs_text (record { image = j; minimum = minimum })
 reason_text (NeedsOne group) = needs_one_text group
 
--- A line as it is printed.
+-- The printed text of a line.
 abbrev pub report_line_text : ReportLine → List ℕ
 report_line_text (line.Run number version) = codes "run" ␣ decimal number ␣ version_text version
 report_line_text (line.Take number version) = codes "take" ␣ decimal number ␣ version_text version
 report_line_text (line.Refuse refusal) =
     codes "refuse" ␣ decimal refusal.image ␣ reason_text refusal.reason
 
--- A text says a reason: numbers that fit their fields, and for a version any of its texts.
+-- A text of a reason: its numbers fit their fields, and a version has any of its texts.
 abbrev pub IsReasonText : List ℕ → Reason → Type 0
 IsReasonText text Damaged = text ≡ codes "damaged"
 IsReasonText text Older = text ≡ codes "older"
@@ -39,7 +39,7 @@ IsReasonText text (NoSuchImage j) = (j < 2 ^ 8) × (text ≡ codes "no-such-imag
 IsReasonText text (Needs j minimum) = IsNeedsText text (record { image = j; minimum = minimum })
 IsReasonText text (NeedsOne group) = IsNeedsOneText text group
 
--- A text without its line feed says a line.
+-- A text of a line, without its line feed.
 abbrev pub IsReportLineText : List ℕ → ReportLine → Type 0
 IsReportLineText text (line.Run number version) =
     IsVersionLine text (codes "run") number version
@@ -69,23 +69,23 @@ abbrev pub report_lines : Report → List ReportLine
 report_lines report =
     reported_lines 0 report.images.items ++ refuse_lines report.refusals.items
 
--- The text of a report: one to eight images and at most eight refusals, and the lines say the
--- report's lines, one after the other.
+-- A text of a report: there are one to eight images and at most eight refusals, and the lines of
+-- the text are those of the report in order.
 pub record IsReportText (bytes : List ℕ) (report : Report) : Type 0 where
   pub some : 1 ≤ length report.images.items
   pub most : length report.images.items ≤ MOST_IMAGES
   pub few : length report.refusals.items ≤ MOST_REFUSALS
   pub lines : AllZip IsReportLineText (lines_of bytes) (report_lines report)
 
--- A report as it is printed.
+-- The printed text of a report.
 abbrev pub report_text : Report → List ℕ
 report_text report = printed_lines report_line_text (report_lines report)
 
--- Bytes that are the text of some report.
+-- The bytes are a text of some report.
 abbrev pub IsSomeReport : List ℕ → Type 0
 IsSomeReport bytes = (report : Report) × IsReportText bytes report
 
--- The numbers that a reason and a line say fit their fields.
+-- The numbers of a reason and of a line fit their fields.
 abbrev pub FitsReason : Reason → Type 0
 FitsReason Damaged = Unit {0}
 FitsReason Older = Unit {0}
@@ -99,8 +99,8 @@ FitsReportLine (line.Run number version) = (number < 2 ^ 8) × FitsFields versio
 FitsReportLine (line.Take number version) = (number < 2 ^ 8) × FitsFields version
 FitsReportLine (line.Refuse refusal) = (refusal.image < 2 ^ 8) × FitsReason refusal.reason
 
--- A report that has a text: one to eight images, at most eight refusals, and numbers that fit their
--- fields, as those of a report in memory do.
+-- A report that has a text: it has one to eight images and at most eight refusals, and its numbers
+-- fit their fields, as those of a report in memory do.
 pub record FitsReport (report : Report) : Type 0 where
   pub some : 1 ≤ length report.images.items
   pub most : length report.images.items ≤ MOST_IMAGES

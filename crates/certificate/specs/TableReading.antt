@@ -1,5 +1,5 @@
--- Reading a table line by line: what the lines so far say, and what one more line makes of it. The
--- reader follows these steps; what they mean is in `TableText`.
+-- Reading a table line by line: how one more line changes the images of the lines so far. The
+-- reader follows these steps. `TableText` defines what they mean.
 use Rattle.std.specs.Prelude.{ℕ, ◌==◌, ◌&&◌, List, [], ◌∷◌, ◌++◌, length, Option, Some, None, option_map, nat_lt, if◌then◌else◌}
 use Rattle.common.specs.Limits.{MOST_DEPENDENCIES, MOST_GROUPS, MOST_IMAGES}
 use Rattle.common.specs.Reading.{with_text}
@@ -25,7 +25,7 @@ new_entry version counter =
       groups = record { items = [] };
     }
 
--- An entry with one more dependency, where it may stand: before the groups, and at most 16.
+-- An entry with one more dependency. There are at most 16, and they come before the groups.
 abbrev pub with_dependency : Dependency → Entry → Option Entry
 with_dependency dependency entry =
     if (length entry.groups.items == 0)
@@ -34,15 +34,15 @@ with_dependency dependency entry =
       dependencies = record { items = entry.dependencies.items ++ dependency ∷ [] };
     }) else None
 
--- An entry with one more group, of at most 4.
+-- An entry with one more group. There are at most 4.
 abbrev pub with_group : Group → Entry → Option Entry
 with_group group entry =
     if nat_lt (length entry.groups.items) MOST_GROUPS
     then Some (record entry { groups = record { items = entry.groups.items ++ group ∷ [] } })
     else None
 
--- An image whose request is this, with one more need of its last entry: of the requested one where
--- there is one, else of the running one.
+-- An image with this request and one more dependency or group in its last entry. That is the
+-- requested entry if there is one, and else the running one.
 abbrev pub in_last_entry : (Entry → Option Entry) → Image → Request → Option Image
 in_last_entry with_one_more image request.None =
     option_map (λ entry. record image { running = entry }) (with_one_more image.running)
@@ -50,20 +50,20 @@ in_last_entry with_one_more image request.Damaged = None
 in_last_entry with_one_more image (request.Entry entry) =
     option_map (λ more. record image { request = request.Entry more }) (with_one_more entry)
 
--- An image with one more dependency, and with one more group.
+-- An image with one more dependency, or with one more group.
 abbrev pub with_needs : Dependency → Image → Option Image
 with_needs dependency image = in_last_entry (with_dependency dependency) image image.request
 
 abbrev pub with_needs_one : Group → Image → Option Image
 with_needs_one group image = in_last_entry (with_group group) image image.request
 
--- An image that had this request, with a new one, of at most one.
+-- An image that had this request, with a new one. There is at most one.
 abbrev pub with_request : Image → Request → Request → Option Image
 with_request image new request.None = Some (record image { request = new })
 with_request image new request.Damaged = None
 with_request image new (request.Entry entry) = None
 
--- An image with what a line after its first one says.
+-- An image with the meaning of a line after its first one.
 abbrev pub with_line : Image → TableLine → Option Image
 with_line image (line.Image number version counter floor) = None
 with_line image (line.Needs dependency) = with_needs dependency image
@@ -72,20 +72,21 @@ with_line image (line.Request version counter) =
     with_request image (request.Entry (new_entry version counter)) image.request
 with_line image line.Damaged = with_request image request.Damaged image.request
 
--- Images with what a line says of the last of them.
+-- Images, with the meaning of a line added to the last of them.
 unfoldable pub with_line_in_last : List Image → TableLine → Option (List Image)
 with_line_in_last [] said = None
 with_line_in_last (image ∷ []) said = option_map (λ more. more ∷ []) (with_line image said)
 with_line_in_last (image ∷ next ∷ images) said =
     option_map (λ more. image ∷ more) (with_line_in_last (next ∷ images) said)
 
--- Images with one more, of at most eight, whose number is the count of those before it.
+-- Images with one more. There are at most eight, and the number of the new one must be the count of
+-- those before it.
 abbrev pub with_image : List Image → ℕ → Image → Option (List Image)
 with_image images number image =
     if (number == length images) && nat_lt (length images) MOST_IMAGES
     then Some (images ++ image ∷ []) else None
 
--- Images with what one more line says.
+-- Images with the meaning of one more line.
 unfoldable pub with_line_of_images : List Image → TableLine → Option (List Image)
 with_line_of_images images (line.Image number version counter floor) =
     with_image images number
@@ -101,10 +102,10 @@ with_line_of_images images line.Damaged = with_line_in_last images line.Damaged
 abbrev pub table_of : List Image → Table
 table_of images = record { images = record { items = images } }
 
--- A table with what one more line says.
+-- A table with the meaning of one more line.
 abbrev pub with_table_line : Table → TableLine → Option Table
 with_table_line table said = option_map table_of (with_line_of_images table.images.items said)
 
--- A table with what one more line of text says.
+-- A table with the meaning of one more line of text.
 abbrev pub with_text_of_table : Table → List ℕ → Option Table
 with_text_of_table = with_text table_line_of with_table_line

@@ -1,4 +1,4 @@
--- The text of a table.
+-- The texts of a table.
 use Rattle.std.specs.Prelude.{◌≡◌, ℕ, ◌+◌, ◌^◌, ◌<◌, ◌≤◌, List, [], ◌∷◌, ◌++◌, length, map, codes, decimal}
 use Rattle.std.specs.List.{AllByRecursion, AllZip}
 use Rattle.common.specs.Limits.{MOST_DEPENDENCIES, MOST_GROUPS, MOST_IMAGES}
@@ -14,7 +14,7 @@ use Rattle.certificate.specs.declared.table_line.TableLine.{TableLine}
 use Rattle.certificate.specs.declared.table_line.TableLine.TheVariants as line
 use Rattle.certificate.specs.DependencyText.{needs_one_text, needs_text, FitsDependency, FitsGroup, IsNeedsOneText, IsNeedsText}
 
--- A line as it is printed, of numbers that fit their fields.
+-- The printed text of a line whose numbers fit their fields.
 abbrev pub table_line_text : TableLine → List ℕ
 table_line_text (line.Image number version counter floor) =
     codes "image" ␣ decimal number ␣ version_text version ␣ decimal counter ␣ decimal floor
@@ -24,8 +24,8 @@ table_line_text (line.Request version counter) =
     codes "request" ␣ version_text version ␣ decimal counter
 table_line_text line.Damaged = codes "damaged"
 
--- A text without its line feed says a line: words separated by one space, decimal numbers that fit
--- their fields, and for a version any of its texts.
+-- A text of a line, without its line feed: words separated by one space, decimal numbers that fit
+-- their fields, and any of the texts of a version.
 abbrev pub IsTableLineText : List ℕ → TableLine → Type 0
 IsTableLineText text (line.Image number version counter floor) =
     (number < 2 ^ 8) × (counter < 2 ^ 32) × (floor < 2 ^ 32)
@@ -39,23 +39,23 @@ IsTableLineText text (line.Request version counter) =
     × (text ≡ codes "request" ␣ spelled ␣ decimal counter)
 IsTableLineText text line.Damaged = text ≡ codes "damaged"
 
--- Groups, a line each.
+-- A line for each group.
 abbrev pub group_lines : List Group → List TableLine
 group_lines groups = map (λ group. line.NeedsOne group) groups
 
--- The dependencies of an entry, a line each, and then its groups.
+-- A line for each dependency of an entry, and then one for each group.
 abbrev pub needs_lines : Entry → List TableLine
 needs_lines entry =
     map (λ dependency. line.Needs dependency) entry.dependencies.items
     ++ group_lines entry.groups.items
 
--- What is requested: nothing, one line, or a line and those of what it needs.
+-- The lines of a request: none, one line, or a line and those of its dependencies and groups.
 abbrev pub request_lines : Request → List TableLine
 request_lines request.None = []
 request_lines request.Damaged = line.Damaged ∷ []
 request_lines (request.Entry entry) = line.Request entry.version entry.counter ∷ needs_lines entry
 
--- The lines of image number n: the running image, what it needs, and the request.
+-- The lines of image number n: the running image, its dependencies and groups, and the request.
 abbrev pub image_lines : ℕ → Image → List TableLine
 image_lines n image =
     line.Image n image.running.version image.running.counter image.floor
@@ -76,27 +76,28 @@ AsksForFew request.None = Unit {0}
 AsksForFew request.Damaged = Unit {0}
 AsksForFew (request.Entry entry) = HasFewNeeds entry
 
--- An image of few needs: what runs has few, and so has what is requested.
+-- The running entry of an image and the requested one have at most 16 dependencies and 4 groups
+-- each.
 abbrev pub IsSmall : Image → Type 0
 IsSmall image = HasFewNeeds image.running × AsksForFew image.request
 
--- The text of a table: one to eight images with at most 16 dependencies and 4 groups an entry, and
--- the lines say the table's lines, one after the other.
+-- A text of a table: there are one to eight images, with at most 16 dependencies and 4 groups an
+-- entry, and the lines of the text are those of the table in order.
 pub record IsTableText (bytes : List ℕ) (table : Table) : Type 0 where
   pub some : 1 ≤ length table.images.items
   pub most : length table.images.items ≤ MOST_IMAGES
   pub few : AllByRecursion IsSmall table.images.items
   pub lines : AllZip IsTableLineText (lines_of bytes) (table_lines 0 table.images.items)
 
--- Bytes that are the text of some table.
+-- The bytes are a text of some table.
 abbrev pub IsSomeTable : List ℕ → Type 0
 IsSomeTable bytes = (table : Table) × IsTableText bytes table
 
--- A table as it is printed.
+-- The printed text of a table.
 abbrev pub table_text : Table → List ℕ
 table_text table = printed_lines table_line_text (table_lines 0 table.images.items)
 
--- The numbers that a line says fit their fields.
+-- The numbers of a line fit their fields.
 abbrev pub FitsTableLine : TableLine → Type 0
 FitsTableLine (line.Image number version counter floor) =
     (number < 2 ^ 8) × FitsFields version × (counter < 2 ^ 32) × (floor < 2 ^ 32)
@@ -105,8 +106,8 @@ FitsTableLine (line.NeedsOne group) = FitsGroup group
 FitsTableLine (line.Request version counter) = FitsFields version × (counter < 2 ^ 32)
 FitsTableLine line.Damaged = Unit {0}
 
--- A table that has a text: one to eight images with at most 16 dependencies and 4 groups an entry,
--- one to four alternatives a group, and numbers that fit their fields, as those of a table in
+-- A table that has a text: it has one to eight images, with at most 16 dependencies and 4 groups an
+-- entry and one to four alternatives a group. Its numbers fit their fields, as those of a table in
 -- memory do.
 pub record FitsTable (table : Table) : Type 0 where
   pub some : 1 ≤ length table.images.items

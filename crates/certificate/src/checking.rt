@@ -1,4 +1,4 @@
-//! The checker: whether a report is right for a table.
+//! Checks whether a report is right for a table.
 
 ghost use Rattle.std.specs.Prelude.{◌≡◌, ◌↔◌, IsTrue};
 ghost use Rattle.certificate.specs.Combination.{IsGreatest};
@@ -12,20 +12,25 @@ mod requests;
 use crate::report::Report;
 use crate::table::Table;
 
-/// Whether a report is right for a table.
+/// Returns whether a report is right for a table.
 ///
-/// - `table`: what runs, what is requested, and the floors of the security counters.
+/// - `table`: the running and the requested images, and the floors of the security counters.
 /// - `report`: which requests are said to be taken, and why each other one is refused.
 ///
-/// Yes means: the report has the table's images, each with the version that it names for being
-/// taken or running on; taken and refused requests are all requests, each once; what is taken is a
-/// valid combination; and each refusal has a reason that holds after those before it. What is taken
-/// is then the greatest valid combination. The order of the refusals is free, as long as each
-/// reason holds at its place.
+/// The answer is yes exactly if all of these hold:
 ///
-/// No means that one of these fails, and doesn't say which. The answer depends on these two values
-/// alone, and not on how the report was made; any table and any report have one, also where their
-/// numbers of images differ. A yes doesn't say that the table is what the device has. Does not
+/// - The report has the table's images. The version of each is that of the taken request, or the
+///   running version.
+/// - Each request is either taken or refused, once, and nothing else is.
+/// - The taken requests are a valid combination.
+/// - Each refusal has a reason that holds after the refusals before it.
+///
+/// Then the taken requests are the greatest valid combination. The refusals may have any order in
+/// which each reason holds at its place.
+///
+/// A no doesn't say which of these fails. The answer depends on these two values alone, and not on
+/// how the report was made. There is an answer for any table and any report, also if their numbers
+/// of images differ. A yes doesn't say that the table is that of the device. The call doesn't
 /// allocate.
 pub fn check(table: &Table, report: &Report) -> bool
     ensures exact { IsTrue result ↔ IsRight table.now report.now }

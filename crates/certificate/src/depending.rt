@@ -1,4 +1,4 @@
-//! Which requests depend on an image, or have it as an alternative.
+//! Finds the requests that depend on an image or have it as an alternative.
 
 ghost use Rattle.std.specs.Prelude.{◌≡◌, ◌==◌, ℕ};
 ghost use Rattle.std.specs.Int.{bit_at};
@@ -10,9 +10,9 @@ ghost use Rattle.certificate.specs.Rightness.{once_if};
 use crate::table::{Entry, Image, Request, Table};
 use version_order::{Dependency, Group};
 
-/// The requests that depend on the image of a number, as a mask: bit i is set exactly where image i
-/// has an intact request with a dependency on it, or with a group of which it is an alternative, in
-/// any version. The image need not exist.
+/// Returns the requests that depend on image `number`, as a mask. Bit i is set exactly if image i
+/// has an intact request with a dependency on that image, or with a group of which that image is an
+/// alternative, in any version. The image doesn't need to exist.
 pub fn dependants(table: &Table, number: u8) -> u8
     ensures { (i : ℕ) → bit_at result i ≡ once_if (is_dependant table.now number i) }
 {
@@ -25,7 +25,7 @@ pub fn dependants(table: &Table, number: u8) -> u8
     mask
 }
 
-/// Whether the intact request of an image names the image of a number.
+/// Returns whether the intact request of an image names image `number`.
 fn asks_for(image: &Image, number: u8) -> bool
     ensures { result ≡ asks_for number image.now }
 {
@@ -35,14 +35,14 @@ fn asks_for(image: &Image, number: u8) -> bool
     }
 }
 
-/// Whether an entry depends on the image of a number, or has a group with it as an alternative.
+/// Returns whether an entry depends on image `number`, or has a group with it as an alternative.
 fn names(entry: &Entry, number: u8) -> bool
     ensures { result ≡ names entry.now number }
 {
     depends_on(entry, number) || is_alternative(&entry.groups, number)
 }
 
-/// Whether one of these groups has the image of a number as an alternative.
+/// Returns whether one of these groups has image `number` as an alternative.
 fn is_alternative(groups: &[Group], number: u8) -> bool
     ensures { result ≡ list_any (has_alternative number) groups.now }
 {
@@ -55,14 +55,14 @@ fn has_alternative(group: &Group, number: u8) -> bool
     has_image(&group.alternatives, number)
 }
 
-/// Whether an entry depends on the image of a number, in any version.
+/// Returns whether an entry depends on image `number`, in any version.
 fn depends_on(entry: &Entry, number: u8) -> bool
     ensures { result ≡ depends_on entry.now number }
 {
     has_image(&entry.dependencies, number)
 }
 
-/// Whether one of these dependencies or alternatives is on the image of a number.
+/// Returns whether one of these dependencies or alternatives is on image `number`.
 fn has_image(asked: &[Dependency], number: u8) -> bool
     ensures { result ≡ list_any (λ dependency. dependency.image == number) asked.now }
 {

@@ -1,5 +1,5 @@
-//! Tables of running and requested images, reports of a choice among them, and what makes a report
-//! right.
+//! Tables of running and requested images, reports of a choice among them, and the check that a
+//! report is right.
 //!
 //! - Promises: Tables and reports are read exactly, and a refusal names the first bad line. A yes
 //!   says that a report is right, and the set of a right report is the greatest valid one.

@@ -1,5 +1,4 @@
-//! How a dependency and a group are printed: in tables, in reports, and in what is said of an
-//! image.
+//! Prints dependencies and groups, in tables, in reports and in descriptions of an image.
 
 ghost use Rattle.std.specs.Prelude.{◌≡◌, IfOk, Some};
 ghost use Rattle.certificate.specs.DependencyText.{alternatives_text, needs_one_text, needs_text};
@@ -8,8 +7,8 @@ use crate::sink::{Sink, write_image_and_version};
 use std::fmt;
 use version_order::{Dependency, Group};
 
-/// A dependency as it is printed, `needs J VERSION`: image J in this version at least. Without a
-/// line feed.
+/// A dependency, printed as `needs J VERSION` without a line feed: image J in at least this
+/// version.
 #[derive(Clone, Copy, Debug, PartialEq, Eq)]
 pub struct Needs(pub Dependency);
 
@@ -21,8 +20,8 @@ impl fmt::Display for Needs {
     }
 }
 
-/// A group as it is printed, `needs-one J VERSION ..`: one of these images in its version at least.
-/// Without a line feed.
+/// A group, printed as `needs-one J VERSION ..` without a line feed: at least one of these images,
+/// in at least its version.
 #[derive(Clone, Copy, Debug, PartialEq, Eq)]
 pub struct NeedsOne<'a>(pub &'a Group);
 
@@ -34,7 +33,7 @@ impl<'a> fmt::Display for NeedsOne<'a> {
     }
 }
 
-/// A dependency as it is printed, without a line feed.
+/// Writes a dependency without a line feed.
 pub(crate) fn write_dependency<S: Sink>(
     sink: &mut S,
     dependency: &Dependency,
@@ -44,7 +43,7 @@ pub(crate) fn write_dependency<S: Sink>(
     write_image_and_version(sink, "needs ", dependency.image, &dependency.minimum)
 }
 
-/// A group as it is printed, without a line feed.
+/// Writes a group without a line feed.
 pub(crate) fn write_group<S: Sink>(sink: &mut S, group: &Group) -> Result<(), S::Error>
     ensures { IfOk result (λ done. S.takes sink.old (needs_one_text group.now) sink.new) }
 {
@@ -52,7 +51,7 @@ pub(crate) fn write_group<S: Sink>(sink: &mut S, group: &Group) -> Result<(), S:
     write_alternatives(sink, group.alternatives.as_slice())
 }
 
-// For each alternative a space, the number of its image, a space, and its version.
+// Writes for each alternative a space, the number of its image, a space, and its version.
 fn write_alternatives<S: Sink>(sink: &mut S, alternatives: &[Dependency]) -> Result<(), S::Error>
     ensures { IfOk result (λ done. S.takes sink.old (alternatives_text alternatives.now) sink.new) }
 {

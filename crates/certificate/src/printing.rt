@@ -1,4 +1,4 @@
-//! How tables and reports are printed: a line for each thing they say, each ended by a line feed.
+//! Prints tables and reports: one line for each statement, followed by a line feed.
 
 ghost use Rattle.std.specs.Prelude.{◌≤◌, ◌++◌, ◌∷◌, [], IfOk, Some, length};
 ghost use Rattle.common.specs.Lines.{printed_lines};
@@ -16,7 +16,7 @@ use std::fmt;
 use version_order::Group;
 
 impl Table {
-    /// Writes the text of the table, as it is printed, to a sink.
+    /// Writes the printed text of the table to a sink.
     pub fn write_to<S: Sink>(&self, sink: &mut S) -> Result<(), S::Error>
         ensures { IfOk result (λ done. S.takes sink.old (table_text self.now) sink.new) }
     {
@@ -25,7 +25,7 @@ impl Table {
 }
 
 impl Report {
-    /// Writes the text of the report, as it is printed, to a sink.
+    /// Writes the printed text of the report to a sink.
     pub fn write_to<S: Sink>(&self, sink: &mut S) -> Result<(), S::Error>
         ensures { IfOk result (λ done. S.takes sink.old (report_text self.now) sink.new) }
     {
@@ -58,7 +58,7 @@ impl fmt::Display for Reason {
     }
 }
 
-// The lines of the images, numbered from 0.
+// Writes the lines of the images, numbered from 0.
 fn write_images<S: Sink>(sink: &mut S, images: &[Image]) -> Result<(), S::Error>
     requires { length images.now ≤ MOST_IMAGES }
     ensures { IfOk result (λ done. S.takes sink.old
@@ -70,7 +70,7 @@ fn write_images<S: Sink>(sink: &mut S, images: &[Image]) -> Result<(), S::Error>
     Ok(())
 }
 
-// What runs, what it needs, and what is requested in its place.
+// Writes the running image, its dependencies and groups, and the request.
 fn write_image<S: Sink>(sink: &mut S, number: u8, image: &Image) -> Result<(), S::Error>
     ensures { IfOk result (λ done. S.takes sink.old
         (printed_lines table_line_text (image_lines number image.now)) sink.new) }
@@ -86,7 +86,7 @@ fn write_image<S: Sink>(sink: &mut S, number: u8, image: &Image) -> Result<(), S
     write_request(sink, &image.request)
 }
 
-// What is requested.
+// Writes the request of an image.
 fn write_request<S: Sink>(sink: &mut S, request: &Request) -> Result<(), S::Error>
     ensures { IfOk result (λ done. S.takes sink.old
         (printed_lines table_line_text (request_lines request.now)) sink.new) }
@@ -105,7 +105,7 @@ fn write_request<S: Sink>(sink: &mut S, request: &Request) -> Result<(), S::Erro
     }
 }
 
-// The dependencies of an entry, and then its groups.
+// Writes the dependencies of an entry, and then its groups.
 fn write_needs<S: Sink>(sink: &mut S, entry: &Entry) -> Result<(), S::Error>
     ensures { IfOk result (λ done. S.takes sink.old
         (printed_lines table_line_text (needs_lines entry.now)) sink.new) }
@@ -116,7 +116,7 @@ fn write_needs<S: Sink>(sink: &mut S, entry: &Entry) -> Result<(), S::Error>
     write_groups(sink, entry.groups.as_slice())
 }
 
-// Groups, a line each.
+// Writes a line for each group.
 fn write_groups<S: Sink>(sink: &mut S, groups: &[Group]) -> Result<(), S::Error>
     ensures { IfOk result (λ done. S.takes sink.old
         (printed_lines table_line_text (group_lines groups.now)) sink.new) }
@@ -128,7 +128,7 @@ fn write_groups<S: Sink>(sink: &mut S, groups: &[Group]) -> Result<(), S::Error>
     Ok(())
 }
 
-// One line.
+// Writes one line with its line feed.
 fn write_line<S: Sink>(sink: &mut S, line: &TableLine) -> Result<(), S::Error>
     ensures { IfOk result (λ done. S.takes sink.old (table_line_text line.now ++ 10 ∷ []) sink.new) }
 {
@@ -136,7 +136,7 @@ fn write_line<S: Sink>(sink: &mut S, line: &TableLine) -> Result<(), S::Error>
     sink.put("\n")
 }
 
-// What one line says.
+// Writes one line without its line feed.
 fn write_words<S: Sink>(sink: &mut S, line: &TableLine) -> Result<(), S::Error>
     ensures { IfOk result (λ done. S.takes sink.old (table_line_text line.now) sink.new) }
 {
@@ -162,7 +162,7 @@ fn write_words<S: Sink>(sink: &mut S, line: &TableLine) -> Result<(), S::Error>
     }
 }
 
-// What becomes of the images, numbered from 0.
+// Writes the lines of a report's images, numbered from 0.
 fn write_reported_images<S: Sink>(sink: &mut S, images: &[ReportedImage]) -> Result<(), S::Error>
     requires { length images.now ≤ MOST_IMAGES }
     ensures { IfOk result (λ done. S.takes sink.old
@@ -174,7 +174,7 @@ fn write_reported_images<S: Sink>(sink: &mut S, images: &[ReportedImage]) -> Res
     Ok(())
 }
 
-// What becomes of one image.
+// Writes the line of one image of a report.
 fn write_reported_image<S: Sink>(
     sink: &mut S,
     number: u8,
@@ -188,7 +188,7 @@ fn write_reported_image<S: Sink>(
     sink.put("\n")
 }
 
-// The refusals, in order.
+// Writes the refusals in order.
 fn write_refusals<S: Sink>(sink: &mut S, refusals: &[Refusal]) -> Result<(), S::Error>
     ensures { IfOk result (λ done. S.takes sink.old
         (printed_lines report_line_text (refuse_lines refusals.now)) sink.new) }
@@ -199,7 +199,7 @@ fn write_refusals<S: Sink>(sink: &mut S, refusals: &[Refusal]) -> Result<(), S::
     Ok(())
 }
 
-// One refusal.
+// Writes one refusal.
 fn write_refusal<S: Sink>(sink: &mut S, refusal: &Refusal) -> Result<(), S::Error>
     ensures { IfOk result (λ done. S.takes sink.old
         (report_line_text (line.Refuse refusal.now) ++ 10 ∷ []) sink.new) }
@@ -210,7 +210,7 @@ fn write_refusal<S: Sink>(sink: &mut S, refusal: &Refusal) -> Result<(), S::Erro
     sink.put("\n")
 }
 
-// A reason as it is printed.
+// Writes a reason.
 fn write_reason<S: Sink>(sink: &mut S, reason: &Reason) -> Result<(), S::Error>
     ensures { IfOk result (λ done. S.takes sink.old (reason_text reason.now) sink.new) }
 {

@@ -4,7 +4,7 @@ use arrayvec::ArrayVec;
 use common::limits::MOST_IMAGES;
 use version_order::{Group, Version};
 
-/// How many refusals a report has at most: one an image.
+/// The most refusals of a report: one an image.
 pub const MOST_REFUSALS: usize = 8;
 
 /// Why a request is refused. The numbers of the reasons are 1 to 6, in this order.
@@ -20,13 +20,14 @@ pub enum Reason {
     /// It depends on this image number, which the device doesn't have.
     NoSuchImage(u8),
     /// It depends on this image with at least this version, and no version of the image that is
-    /// still possible reaches it.
+    /// still possible is high enough.
     Needs(u8, Version),
-    /// It has this group, and no version that is still possible reaches any of its alternatives.
+    /// It has this group, and for none of its alternatives a version that is still possible is high
+    /// enough.
     NeedsOne(Group),
 }
 
-/// A request that is refused, and why.
+/// A refused request and the reason.
 #[derive(Clone, Debug, Default, Drop, PartialEq, Eq)]
 pub struct Refusal {
     /// The number of the image whose request is refused.
@@ -35,17 +36,18 @@ pub struct Refusal {
     pub reason: Reason,
 }
 
-/// What becomes of one image.
+/// The result for one image.
 #[derive(Clone, Copy, Debug, Default, PartialEq, Eq)]
 pub struct ReportedImage {
-    /// Whether its request is taken; if not, it runs on.
+    /// Whether its request is taken. If not, the image runs on.
     pub is_taken: bool,
-    /// The version that runs then: the requested one where it is taken, else the running one.
+    /// The version that runs then: that of the request if it is taken, and else the running
+    /// version.
     pub version: Version,
 }
 
-/// The answer to a table: for each image whether its request is taken, and for each other request
-/// why not.
+/// The result of a choice for a table: for each image whether its request is taken, and for each
+/// other request why not.
 #[derive(Clone, Debug, Default, Drop, PartialEq, Eq)]
 pub struct Report {
     /// The images, in the order of their numbers from 0; at most 8.

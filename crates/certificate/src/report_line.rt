@@ -8,7 +8,7 @@ use crate::table_line::{DAMAGED, NEEDS, NEEDS_ONE, group, image_and_version};
 use common::ascii::{cut, number_u8};
 use version_order::Version;
 
-/// What one line of a report says.
+/// The meaning of one line of a report.
 #[derive(Drop)]
 pub enum ReportLine {
     /// `run I VERSION`: image I runs on.
@@ -29,7 +29,7 @@ pub enum ReportLine {
     Refuse(Refusal),
 }
 
-// The words that lines and reasons begin with.
+// The first words of lines and reasons.
 const RUN: &[u8] = b"run";
 
 const TAKE: &[u8] = b"take";
@@ -43,7 +43,7 @@ const COUNTER: &[u8] = b"counter";
 const NO_SUCH_IMAGE: &[u8] = b"no-such-image";
 
 impl ReportLine {
-    /// The line that a text says, `None` where it says none. The text has no line feed at its end.
+    /// Reads one line without its line feed. Returns `None` if it isn't a line of a report.
     #[tactic(auto, unfolding(crate::specs::LineReading::report_line_of))]
     pub(crate) fn read(line: &[u8]) -> Option<ReportLine>
         ensures { result ≡ report_line_of line.now }
@@ -63,7 +63,7 @@ impl ReportLine {
     }
 }
 
-// What follows `run`.
+// Reads the fields after `run`.
 #[tactic(auto, unfolding(crate::specs::LineReading::run_line_of))]
 fn run_line(fields: &[u8]) -> Option<ReportLine>
     ensures { result ≡ run_line_of fields.now }
@@ -72,7 +72,7 @@ fn run_line(fields: &[u8]) -> Option<ReportLine>
     Some(ReportLine::Run { number, version })
 }
 
-// What follows `take`.
+// Reads the fields after `take`.
 #[tactic(auto, unfolding(crate::specs::LineReading::take_line_of))]
 fn take_line(fields: &[u8]) -> Option<ReportLine>
     ensures { result ≡ take_line_of fields.now }
@@ -81,7 +81,7 @@ fn take_line(fields: &[u8]) -> Option<ReportLine>
     Some(ReportLine::Take { number, version })
 }
 
-// What follows `refuse`.
+// Reads the fields after `refuse`.
 #[tactic(auto, unfolding(crate::specs::LineReading::refuse_line_of))]
 fn refuse_line(fields: &[u8]) -> Option<ReportLine>
     ensures { result ≡ refuse_line_of fields.now }
@@ -94,7 +94,7 @@ fn refuse_line(fields: &[u8]) -> Option<ReportLine>
     Some(ReportLine::Refuse(Refusal { image, reason }))
 }
 
-// The reason that a text says.
+// Reads a reason.
 #[tactic(auto, unfolding(crate::specs::LineReading::reason_of))]
 fn reason(text: &[u8]) -> Option<Reason>
     ensures { result ≡ reason_of text.now }
@@ -113,7 +113,7 @@ fn reason(text: &[u8]) -> Option<Reason>
     }
 }
 
-// The reason that begins with a word, with fields after it.
+// Reads the fields of a reason that begins with `word`.
 fn reason_with_fields(word: &[u8], fields: &[u8]) -> Option<Reason>
     ensures { result ≡ reason_at word.now fields.now }
 {

@@ -1,4 +1,4 @@
-//! Reading a report, line by line.
+//! Reads a report line by line.
 
 ghost use Rattle.std.specs.Prelude.{◌≡◌, Ok, Some, None, IfOk, IfErr, MatchBool};
 ghost use Rattle.common.specs.Lines.{IsFirstBadLine};
@@ -13,23 +13,27 @@ use common::lines::{TakesLines, read_lines};
 impl Report {
     /// Reads the text of a report.
     ///
-    /// For each image in order `run I VERSION` or `take I VERSION`; then for each refusal in order
-    /// `refuse I` followed by `damaged`, `older`, `counter`, `no-such-image J`, `needs J VERSION`
-    /// or `needs-one J VERSION ..` with one to four pairs. One to eight images, at most eight
-    /// refusals. Words are separated by one space and numbers are decimal without leading zeros;
-    /// the last line's line feed may be missing. A byte that isn't ASCII breaks the line that it
-    /// stands in. Does not allocate.
+    /// - First comes a line for each image in order, `run I VERSION` or `take I VERSION`: one to
+    ///   eight images.
+    /// - Then comes a line for each refusal in order, at most eight: `refuse I` followed by
+    ///   `damaged`, `older`, `counter`, `no-such-image J`, `needs J VERSION` or `needs-one J
+    ///   VERSION ..` with one to four pairs.
+    ///
+    /// Words are separated by one space, and numbers are decimal without leading zeros. The last
+    /// line's line feed may be missing. A line with a byte that isn't ASCII is bad. The call
+    /// doesn't allocate.
     ///
     /// # Errors
-    /// [`BadReport`] names the first line, counted from 1, that no report goes on from.
+    /// [`BadReport`] has the number of the first line, counted from 1, with which no report
+    /// continues.
     pub fn parse(text: &[u8]) -> Result<Report, BadReport>
-        // What is read is spelled so ..
+        // A report that is read has this text.
         ensures spelled { IfOk result (λ report. IsReportText text.now report) }
-        // .. and fits its fields.
+        // A report that is read fits its fields.
         ensures fits { IfOk result FitsReport }
-        // What is spelled so is read.
+        // Any text of a report is read as that report.
         ensures only { (report : Report) → IsReportText text.now report → result ≡ Ok report }
-        // Which line is refused.
+        // The line that an error names.
         ensures line { IfErr result (λ bad. IsFirstBadLine IsSomeReport text.now bad.0) }
     {
         let mut report = Report::default();
@@ -54,8 +58,8 @@ impl TakesLines for Report {
     }
 }
 
-/// Adds what a line says to the report that the lines before it told; `false` where no report has
-/// such a line there.
+/// Adds the meaning of a line to the report of the lines before it. Returns `false` if no report
+/// has such a line there.
 #[tactic(auto, unfolding(crate::specs::ReportReading::with_report_line))]
 fn place_line(report: &mut Report, line: ReportLine) -> bool
     ensures { MatchBool result (with_report_line report.old line ≡ Some report.new)

@@ -1,4 +1,4 @@
-//! What a text is written to, piece by piece, and how numbers and versions are written.
+//! The trait of what a text is written to, and the writing of numbers and versions.
 
 ghost use Rattle.std.specs.Prelude.{ℕ, List, [], ◌++◌, IfOk, decimal};
 ghost use Rattle.common.specs.Lines.{◌␣◌};
@@ -8,24 +8,24 @@ use itoa::Buffer;
 use std::fmt;
 use version_order::Version;
 
-/// What a text is written to, piece by piece: a formatter, or what a caller above makes one.
+/// A destination to which a text is written piece by piece: a formatter, or one of a caller's own.
 ///
-/// With `Infallible` as its error a whole text is written, and its contract has no other case.
+/// If its error is `Infallible`, the complete text is written, and the contract has no other case.
 pub trait Sink {
-    /// Why a sink takes no more: `Infallible` if it takes every text.
+    /// Why a sink accepts no more. It is `Infallible` if it accepts every text.
     type Error: Drop;
 
-    // The sink takes this text, and is that one then.
+    // The sink accepts this text, and is the second sink after that.
     ghost takes: { Self → List ℕ → Self → Type 0 };
 
-    /// Takes the next piece.
+    /// Accepts the next piece.
     fn put(&mut self, piece: &str) -> Result<(), Self::Error>
         ensures { IfOk result (λ done. takes self.old piece.now self.new) };
 
-    // A sink that takes nothing is as it was, ..
+    // A sink that accepts the empty text is unchanged.
     ghost takes_nothing: { (sink : Self) → takes sink [] sink };
 
-    // .. and what it takes in a row is one text.
+    // Two texts that a sink accepts one after the other are one text.
     ghost takes_both: { (first second third : Self) → (before after : List ℕ)
         → takes first before second → takes second after third
         → takes first (before ++ after) third };
@@ -55,7 +55,7 @@ impl<W: fmt::Write> Sink for fmt::Formatter<W> {
         put_two W.write_str_gives _ _ _ _ _ _ written (more written.plain) refl };
 }
 
-/// A text, and after it a number in decimal.
+/// Writes a text, followed by a number in decimal.
 pub(crate) fn write_number<S: Sink>(sink: &mut S, before: &str, number: u32) -> Result<(), S::Error>
     ensures { IfOk result (λ done. S.takes sink.old (before.now ++ decimal number) sink.new) }
 {
@@ -64,7 +64,7 @@ pub(crate) fn write_number<S: Sink>(sink: &mut S, before: &str, number: u32) -> 
     sink.put(digits.format(number))
 }
 
-/// A version as it is printed.
+/// Writes a version.
 pub(crate) fn write_version<S: Sink>(sink: &mut S, version: &Version) -> Result<(), S::Error>
     ensures { IfOk result (λ done. S.takes sink.old (version_text version.now) sink.new) }
 {
@@ -74,7 +74,7 @@ pub(crate) fn write_version<S: Sink>(sink: &mut S, version: &Version) -> Result<
     write_number(sink, "+", version.build)
 }
 
-/// A text, and after it the number of an image and, after a space, a version.
+/// Writes a text, followed by the number of an image, a space and a version.
 pub(crate) fn write_image_and_version<S: Sink>(
     sink: &mut S,
     before: &str,

@@ -6,10 +6,10 @@ ghost use Rattle.certificate.specs.LineReading.{alternative_of, group_of, image_
 use common::ascii::{cut, number, number_u8};
 use version_order::{Dependency, Group, Version};
 
-/// What one line of a table says.
+/// The meaning of one line of a table.
 #[derive(Drop)]
 pub enum TableLine {
-    /// `image I VERSION COUNTER FLOOR` begins image I: what runs, and the floor.
+    /// `image I VERSION COUNTER FLOOR` begins image I: the running image, and the floor.
     Image {
         /// The number of the image.
         number: u8,
@@ -24,7 +24,7 @@ pub enum TableLine {
     /// one.
     Needs(Dependency),
     /// `needs-one J VERSION ..`, a group of the running image or, after `request`, of the requested
-    /// one: behind its dependencies.
+    /// one. It comes after the dependencies.
     NeedsOne(Group),
     /// `request VERSION COUNTER`, an intact request.
     Request {
@@ -37,13 +37,13 @@ pub enum TableLine {
     Damaged,
 }
 
-// The words that lines begin with.
+// The first words of lines.
 const IMAGE: &[u8] = b"image";
 
-/// The first word of a dependency, and of the reason that one isn't met.
+/// The first word of a dependency, and of the reason that one is out of reach.
 pub(crate) const NEEDS: &[u8] = b"needs";
 
-/// The first word of a group, and of the reason that one isn't met.
+/// The first word of a group, and of the reason that one is out of reach.
 pub(crate) const NEEDS_ONE: &[u8] = b"needs-one";
 
 const REQUEST: &[u8] = b"request";
@@ -52,7 +52,7 @@ const REQUEST: &[u8] = b"request";
 pub(crate) const DAMAGED: &[u8] = b"damaged";
 
 impl TableLine {
-    /// The line that a text says, `None` where it says none. The text has no line feed at its end.
+    /// Reads one line without its line feed. Returns `None` if it isn't a line of a table.
     #[tactic(auto, unfolding(crate::specs::LineReading::table_line_of))]
     pub(crate) fn read(line: &[u8]) -> Option<TableLine>
         ensures { result ≡ table_line_of line.now }
@@ -77,7 +77,7 @@ impl TableLine {
     }
 }
 
-// What follows `image`.
+// Reads the fields after `image`.
 #[tactic(auto, unfolding(crate::specs::LineReading::image_line_of))]
 fn image_line(fields: &[u8]) -> Option<TableLine>
     ensures { result ≡ image_line_of fields.now }
@@ -99,7 +99,7 @@ fn image_line(fields: &[u8]) -> Option<TableLine>
     })
 }
 
-// What follows `needs`.
+// Reads the fields after `needs`.
 #[tactic(auto, unfolding(crate::specs::LineReading::needs_line_of))]
 fn needs_line(fields: &[u8]) -> Option<TableLine>
     ensures { result ≡ needs_line_of fields.now }
@@ -108,7 +108,7 @@ fn needs_line(fields: &[u8]) -> Option<TableLine>
     Some(TableLine::Needs(Dependency { image, minimum }))
 }
 
-// What follows `request`.
+// Reads the fields after `request`.
 #[tactic(auto, unfolding(crate::specs::LineReading::request_line_of))]
 fn request_line(fields: &[u8]) -> Option<TableLine>
     ensures { result ≡ request_line_of fields.now }
@@ -121,7 +121,7 @@ fn request_line(fields: &[u8]) -> Option<TableLine>
     Some(TableLine::Request { version, counter })
 }
 
-/// The number of an image and a version, `None` where the fields are no such two.
+/// Reads the number of an image and a version. Returns `None` if the fields are something else.
 #[tactic(auto, unfolding(crate::specs::LineReading::image_and_version_of))]
 pub(crate) fn image_and_version(fields: &[u8]) -> Option<(u8, Version)>
     ensures { result ≡ image_and_version_of fields.now }
@@ -134,7 +134,7 @@ pub(crate) fn image_and_version(fields: &[u8]) -> Option<(u8, Version)>
     Some((image, version))
 }
 
-/// One to four alternatives, `None` where the fields are no such group.
+/// Reads one to four alternatives. Returns `None` if the fields are something else.
 pub(crate) fn group(fields: &[u8]) -> Option<Group>
     ensures { result ≡ group_of fields.now }
 {
@@ -150,7 +150,7 @@ pub(crate) fn group(fields: &[u8]) -> Option<Group>
     Some(group)
 }
 
-// The alternative that two words say.
+// Reads the two words of an alternative.
 #[tactic(auto, unfolding(crate::specs::LineReading::alternative_of))]
 fn alternative(image: &[u8], minimum: &[u8]) -> Option<Dependency>
     ensures { result ≡ alternative_of image.now minimum.now }

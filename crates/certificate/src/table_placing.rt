@@ -1,4 +1,4 @@
-//! Placing one more line of a table: what it says of the image that it belongs to.
+//! Adds the meaning of one more line of a table to the image that it is about.
 
 ghost use Rattle.std.specs.Prelude.{◌≡◌, Some, None, MatchBool};
 ghost use Rattle.certificate.specs.TableReading.{new_entry, with_dependency, with_group, with_needs, with_needs_one, with_request, with_line, with_line_in_last, with_image, with_line_of_images};
@@ -9,8 +9,8 @@ use arrayvec::ArrayVec;
 use common::limits::MOST_IMAGES;
 use version_order::{Dependency, Group, Version};
 
-/// Adds what a line says to the images that the lines before it told. `false` where no table has
-/// such a line there; the images are of no use then.
+/// Adds the meaning of a line to the images of the lines before it. Returns `false` if no table has
+/// such a line there. Then the images must not be used.
 #[tactic(auto, unfolding(crate::specs::TableReading::with_line_of_images))]
 pub(crate) fn place_line(images: &mut ArrayVec<Image, MOST_IMAGES>, line: TableLine) -> bool
     ensures { MatchBool result (with_line_of_images images.old.items line ≡ Some images.new.items)

@@ -1,4 +1,4 @@
-//! Reading a table, line by line.
+//! Reads a table line by line.
 
 ghost use Rattle.std.specs.Prelude.{◌≡◌, Ok, IfOk, IfErr};
 ghost use Rattle.common.specs.Lines.{IsFirstBadLine};
@@ -12,27 +12,31 @@ use crate::table_placing::place_line;
 use common::lines::{TakesLines, read_lines};
 
 impl Table {
-    /// Reads the text of a table.
+    /// Reads the text of a table: one to eight images, in the order of their numbers from 0. Each
+    /// image has these lines, in this order:
     ///
-    /// `image I VERSION COUNTER FLOOR` begins image I, which is the number of image lines before
-    /// it. After it come `needs J VERSION` and then `needs-one J VERSION ..` for the running image;
-    /// then at most one of `request VERSION COUNTER`, followed by `needs` and then `needs-one` for
-    /// the request, and `damaged`. One to eight images; at most 16 `needs` and at most four
-    /// `needs-one` each for what runs and for what is requested; one to four pairs `J VERSION` in a
-    /// `needs-one`. Words are separated by one space and numbers are decimal without leading zeros;
-    /// the last line's line feed may be missing. A byte that isn't ASCII breaks the line that it
-    /// stands in. Does not allocate.
+    /// - `image I VERSION COUNTER FLOOR` for image I.
+    /// - At most 16 lines `needs J VERSION` for the running image.
+    /// - At most four lines `needs-one J VERSION ..` for the running image, with one to four pairs
+    ///   each.
+    /// - If something is requested, either `damaged`, or `request VERSION COUNTER` followed by
+    ///   `needs` and then `needs-one` lines for the request, with the same limits.
+    ///
+    /// Words are separated by one space, and numbers are decimal without leading zeros. The last
+    /// line's line feed may be missing. A line with a byte that isn't ASCII is bad. The call
+    /// doesn't allocate.
     ///
     /// # Errors
-    /// [`BadTable`] names the first line, counted from 1, that no table goes on from.
+    /// [`BadTable`] has the number of the first line, counted from 1, with which no table
+    /// continues.
     pub fn parse(text: &[u8]) -> Result<Table, BadTable>
-        // What is read is spelled so ..
+        // A table that is read has this text.
         ensures spelled { IfOk result (λ table. IsTableText text.now table) }
-        // .. and fits its fields.
+        // A table that is read fits its fields.
         ensures fits { IfOk result FitsTable }
-        // What is spelled so is read.
+        // Any text of a table is read as that table.
         ensures only { (table : Table) → IsTableText text.now table → result ≡ Ok table }
-        // Which line is refused.
+        // The line that an error names.
         ensures line { IfErr result (λ bad. IsFirstBadLine IsSomeTable text.now bad.0) }
     {
         let mut table = Table::default();

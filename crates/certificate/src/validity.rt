@@ -1,4 +1,4 @@
-//! Whether the running images fit each other.
+//! Checks whether the running images fit each other.
 
 ghost use Rattle.std.specs.List.{list_all};
 ghost use Rattle.std.specs.Prelude.{◌≡◌, ◌↔◌, IsTrue};
@@ -7,8 +7,8 @@ ghost use Rattle.certificate.specs.Combination.{IsValid, is_group_met, is_met, m
 use crate::table::{Image, Table};
 use version_order::{Dependency, Group};
 
-/// Whether the dependencies and groups of the running images are met by the running versions, so
-/// that the combination that takes no request is valid (MCUboot, dependency check). A table of no
+/// Returns whether the running versions meet the dependencies and groups of the running images.
+/// Then the combination that takes no request is valid (MCUboot, dependency check). A table of no
 /// images is valid.
 #[tactic(auto, using(crate::proofs::RunningSet::running_set_is_valid))]
 pub fn is_valid(table: &Table) -> bool
@@ -17,7 +17,7 @@ pub fn is_valid(table: &Table) -> bool
     table.images.iter().all(|image| can_run_on(table, image))
 }
 
-/// Whether the dependencies and groups of a running image are met by the running versions.
+/// Returns whether the running versions meet the dependencies and groups of a running image.
 fn can_run_on(table: &Table, image: &Image) -> bool
     ensures { result ≡ meets_all table.now running_set image.now.running }
 {
@@ -41,7 +41,7 @@ fn meets_groups(table: &Table, groups: &[Group]) -> bool
         .all(|group| is_group_met_by_running(table, group))
 }
 
-/// Whether one alternative of a group at least is met by the running versions.
+/// Returns whether the running versions meet at least one alternative of a group.
 fn is_group_met_by_running(table: &Table, group: &Group) -> bool
     ensures { result ≡ is_group_met table.now running_set group.now }
 {

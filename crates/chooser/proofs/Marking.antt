@@ -69,7 +69,7 @@ unmarked marks none i =
     fails_for_none true n none = absurd (none-some n (sym none))
     fails_for_none false n none = refl
 
--- no value
+-- No value.
 none_left : {X : Type 0} (o : Option X) → is_some o ≡ false → o ≡ None
 none_left None none = refl
 none_left (Some x) none = absurd (false≢true (sym none))

@@ -1,4 +1,4 @@
-//! The combination that a report takes.
+//! Checks the combination of requests that a report takes.
 
 ghost use Rattle.std.specs.List.{list_all};
 ghost use Rattle.std.specs.Prelude.{◌≡◌, ◌↔◌, ℕ, IsTrue};
@@ -10,14 +10,14 @@ use crate::report::Report;
 use crate::table::{Image, Request, Table};
 use version_order::{Dependency, Group};
 
-/// Whether what a report takes is a valid combination.
+/// Returns whether the requests that a report takes are a valid combination.
 pub(super) fn takes_a_valid_combination(table: &Table, report: &Report) -> bool
     ensures { IsTrue result ↔ IsValid table.now (taken_in report.now) }
 {
     has_acceptable_members(table, report) && meets_all_dependencies(table, report)
 }
 
-/// Whether each request that a report takes is acceptable.
+/// Returns whether each request that a report takes is acceptable.
 fn has_acceptable_members(table: &Table, report: &Report) -> bool
     ensures { IsTrue result
         ↔ ((j : ℕ) → IsTrue (taken_in report.now j) → IsAcceptable table.now j) }
@@ -30,8 +30,8 @@ fn has_acceptable_members(table: &Table, report: &Report) -> bool
     true
 }
 
-/// Whether a table has an image `number` with an intact request that isn't older than the running
-/// image, with a security counter not below the floor.
+/// Returns whether a table has an image `number` with an acceptable request: it is intact, it isn't
+/// older than the running image, and its security counter isn't below the floor.
 fn is_acceptable(table: &Table, number: usize) -> bool
     ensures { IsTrue result ↔ IsAcceptable table.now number }
 {
@@ -46,8 +46,8 @@ fn is_acceptable(table: &Table, number: usize) -> bool
     }
 }
 
-/// Whether all dependencies and groups of all images, those taken and those that run on, are met by
-/// what a report takes.
+/// Returns whether the combination of a report meets all dependencies and groups of all images, of
+/// those that are taken and those that run on.
 fn meets_all_dependencies(table: &Table, report: &Report) -> bool
     ensures { IsTrue result
         ↔ ((j : ℕ) → HasMetDependencies table.now (taken_in report.now) j) }
@@ -60,8 +60,8 @@ fn meets_all_dependencies(table: &Table, report: &Report) -> bool
     true
 }
 
-/// Whether all dependencies and groups of image `number`, taken or running on, are met by what a
-/// report takes.
+/// Returns whether the combination of a report meets all dependencies and groups of image `number`,
+/// which is taken or runs on.
 fn can_run_on(table: &Table, report: &Report, number: usize, image: &Image) -> bool
     ensures { result
         ≡ meets_all table.now (taken_in report.now)
@@ -88,7 +88,7 @@ fn meets_groups(table: &Table, report: &Report, groups: &[Group]) -> bool
         .all(|group| is_group_met(table, report, group))
 }
 
-/// Whether what a report takes meets one alternative of a group at least.
+/// Returns whether the combination of a report meets at least one alternative of a group.
 fn is_group_met(table: &Table, report: &Report, group: &Group) -> bool
     ensures { result ≡ is_group_met table.now (taken_in report.now) group.now }
 {
@@ -98,7 +98,7 @@ fn is_group_met(table: &Table, report: &Report, group: &Group) -> bool
         .any(|alternative| is_met(table, report, alternative))
 }
 
-/// Whether what a report takes meets a dependency.
+/// Returns whether the combination of a report meets a dependency.
 fn is_met(table: &Table, report: &Report, dependency: &Dependency) -> bool
     ensures { result ≡ is_met table.now (taken_in report.now) dependency.now }
 {

@@ -1,4 +1,4 @@
-//! The images of a report: as many as the table has, each with its version.
+//! Checks the images of a report: their number, and the version of each.
 
 ghost use Rattle.std.specs.Prelude.{◌≡◌, ◌↔◌, ℕ, length, IsTrue};
 ghost use Rattle.certificate.specs.Combination.{entry_in};
@@ -7,15 +7,15 @@ ghost use Rattle.certificate.specs.Rightness.{taken_in, HasVersionAt, HasVersion
 use crate::report::Report;
 use crate::table::{Entry, Image, Request, Table};
 
-/// Whether a report has as many images as the table.
+/// Returns whether a report has the same number of images as the table.
 pub(super) fn has_as_many_images(table: &Table, report: &Report) -> bool
     ensures { IsTrue result ↔ (length report.now.images.items ≡ length table.now.images.items) }
 {
     report.images.len() == table.images.len()
 }
 
-/// Whether each image that a table and a report both have is reported with the version that it
-/// names for being taken or running on.
+/// Returns whether each image that a table and a report both have is reported with its version:
+/// that of the taken request, or the running version.
 pub(super) fn has_the_versions(table: &Table, report: &Report) -> bool
     ensures { IsTrue result
         ↔ ((j : ℕ) → HasVersionAt table.now report.now j) }
@@ -28,8 +28,8 @@ pub(super) fn has_the_versions(table: &Table, report: &Report) -> bool
     true
 }
 
-/// Whether a report that has an image `number` has it with the version that it names for being
-/// taken or running on.
+/// Returns whether a report that has an image `number` has it with its version: that of the taken
+/// request, or the running version.
 fn has_its_version(report: &Report, number: usize, image: &Image) -> bool
     ensures { IsTrue result ↔ HasVersionOf report.now number image.now }
 {
@@ -39,8 +39,8 @@ fn has_its_version(report: &Report, number: usize, image: &Image) -> bool
     }
 }
 
-/// What an image contributes to a combination: the requested entry if it is a member, else the
-/// running one.
+/// Returns what an image contributes to a combination: the requested entry if it is a member, and
+/// else the running one.
 pub(super) fn entry_in(image: &Image, is_member: bool) -> &Entry
     ensures { result.now ≡ entry_in image.now is_member }
 {
@@ -50,7 +50,7 @@ pub(super) fn entry_in(image: &Image, is_member: bool) -> &Entry
     }
 }
 
-/// Whether a report takes the request of image `number`.
+/// Returns whether a report takes the request of image `number`.
 pub(super) fn is_taken(report: &Report, number: usize) -> bool
     ensures { result ≡ taken_in report.now number }
 {

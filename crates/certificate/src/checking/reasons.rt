@@ -1,4 +1,4 @@
-//! The refusals of a report, each with a reason that holds at its place.
+//! Checks that each refusal of a report has a reason that holds at its place.
 
 ghost use Rattle.std.specs.List.{list_any};
 ghost use Rattle.std.specs.Prelude.{◌≡◌, ◌↔◌, None, Contains, IsTrue};
@@ -9,7 +9,7 @@ use crate::report::{Reason, Refusal};
 use crate::table::{Entry, Image, Request, Table};
 use version_order::{Dependency, Group, Version};
 
-/// Whether each refusal of a list has a reason that holds at its place, after those before it.
+/// Returns whether each refusal of a list has a reason that holds after the refusals before it.
 pub(super) fn is_founded(table: &Table, refusals: &[Refusal]) -> bool
     ensures { IsTrue result ↔ IsFounded table.now refusals.now }
 {
@@ -21,7 +21,7 @@ pub(super) fn is_founded(table: &Table, refusals: &[Refusal]) -> bool
     true
 }
 
-/// Whether a reason for refusing the request of image `own` holds after these refusals.
+/// Returns whether a reason to refuse the request of image `own` holds after these refusals.
 fn reason_holds(table: &Table, before: &[Refusal], own: u8, reason: &Reason) -> bool
     ensures { IsTrue result ↔ ReasonHolds table.now before.now own reason.now }
 {
@@ -51,7 +51,7 @@ fn reason_holds(table: &Table, before: &[Refusal], own: u8, reason: &Reason) -> 
     }
 }
 
-/// Whether an entry depends on image `number`, in any version.
+/// Returns whether an entry depends on image `number`, in any version.
 fn depends_on(entry: &Entry, number: u8) -> bool
     ensures { result ≡ depends_on entry.now number }
 {
@@ -73,15 +73,15 @@ fn has_group(entry: &Entry, group: &Group) -> bool
     entry.groups.contains(group)
 }
 
-/// Whether a table doesn't have an image `number`.
+/// Returns whether a table has no image `number`.
 fn is_missing(table: &Table, number: u8) -> bool
     ensures { IsTrue result ↔ (image_at table.now number ≡ None) }
 {
     table.images.get(usize::from(number)).is_none()
 }
 
-/// Whether, after these refusals, a dependency of the request of image `own` names an image that
-/// exists and whose best version is below the minimum.
+/// Returns whether a dependency of the request of image `own` is out of reach after these refusals:
+/// its image exists, and the best version of that is below the minimum.
 fn is_out_of_reach(table: &Table, before: &[Refusal], own: u8, dependency: &Dependency) -> bool
     ensures { result ≡ is_out_of_reach table.now before.now own dependency.now }
 {
@@ -91,8 +91,8 @@ fn is_out_of_reach(table: &Table, before: &[Refusal], own: u8, dependency: &Depe
     }
 }
 
-/// Whether, after these refusals, no alternative of a group of the request of image `own` is in
-/// reach.
+/// Returns whether a group of the request of image `own` has no alternative in reach after these
+/// refusals.
 fn is_group_out_of_reach(table: &Table, before: &[Refusal], own: u8, group: &Group) -> bool
     ensures { result ≡ is_group_out_of_reach table.now before.now own group.now }
 {
@@ -107,8 +107,8 @@ fn is_one_in_reach(table: &Table, before: &[Refusal], own: u8, alternatives: &[D
         .any(|alternative| is_in_reach(table, before, own, alternative))
 }
 
-/// Whether, after these refusals, an alternative in a group of the request of image `own` names an
-/// image that exists and whose best version isn't below the minimum.
+/// Returns whether an alternative in a group of the request of image `own` is in reach after these
+/// refusals: its image exists, and the best version of that isn't below the minimum.
 fn is_in_reach(table: &Table, before: &[Refusal], own: u8, alternative: &Dependency) -> bool
     ensures { result ≡ is_in_reach table.now before.now own alternative.now }
 {
@@ -118,8 +118,8 @@ fn is_in_reach(table: &Table, before: &[Refusal], own: u8, alternative: &Depende
     }
 }
 
-/// The best version that the request of image `own` can hope for at image `number`, after these
-/// refusals.
+/// Returns the best version of image `number` that the request of image `own` can still get after
+/// these refusals.
 fn best_version(before: &[Refusal], own: u8, number: u8, image: &Image) -> Version
     ensures { result ≡ best_version before.now own number image.now }
 {
@@ -138,7 +138,7 @@ fn is_refused(refusals: &[Refusal], number: u8) -> bool
     refusals.iter().any(|refusal| refusal.image == number)
 }
 
-/// The version of an intact request, or else the running one.
+/// Returns the version of an intact request, or else the running version.
 fn requested_version(image: &Image) -> Version
     ensures { result ≡ requested_version image.now }
 {
@@ -148,7 +148,7 @@ fn requested_version(image: &Image) -> Version
     }
 }
 
-/// The newer of the running version and the version of an intact request.
+/// Returns the newer of the running version and the version of an intact request.
 fn newest_version(image: &Image) -> Version
     ensures { result ≡ newest_version image.now }
 {

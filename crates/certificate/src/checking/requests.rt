@@ -1,4 +1,4 @@
-//! The requests of a table, each taken or refused once.
+//! Checks that each request of a table is taken or refused once.
 
 ghost use Rattle.std.specs.Prelude.{◌≡◌, ◌<◌, ◌↔◌, ℕ, All, IsTrue};
 ghost use Rattle.certificate.specs.Reasons.{times_refused};
@@ -8,16 +8,16 @@ use crate::checking::images::is_taken;
 use crate::report::{Refusal, Report};
 use crate::table::{Request, Table};
 
-/// Whether the taken and the refused requests are all requests, each once.
+/// Returns whether each request is taken or refused once, and nothing else is.
 pub(super) fn decides_each_request_once(table: &Table, report: &Report) -> bool
     ensures { IsTrue result ↔ ((j : ℕ) → IsDecidedOnce table.now report.now j) }
 {
-    // Past the last image of both nothing is taken and nothing is requested.
+    // Beyond the last image of both, no request is taken and there is none.
     let count = table.images.len().max(report.images.len());
     refuses_only_below(report, count) && decides_each_below(table, report, count)
 }
 
-/// Whether a report refuses nothing but requests of the images below `count`.
+/// Returns whether all refused requests are those of images below `count`.
 fn refuses_only_below(report: &Report, count: usize) -> bool
     ensures { IsTrue result ↔ All (λ refusal. refusal.image < count) report.now.refusals.items }
 {
@@ -27,7 +27,7 @@ fn refuses_only_below(report: &Report, count: usize) -> bool
         .all(|refusal| usize::from(refusal.image) < count)
 }
 
-/// Whether the requests of the images below `count` are taken or refused, each once.
+/// Returns whether each request of an image below `count` is taken or refused once.
 fn decides_each_below(table: &Table, report: &Report, count: usize) -> bool
     ensures { IsTrue result
         ↔ ((j : ℕ) → j < count → IsDecidedOnce table.now report.now j) }
@@ -40,8 +40,8 @@ fn decides_each_below(table: &Table, report: &Report, count: usize) -> bool
     true
 }
 
-/// Whether the request of image `number` is taken or refused, once; if there is none, whether it is
-/// neither.
+/// Returns whether the request of image `number` is taken or refused once. If there is no request,
+/// it must be neither.
 fn is_decided_once(table: &Table, report: &Report, number: usize) -> bool
     ensures { IsTrue result ↔ IsDecidedOnce table.now report.now number }
 {
@@ -49,7 +49,7 @@ fn is_decided_once(table: &Table, report: &Report, number: usize) -> bool
         == usize::from(has_request(table, number))
 }
 
-/// How often a list refuses the request of image `number`.
+/// Returns how often a list refuses the request of image `number`.
 fn refusals_of(refusals: &[Refusal], number: usize) -> usize
     ensures { result ≡ times_refused refusals.now number }
 {
@@ -59,7 +59,7 @@ fn refusals_of(refusals: &[Refusal], number: usize) -> usize
         .count()
 }
 
-/// Whether a table has an image `number` for which something is requested.
+/// Returns whether a table has an image `number` with a request.
 fn has_request(table: &Table, number: usize) -> bool
     ensures { result ≡ has_request table.now number }
 {

@@ -2,6 +2,6 @@ use Rattle.certificate.specs.Dependants.{is_dependant}
 use Rattle.certificate.proofs.Masks.{AreBitsBelow}
 use Rattle.certificate.proofs.depending.dependants.Given as goal
 
--- the images so far that are dependants have a bit
+-- Each dependant among the images so far has a bit.
 abbrev pub invariant-loop-place : goal.invariant-loop-place
 invariant-loop-place l = AreBitsBelow (is_dependant l.table l.number) l.place l.mask

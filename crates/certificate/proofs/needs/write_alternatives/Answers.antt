@@ -9,7 +9,7 @@ use Rattle.certificate.proofs.AlternativeLaws.{alternatives_text_each}
 use Rattle.certificate.proofs.Sinks.{respelled}
 use Rattle.certificate.proofs.needs.write_alternatives.Goals as goal
 
--- an alternative as it is printed
+-- The printed text of an alternative.
 abbrev text_of : Dependency → List ℕ
 text_of alternative = 32 ∷ (decimal alternative.image ␣ version_text alternative.minimum)
 

@@ -5,7 +5,7 @@ use Rattle.certificate.specs.LineReading.{more_alternatives}
 use Rattle.certificate.proofs.AlternativeLaws.{group_from-full, group_from-no_version, group_from-step, group_from-wrong}
 use Rattle.certificate.proofs.table_line.group.Goals as goal
 
--- What holds of a push that went well.
+-- What holds after a push that succeeded.
 pushed : {T E P : Type 0} (result : Result T E) → true ≡ is_ok result → OnOk result P → P
 pushed (Ok x) went fact = fact
 pushed (Err e) went fact = cc

@@ -8,7 +8,7 @@ use Rattle.certificate.specs.Rightness.{taken_in}
 use Rattle.certificate.proofs.EachPlace.{holds_everywhere, holds_here, holds_one_more}
 use Rattle.certificate.proofs.checking.combination.meets_all_dependencies.Goals as goal
 
--- What an image contributes is met.
+-- The dependencies and groups of the entry that an image contributes are met.
 abbrev IsMetAt : Table → (ℕ → Bool) → ℕ → Image → Type 0
 IsMetAt table taken j image = IsTrue (meets_all table taken (entry_in image (taken j)))
 

@@ -3,6 +3,6 @@ use Rattle.certificate.specs.Combination.{HasMetDependencies}
 use Rattle.certificate.specs.Rightness.{taken_in}
 use Rattle.certificate.proofs.checking.combination.meets_all_dependencies.Given as goal
 
--- each image so far has met dependencies and groups
+-- The dependencies and groups of each image so far are met.
 abbrev pub invariant-loop-number : goal.invariant-loop-number
 invariant-loop-number l = (j : ℕ) → j < l.number → HasMetDependencies l.table (taken_in l.report) j

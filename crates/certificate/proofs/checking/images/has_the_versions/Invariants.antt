@@ -2,6 +2,6 @@ use Rattle.std.proofs.Common.{ℕ, ◌<◌}
 use Rattle.certificate.specs.Rightness.{HasVersionAt}
 use Rattle.certificate.proofs.checking.images.has_the_versions.Given as goal
 
--- each image so far has its version
+-- Each image so far has its version.
 abbrev pub invariant-loop-number : goal.invariant-loop-number
 invariant-loop-number l = (j : ℕ) → j < l.number → HasVersionAt l.table l.report j

@@ -8,11 +8,11 @@ use Rattle.version_order.specs.declared.group.Group.{Group}
 use Rattle.version_order.specs.contracts.group.GroupPartialEq.TheImpl as of_groups
 use Rattle.certificate.proofs.checking.reasons.has_group.Goals as goal
 
--- what `==` says of two dependencies
+-- The result of `==` for two dependencies.
 equal_dependencies : (x y : Dependency) → Decides ((of_dependencies.ghosts).eq x y) (x ≡ y)
 equal_dependencies x y = search rules
 
--- what `==` says of two groups
+-- The result of `==` for two groups.
 equal_groups : (x y : Group) → Decides ((of_groups.ghosts).eq x y) (x ≡ y)
 equal_groups x y =
     let same = slice_eq-Decides equal_dependencies x.alternatives.items y.alternatives.items

@@ -6,11 +6,11 @@ use Rattle.certificate.proofs.ImageLookups.{image_at-found, image_at-missing}
 use Rattle.certificate.proofs.Unmet.{damaged-intact, no_reason-missing, no_reason-other, no_where, none-damaged}
 use Rattle.certificate.proofs.checking.reasons.reason_holds.Goals as goal
 
--- a test that computes another one
+-- A test that computes another one.
 as_test : (test other : Bool) → test ≡ other → IsTrue test ↔ IsTrue other
 as_test test other same = (λ yes. sym same ∙ yes, λ yes. same ∙ yes)
 
--- two tests, the second one made only where the first one passed
+-- Two tests, the second of which is made only if the first passes.
 then_both :
     {A B : Type 0} (first second : Bool) → first ≡ true → (IsTrue first ↔ A) → (IsTrue second ↔ B) →
     IsTrue second ↔ (A × B)
@@ -19,7 +19,7 @@ then_both first second passed a b = (λ yes. (a.0 passed, b.0 yes), λ both. b.1
 else_both : {A B : Type 0} (first : Bool) → first ≡ false → (IsTrue first ↔ A) → IsTrue first ↔ (A × B)
 else_both first failed a = (λ yes. absurd (false≢true (sym failed ∙ yes)), λ both. a.1 both.0)
 
--- The table has no such image, or nothing is requested of it.
+-- The table has no such image, or the image has no request.
 pub returns-in_default : goal.returns-in_default
 returns-in_default c =
     let none = image_at-missing _ _ _ _ c.deref.ensures.0 c.from.ensures c.in_default.ensures.lookup.0 in
@@ -32,7 +32,7 @@ returns-in-None c =
     no_where (no_reason-other c.args.table.now c.args.before.now c.args.own c.in-Some.image.now c.args.reason.now at
     (ap intact_entry c.in-None.is) (λ reason. none-damaged _ c.in-None.is))
 
--- A damaged request is refused for being damaged alone, and an intact one for another reason.
+-- A damaged request is refused only as damaged, and an intact one only for another reason.
 pub returns-in-Damaged-matches : goal.returns-in-Damaged-matches
 returns-in-Damaged-matches c =
     let at = image_at-found _ _ _ _ _ c.deref.ensures.0 c.from.ensures c.in-Some.ensures.lookup.0

@@ -2,6 +2,6 @@ use Rattle.std.proofs.Common.{ℕ, ◌<◌}
 use Rattle.certificate.specs.Rightness.{IsDecidedOnce}
 use Rattle.certificate.proofs.checking.requests.decides_each_below.Given as goal
 
--- the requests of the images so far are decided once
+-- The requests of the images so far are decided once.
 abbrev pub invariant-loop-number : goal.invariant-loop-number
 invariant-loop-number l = (j : ℕ) → j < l.number → IsDecidedOnce l.table l.report j
