@@ -1,15 +1,15 @@
--- An argument with a second name.
+-- Laws of an argument with a second name.
 use Rattle.std.proofs.Common.{◌≡◌, List, ◌++◌, Bool, Bor, ap, map, ◌∙◌}
 use Rattle.std.proofs.lemmas.List.{map-append}
 use Rattle.clap.specs.Adds.{AddsAliases}
 use Rattle.clap.specs.Words.{Rule, Text, rule_of}
 use Rattle.clap.specs.declared.builder.arg.Arg.{Arg}
 
--- the rule with these names besides
+-- The rule with these additional names.
 abbrev pub with_aliases : Rule → List Text → Rule
 with_aliases rule names = record rule { aliases = names }
 
--- the name of an alias
+-- The name of an alias.
 abbrev pub name_of : Bor Text × Bool → Text
 name_of alias = alias.0.now
 

@@ -1,10 +1,10 @@
--- How many files words say.
+-- The number of files that words name.
 use Rattle.std.proofs.Common.{◌≡◌, ◌+◌, ◌∙◌, Bool, List, [], ◌∷◌, ◌++◌, ap, codes, false, length, length-append, refl, suc, sym, true}
 use Rattle.clap.specs.Words.{Row, Text}
 use Rattle.command_line.specs.Orders.{AreComponents, SaysComponents, texts_at}
 use Rattle.command_line.specs.declared.orders.NewComponent.{NewComponent}
 
--- one file a word
+-- Each word names one file.
 same_count : (kind : Bool) (words : List Text) (some others : List NewComponent)
     → AreComponents kind words some → AreComponents kind words others → length some ≡ length others
 same_count kind [] [] [] said also = refl
@@ -15,7 +15,7 @@ same_count kind (word ∷ words) (x ∷ some) [] said also = absurd also
 same_count kind (word ∷ words) (x ∷ some) (y ∷ others) said also =
     ap suc (same_count kind words some others said.1 also.1)
 
--- All files that the matches say are as many as those that were found.
+-- The matches name exactly as many files as were found.
 pub as_many : (rows : List Row) (tests permanent more found all : List NewComponent)
     → AreComponents false (texts_at (codes "test") rows) tests
     → AreComponents true (texts_at (codes "permanent") rows) permanent

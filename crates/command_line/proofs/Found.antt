@@ -1,4 +1,4 @@
--- What was found, as a vector and as the list of its items.
+-- The items that were found, as a vector and as a list.
 use Rattle.std.proofs.Common.{Global, List, None, Ok, Err, Option, Result, Some, Vec, option_map}
 use Rattle.std.specs.Prelude.{IfOk}
 use Rattle.command_line.specs.Given.{Finds}

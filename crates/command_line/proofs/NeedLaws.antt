@@ -1,4 +1,4 @@
--- Which dependencies words say, two words on.
+-- Laws of the dependencies that words name, two words each.
 use Rattle.std.proofs.Common.{◌≡◌, ◌-◌, ◌≤◌, ◌<◌, List, [], ◌∷◌, ◌++◌, Option, Some, None, Bor, ap, map, length, drop, take, get_or, refl, sym, ◌∙◌, arith, append_assoc}
 use Rattle.std.specs.Prelude.{option_map}
 use Rattle.std.proofs.lemmas.List.{append-nil, take_all}
@@ -9,20 +9,20 @@ use Rattle.command_line.specs.Needs.{need_of, needs_of}
 abbrev pub texts_of : List (Bor Text) → List Text
 texts_of words = map (λ word. word.now) words
 
--- words of which the first two say no dependency say none
+-- If the first two words name no dependency, the words name none.
 pub needs-wrong : (image minimum : Text) (words : List Text) → need_of image minimum ≡ None
     → needs_of (image ∷ minimum ∷ words) ≡ None
 unfolding needs_of
 needs-wrong image minimum words wrong = rw wrong refl
 
--- the dependency that the first two say comes before those of the others
+-- The dependency of the first two words comes before those of the others.
 pub needs-more : (image minimum : Text) (words : List Text) (need : Dependency)
     → need_of image minimum ≡ Some need
     → needs_of (image ∷ minimum ∷ words) ≡ option_map (λ needs. need ∷ needs) (needs_of words)
 unfolding needs_of
 needs-more image minimum words need says = rw says refl
 
--- no words say no dependency, and one word alone says nothing
+-- No words name no dependency, and a single word names nothing.
 pub needs-none : needs_of [] ≡ Some []
 unfolding needs_of
 needs-none = refl
@@ -31,21 +31,21 @@ pub needs-odd : (word : Text) → needs_of (word ∷ []) ≡ None
 unfolding needs_of
 needs-odd word = refl
 
--- dependencies before others, one by one
+-- Dependencies before others, one by one.
 pub behind-more : (before : List Dependency) (need : Dependency) (needs : Option (List Dependency))
     → option_map (λ later. (before ++ need ∷ []) ++ later) needs
     ≡ option_map (λ later. before ++ later) (option_map (λ later. need ∷ later) needs)
 behind-more before need None = refl
 behind-more before need (Some needs) = ap Some (append_assoc before (need ∷ []) needs)
 
--- Of the words that are left: where the first two say no dependency, they all say none ..
+-- If the first two of the remaining words name no dependency, the remaining words name none.
 pub rest-wrong : (rest : List (Bor Text)) (none : Bor Text) → 2 ≤ length rest
     → need_of (get_or rest 0 none).now (get_or rest 1 none).now ≡ None → needs_of (texts_of rest) ≡ None
 rest-wrong [] none long wrong = absurd (omega arith)
 rest-wrong (a ∷ []) none long wrong = absurd (omega arith)
 rest-wrong (a ∷ b ∷ rest) none long wrong = needs-wrong a.now b.now (texts_of rest) wrong
 
--- .. where they say one, it is the next ..
+-- If the first two of the remaining words name a dependency, it is the next one.
 pub rest-more : (rest : List (Bor Text)) (none : Bor Text) (before : List Dependency) (need : Dependency) → 2 ≤ length rest
     → need_of (get_or rest 0 none).now (get_or rest 1 none).now ≡ Some need
     → option_map (λ later. (before ++ need ∷ []) ++ later) (needs_of (texts_of (take (length rest - 2) (drop 2 rest))))
@@ -58,13 +58,13 @@ rest-more (a ∷ b ∷ rest) none before need long says =
     ∙ behind-more before need (needs_of (texts_of rest))
     ∙ ap (option_map (λ later. before ++ later)) (sym (needs-more a.now b.now (texts_of rest) need says))
 
--- .. where none is left, those before are all ..
+-- If no word remains, the earlier dependencies are all.
 pub rest-done : (rest : List (Bor Text)) (before : List Dependency) → length rest ≡ 0
     → option_map (λ later. before ++ later) (needs_of (texts_of rest)) ≡ Some before
 rest-done [] before done = ap (option_map (λ later. before ++ later)) needs-none ∙ ap Some (append-nil before)
 rest-done (a ∷ rest) before done = absurd (omega arith)
 
--- .. and where one is left, they say none
+-- If one word remains, it names no dependency.
 pub rest-odd : (rest : List (Bor Text)) → length rest < 2 → (length rest ≡ 0 → ⊥) → needs_of (texts_of rest) ≡ None
 rest-odd [] few some = absurd (some refl)
 rest-odd (a ∷ []) few some = needs-odd a.now

@@ -1,4 +1,4 @@
--- Which arguments ask for no order, and how an order is refused.
+-- Laws of arguments that give no order, and of an order that is refused.
 use Rattle.std.proofs.Common.{◌≡◌, List, [], codes, rules}
 use Rattle.std.specs.Prelude.{Some}
 use Rattle.clap.specs.Words.{Row, Text, fault_of, kind_of}
@@ -19,26 +19,26 @@ use Rattle.command_line.specs.declared.orders.Order.TheVariants.{Device, MakeMan
 use Rattle.command_line.specs.declared.orders.ReadOrder.TheVariants.{Codes}
 use Rattle.command_line.specs.declared.orders.SweepChoices.{SweepChoices}
 
--- Where a name is that of no subcommand, no order is asked for.
+-- A name that is no subcommand's gives no order.
 pub none_asked_by : (name : Text) (rows : List Row) (order : Order)
     → ((one : Subcommand) → name ≡ name_for one → ⊥) → Asks name rows order → ⊥
 none_asked_by name rows order none asks = none (subcommand_for order) asks.0
 
--- Where no manifest is said, none is asked for.
+-- If the matches describe no manifest, they give no order for one.
 pub no_manifest_asked : (rows : List Row) → ((manifest : NewManifest) → SaysManifest rows manifest → ⊥)
     → (order : Order) → Asks (codes "make-manifest") rows order → ⊥
 no_manifest_asked rows none (MakeManifest device manifest) asks = none manifest asks.1.1
 no_manifest_asked rows none (Read Codes) asks = search rules
 no_manifest_asked rows none _ asks = search rules
 
--- Where no sweep is said, none is asked for.
+-- If the matches have no options of a sweep, they give no order for one.
 pub no_sweep_asked : (rows : List Row) → ((choices : SweepChoices) → SaysSweep rows choices → ⊥)
     → (order : Order) → Asks (codes "sweep") rows order → ⊥
 no_sweep_asked rows none (Sweep device script images choices) asks = none choices asks.1.3
 no_sweep_asked rows none (Read Codes) asks = search rules
 no_sweep_asked rows none _ asks = search rules
 
--- Where `provision` or `run` asks for no order to a device, it asks for none.
+-- If `provision` or `run` gives no order to a device, it gives no order.
 pub no_provision_asked : (rows : List Row)
     → ((order : DeviceOrder) → AsksDevice (codes "provision") rows order → ⊥)
     → (order : Order) → Asks (codes "provision") rows order → ⊥
@@ -53,7 +53,7 @@ no_run_asked rows none (Device order) asks = none order asks
 no_run_asked rows none (Read Codes) asks = search rules
 no_run_asked rows none _ asks = search rules
 
--- An order that the arguments ask for is refused for its misuse ..
+-- An order that the arguments give is refused if it misuses standard input.
 pub misused : (words : List Text) (order : Order) (fault : Error) (error : OrderError) → fault_of bootswap words ≡ []
     → IsOrder words order
     → misuse_of order ≡ Some (kind_of fault) → Says fault error → IsRefusal words error
@@ -61,7 +61,7 @@ misused words order fault (Usage answer) taken is_order is_misuse says =
     rw says.0 (says.1, misuse order taken is_order is_misuse)
 misused words order fault NoMemory taken is_order is_misuse says = search rules
 
--- .. and so is an order to a device.
+-- The same of an order to a device.
 pub device_misused : (words : List Text) (order : DeviceOrder) (fault : Error) (error : OrderError)
     → fault_of bootswap words ≡ [] → IsOrder words (Device order)
     → misuse_of (Device order) ≡ Some (kind_of fault) → Says fault error → IsDeviceRefusal words error

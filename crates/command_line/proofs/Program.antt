@@ -1,4 +1,4 @@
--- The program as `clap` is told of it, and what a parse by it finds and refuses.
+-- Laws of the program as `clap` knows it, and of the results of parsing by it.
 use Rattle.std.proofs.Common.{◌≡◌, List, [], refl, rules, subst, true}
 use Rattle.std.specs.Prelude.{Err, IfErr, IfOk, Ok, Result}
 use Rattle.clap.specs.Faults.{is_simple_and_free}
@@ -14,7 +14,7 @@ is_simple_program = refl
 is_free_program : is_simple_and_free bootswap ≡ true
 is_free_program = refl
 
--- The subcommand that a parse by the program finds is the one that `clap` defines.
+-- The subcommand that is parsed is the one that `clap` defines.
 pub subcommand_found : (app : App) (words : List Text) (parsed : Result ArgMatches Error) → app ≡ bootswap
     → IfOk parsed (HasMatchesOf app words)
     → IfOk parsed (λ found. subcommand_rows_of found ≡ subcommand_of bootswap words)
@@ -28,7 +28,7 @@ error_of : {T : Type 0} (words : List Text) (parsed : Result T Error) → FailsB
 error_of words (Ok value) fails = search rules
 error_of words (Err error) fails = fails
 
--- A parse by the program fails as `clap` defines, or for want of memory.
+-- Parsing fails as `clap` defines, or out of memory.
 pub fault_found : {T : Type 0} (app : App) (words : List Text) (parsed : Result T Error) → app ≡ bootswap
     → (is_simple_and_free app ≡ true → FailsBy (fault_of app words) parsed)
     → IfErr parsed (HasKind (fault_of bootswap words))
@@ -41,7 +41,7 @@ untroubled : {T : Type 0} (words : List Text) (parsed : Result T Error) → Fail
 untroubled words (Ok value) fails = fails
 untroubled words (Err error) fails = search rules
 
--- A parse by the program finds something only where `clap` defines no fault.
+-- Parsing succeeds only if `clap` defines no fault.
 pub none_found : {T : Type 0} (app : App) (words : List Text) (parsed : Result T Error) → app ≡ bootswap
     → (is_simple_and_free app ≡ true → FailsBy (fault_of app words) parsed)
     → IfOk parsed (λ _. fault_of bootswap words ≡ [])

@@ -1,4 +1,4 @@
--- The program's subcommands, and the names that each of them asks for, in the words of `clap`.
+-- The program's subcommands and their arguments, in the terms of `clap`.
 use Rattle.std.specs.Prelude.{◌++◌, Bool, List, [], ◌∷◌, Some, codes, fold, map, true, false}
 use Rattle.clap.specs.Lexer.{usize_max}
 use Rattle.clap.specs.Simple.{new_shape}
@@ -48,7 +48,7 @@ also_named rule other = record rule { aliases = other ∷ [] }
 abbrev pub counter_option : Rule
 counter_option = also_named (one_option (codes "counter") false) (codes "security-counter")
 
--- What an argument asks for.
+-- The rule of an argument.
 abbrev pub rule_for : Argument → Rule
 rule_for (argument.File name help) = one_name name.now
 rule_for (argument.Files name help) = all_names name.now
@@ -58,11 +58,11 @@ rule_for (argument.Aliased name other help) = also_named (one_option name.now fa
 rule_for (argument.Repeated name help) = options name.now
 rule_for (argument.Flag name help) = one_flag name.now
 
--- A command with an argument more ..
+-- A command with one more argument.
 abbrev pub with_argument : App → Argument → App
 with_argument command argument = with_rule command (rule_for argument)
 
--- .. or with these, in this order.
+-- A command with these arguments, in this order.
 abbrev pub with_arguments : App → List Argument → App
 with_arguments command arguments = fold with_argument command arguments
 
@@ -83,7 +83,7 @@ name_for sub.Run = codes "run"
 name_for sub.Sweep = codes "sweep"
 name_for sub.Codes = codes "codes"
 
--- The names and options that it asks for, in this order.
+-- The rules of its names and options, in this order.
 abbrev pub rules_of : Subcommand → List Rule
 rules_of sub.Choose = one_name (codes "TABLE") ∷ []
 rules_of sub.Check = one_name (codes "TABLE") ∷ one_name (codes "REPORT") ∷ []
@@ -119,7 +119,7 @@ rules_of sub.Sweep =
     ∷ one_option (codes "seed") false ∷ one_option (codes "svg") false ∷ []
 rules_of sub.Codes = []
 
--- The shape of a subcommand: its name, what it asks for, and the option that each has.
+-- The shape of a subcommand: its name, its names and options, and the option that each has.
 abbrev pub shape_for : Subcommand → Shape
 shape_for one =
     record (new_shape (name_for one)) { rules = rules_of one ++ one_flag (codes "explain") ∷ [] }
@@ -130,7 +130,7 @@ subcommands = sub.Choose ∷ sub.Check ∷ sub.Image ∷ sub.Manifest ∷ sub.Ma
     ∷ sub.MakeManifest ∷ sub.Provision ∷ sub.Extract ∷ sub.Show ∷ sub.Slots ∷ sub.Run
     ∷ sub.Sweep ∷ sub.Codes ∷ []
 
--- The program without its subcommands: it has a version, and asks for a subcommand.
+-- The program without its subcommands. It has a version, and requires a subcommand.
 abbrev pub program : App
 program = record {
   top = record (new_shape (codes "bootswap")) { has_version = true; subcommand_required = true };

@@ -13,7 +13,7 @@ abbrev pub subcommand_for : DeviceOrder → Subcommand
 subcommand_for (Provision device flash images) = sub.Provision
 subcommand_for (Run device flash script durable) = sub.Run
 
--- The names of an order are those that the matches of its subcommand have, and so is its option.
+-- The names and the option of an order are those that the matches of its subcommand have.
 abbrev pub HasNames : List Row → DeviceOrder → Type 0
 HasNames rows (Provision device flash images) =
     IsNamed rows (codes "DEVICE") device.now × IsNamed rows (codes "FLASH") flash.now
@@ -27,7 +27,7 @@ abbrev pub names_of : DeviceOrder → List (Bor Text)
 names_of (Provision device flash images) = device ∷ flash ∷ images.items
 names_of (Run device flash script durable) = device ∷ flash ∷ script ∷ []
 
--- The file to write is standard input.
+-- The file that an order writes is standard input.
 abbrev pub writes_to_standard_input : DeviceOrder → Bool
 writes_to_standard_input (Provision device flash images) = is_standard_input flash
 writes_to_standard_input (Run device flash script durable) = is_standard_input flash

@@ -11,15 +11,15 @@ use Rattle.command_line.specs.declared.error.OrderError.TheVariants.{Usage, NoMe
 use Rattle.command_line.specs.declared.device_orders.DeviceOrder.{DeviceOrder}
 use Rattle.command_line.specs.declared.orders.Order.TheVariants.{Device}
 
--- Why arguments that may ask for an order to a device are answered by an error of this kind: `clap`
--- has a fault with them, or they ask for help or the version; or it takes them, and their order
--- misuses standard input.
+-- Why arguments that may give an order to a device result in an error of this kind. Either `clap`
+-- finds a fault in them, or they ask for help or the version. Or `clap` accepts them, and their
+-- order misuses standard input.
 pub data IsDeviceFault (words : List Text) (kind : ErrorKind) : Type 0 where
   of_clap : IsAmong kind (fault_of bootswap words) → IsDeviceFault words kind
   misuse : (order : DeviceOrder) → fault_of bootswap words ≡ [] → IsOrder words (Device order)
       → misuse_of (Device order) ≡ Some kind → IsDeviceFault words kind
 
--- The answer to arguments that give no order, for a fault of a kind. An answer of `clap` is never
+-- The error of arguments that give no order, for a fault of a kind. An answer of `clap` is never
 -- lack of memory.
 abbrev pub IsAnswered : (ErrorKind → Type 0) → OrderError → Type 0
 IsAnswered IsFault (Usage answer) = (kind_of answer ≢ OutOfMemory) × IsFault (kind_of answer)
@@ -38,7 +38,7 @@ abbrev pub IsTold : OrderError → Type 0
 IsTold (Usage answer) = kind_of answer ≢ OutOfMemory
 IsTold NoMemory = ⊤
 
--- The error says what `clap` answers: lack of memory, or else that very answer.
+-- The error is the conversion of an answer of `clap`: lack of memory, or else that very answer.
 abbrev pub Says : Error → OrderError → Type 0
 Says answer (Usage error) = (error ≡ answer) × (kind_of answer ≢ OutOfMemory)
 Says answer NoMemory = kind_of answer ≡ OutOfMemory

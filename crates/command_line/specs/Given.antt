@@ -1,4 +1,4 @@
--- What arguments give, by the matches that `clap` gives for them.
+-- What arguments give, according to the matches that `clap` returns for them.
 use Rattle.std.specs.Prelude.{◌≡◌, ℕ, Bool, false, List, Option, Some, None, codes, count_by, if◌then◌else◌}
 use Rattle.std.specs.Borrow.{Bor}
 use Rattle.std.specs.Option.{option_map_or}
@@ -12,25 +12,25 @@ use Rattle.command_line.specs.Commands.{bootswap}
 abbrev pub IsNamed : List Row → Text → Text → Type 0
 IsNamed rows argument name = first_of argument rows ≡ Some name
 
--- The matches say that an option without a value is given.
+-- Whether the matches have an option without a value.
 abbrev pub is_given : Text → List Row → Bool
 is_given argument rows = option_map_or (bytes_eq (codes "true")) (first_of argument rows) false
 
--- The subcommand that was named is to be explained, by its matches.
+-- Whether the matches of the named subcommand have `--explain`.
 abbrev pub has_explain : Option (Text × List Row) → Bool
 has_explain None = false
 has_explain (Some named) = is_given (codes "explain") named.1
 
--- The arguments say that the answer is to be explained.
+-- Whether the arguments have `--explain`.
 abbrev pub is_explained : List Text → Bool
 is_explained words = has_explain (subcommand_of bootswap words)
 
--- What was found is so, and if nothing was found, nothing is so.
+-- The value that was found has the property. If none was found, none has it.
 abbrev pub Finds : {T : Type 0} → (T → Type 0) → Option T → Type 0
 Finds IsSo None = (one : _) → IsSo one → ⊥
 Finds IsSo (Some found) = IsSo found
 
--- `-` is standard input.
+-- Whether this is the name of standard input, `-`.
 abbrev pub is_standard_input : Bor Text → Bool
 is_standard_input name = bytes_eq name.now (codes "-")
 
@@ -38,7 +38,7 @@ is_standard_input name = bytes_eq name.now (codes "-")
 abbrev pub standard_inputs : List (Bor Text) → ℕ
 standard_inputs names = count_by is_standard_input names
 
--- The fault of an order in its use of standard input: it writes it, or reads it twice.
+-- The fault of an order that writes standard input or reads it twice.
 abbrev pub misuse_kind : Bool → Bool → Option ErrorKind
 misuse_kind is_written is_twice =
     if is_written then Some InvalidValue else (if is_twice then Some ArgumentConflict else None)

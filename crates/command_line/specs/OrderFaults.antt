@@ -1,4 +1,4 @@
--- The answers to arguments that give no order.
+-- The errors of arguments that give no order.
 use Rattle.std.specs.Prelude.{◌≡◌, ◌⊎◌, List, [], Some}
 use Rattle.clap.specs.Words.{IsAmong, Text, fault_of}
 use Rattle.clap.specs.declared.error.kind.ErrorKind.{ErrorKind}
@@ -9,8 +9,8 @@ use Rattle.command_line.specs.Orders.{IsOrder, misuse_of}
 use Rattle.command_line.specs.declared.error.OrderError.{OrderError}
 use Rattle.command_line.specs.declared.orders.Order.{Order}
 
--- Why arguments are answered by an error of this kind: `clap` has a fault with them, or they ask
--- for help or the version; or it takes them, and they ask for no order, or their order misuses
+-- Why arguments result in an error of this kind. Either `clap` finds a fault in them, or they ask
+-- for help or the version. Or `clap` accepts them, and they give no order, or their order misuses
 -- standard input.
 pub data IsFault (words : List Text) (kind : ErrorKind) : Type 0 where
   of_clap : IsAmong kind (fault_of bootswap words) → IsFault words kind
@@ -19,6 +19,6 @@ pub data IsFault (words : List Text) (kind : ErrorKind) : Type 0 where
   misuse : (order : Order) → fault_of bootswap words ≡ [] → IsOrder words order
       → misuse_of order ≡ Some kind → IsFault words kind
 
--- The answer to arguments that give no order.
+-- The error of arguments that give no order.
 abbrev pub IsRefusal : List Text → OrderError → Type 0
 IsRefusal words error = IsAnswered (IsFault words) error

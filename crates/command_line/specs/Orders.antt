@@ -1,4 +1,4 @@
--- What an order says, by the matches that `clap` gives for the arguments.
+-- The meaning of an order, according to the matches that `clap` returns for the arguments.
 use Rattle.std.specs.Prelude.{◌≡◌, ℕ, ◌==◌, ◌^◌, ◌<◌, ◌≤◌, Bool, false, true, IsSomeAnd, List, [], ◌∷◌, ◌++◌, Option, Some, None, codes, if◌then◌else◌, length, map, nat_lt, option_and_then, option_map, option_to_list, unwrap_or, ⊤}
 use Rattle.std.specs.Borrow.{Bor}
 use Rattle.std.specs.List.{AllZip, after_first, before_first, position_or_len, slice_split}
@@ -31,7 +31,7 @@ use Rattle.command_line.specs.declared.orders.Order.TheVariants.{Read, MakeDevic
 use Rattle.command_line.specs.declared.orders.ReadOrder.{ReadOrder}
 use Rattle.command_line.specs.declared.orders.ReadOrder.TheVariants.{Choose, Check, Image, Manifest, Show, Slots, Codes}
 
--- The subcommand of an order to read ..
+-- The subcommand of an order to read.
 abbrev pub subcommand_to_read : ReadOrder → Subcommand
 subcommand_to_read (Choose table) = sub.Choose
 subcommand_to_read (Check table report) = sub.Check
@@ -41,7 +41,7 @@ subcommand_to_read (Show device flash) = sub.Show
 subcommand_to_read (Slots device flash) = sub.Slots
 subcommand_to_read Codes = sub.Codes
 
--- .. and of any order.
+-- The subcommand of any order.
 abbrev pub subcommand_for : Order → Subcommand
 subcommand_for (Read order) = subcommand_to_read order
 subcommand_for (MakeDevice device) = sub.MakeDevice
@@ -51,7 +51,7 @@ subcommand_for (Device order) = of_device.subcommand_for order
 subcommand_for (Extract device flash image side out) = sub.Extract
 subcommand_for (Sweep device script images choices) = sub.Sweep
 
--- A word spells this number: in digits alone, below 2 ^ 32.
+-- A word is this number: it has only digits, and is below 2 ^ 32.
 abbrev pub IsNumber : Text → ℕ → Type 0
 IsNumber word number = number_of word ≡ Some number
 
@@ -59,7 +59,7 @@ IsNumber word number = number_of word ≡ Some number
 abbrev pub number_at : Text → List Row → Option ℕ
 number_at argument rows = option_and_then number_of (first_of argument rows)
 
--- The words of a text, separated by commas.
+-- The words of a text that are separated by commas.
 abbrev pub words_of : Text → List Text
 words_of text = slice_split (λ byte. byte == 44) text
 
@@ -70,7 +70,7 @@ HasTrialBoots rows (Some boots) =
     (number_at (codes "trial-boots") rows ≡ Some boots) × (1 ≤ boots)
     × (boots ≤ MOST_TRIAL_BOOTS)
 
--- The matches of `make-device` say this of a device.
+-- The matches of `make-device` describe this device.
 pub record SaysDevice (rows : List Row) (device : NewDevice) : Type 0 where
   pub sector_size : number_at (codes "sector") rows ≡ Some device.sector_size
   pub sectors : IsSomeAnd (first_of (codes "slots") rows)
@@ -93,7 +93,7 @@ version_at rows = option_and_then version_of (first_of (codes "version") rows)
 abbrev pub texts_at : Text → List Row → List Text
 texts_at argument rows = unwrap_or (all_of argument rows) []
 
--- The matches of `make-image` say these dependencies: those in brackets after the others.
+-- The matches of `make-image` name these dependencies: those of `--needs`, then those in brackets.
 pub record SaysDependencies (rows : List Row) (dependencies : List Dependency) : Type 0 where
   pub needs : List Dependency
   pub bracketed : List Dependency
@@ -101,7 +101,7 @@ pub record SaysDependencies (rows : List Row) (dependencies : List Dependency) :
   pub are_bracketed : AllZip IsBracketed (texts_at (codes "dependencies") rows) bracketed
   pub all : dependencies ≡ needs ++ bracketed
 
--- The matches of `make-image` say this of an image.
+-- The matches of `make-image` describe this image.
 pub record SaysImage (rows : List Row) (image : NewImage) : Type 0 where
   pub version : version_at rows ≡ Some image.version
   pub counter : HasNumber (codes "counter") (2 ^ 32) rows image.counter
@@ -116,20 +116,20 @@ pub record SaysImage (rows : List Row) (image : NewImage) : Type 0 where
 abbrev pub is_equals_sign : ℕ → Bool
 is_equals_sign byte = byte == 61
 
--- A value says this file and its image, of a kind: the number of the image, `=`, and the name of
--- the file, which is all that follows the first `=`.
+-- A value names this file and its image, as a permanent one or for a test: the number of the image,
+-- `=`, and the name of the file, which is all that follows the first `=`.
 pub record IsComponent (kind : Bool) (word : Text) (component : NewComponent) : Type 0 where
   pub parted : position_or_len is_equals_sign word < length word
   pub image : number_below 256 (before_first is_equals_sign word) ≡ Some component.image
   pub file : component.file.now ≡ after_first is_equals_sign word
   pub permanent : component.permanent ≡ kind
 
--- Values say these files, one each.
+-- Values name these files, one each.
 abbrev pub AreComponents : Bool → List Text → List NewComponent → Type 0
 AreComponents kind words components = AllZip (IsComponent kind) words components
 
--- The matches of `make-manifest` say these files: one to eight, those for a test before those that
--- are to stay.
+-- The matches of `make-manifest` name these files: one to eight, those for a test before the
+-- permanent ones.
 pub record SaysComponents (rows : List Row) (components : List NewComponent) : Type 0 where
   pub tests : List NewComponent
   pub permanent : List NewComponent
@@ -139,7 +139,7 @@ pub record SaysComponents (rows : List Row) (components : List NewComponent) : T
   pub some : 0 < length components
   pub most : length components ≤ MOST_IMAGES
 
--- They say this of a manifest.
+-- The matches of `make-manifest` describe this manifest.
 pub record SaysManifest (rows : List Row) (manifest : NewManifest) : Type 0 where
   pub sequence : number_at (codes "sequence") rows ≡ Some manifest.sequence
   pub precursor : option_map (λ flash. flash.now) manifest.precursor
@@ -147,14 +147,14 @@ pub record SaysManifest (rows : List Row) (manifest : NewManifest) : Type 0 wher
   pub components : SaysComponents rows manifest.components.items
   pub strict : manifest.is_strict ≡ is_given (codes "strict") rows
 
--- The matches say this of a sweep.
+-- The matches have these options of a sweep.
 pub record SaysSweep (rows : List Row) (choices : SweepChoices) : Type 0 where
   pub twice : choices.is_twice ≡ is_given (codes "twice") rows
   pub sample : HasNumber (codes "sample") (2 ^ 32) rows choices.sample
   pub seed : HasNumber (codes "seed") (2 ^ 32) rows choices.seed
   pub picture : option_map (λ file. file.now) choices.picture ≡ first_of (codes "svg") rows
 
--- The matches say this of the file of an image that is to be made.
+-- The matches describe this image file that is to be made.
 pub record IsNewFile (rows : List Row) (file : NewFile) : Type 0 where
   pub name : IsNamed rows (codes "OUT") file.name.now
   pub forced : file.is_forced ≡ is_given (codes "force") rows
@@ -163,7 +163,7 @@ pub record IsNewFile (rows : List Row) (file : NewFile) : Type 0 where
 abbrev pub image_at : List Row → Option ℕ
 image_at rows = option_and_then (number_below 256) (first_of (codes "IMAGE") rows)
 
--- The side of a slot that a value says.
+-- The side of a slot that a value names.
 abbrev pub side_of : Text → Option Side
 side_of word =
     if bytes_eq word (codes "primary") then Some Primary
@@ -173,7 +173,7 @@ side_of word =
 abbrev pub side_at : List Row → Option Side
 side_at rows = option_and_then side_of (first_of (codes "SIDE") rows)
 
--- The names of an order to read are those that the matches of its subcommand have ..
+-- The names of an order to read are those that the matches of its subcommand have.
 abbrev pub HasNamesToRead : List Row → ReadOrder → Type 0
 HasNamesToRead rows (Choose table) = IsNamed rows (codes "TABLE") table.now
 HasNamesToRead rows (Check table report) =
@@ -187,7 +187,7 @@ HasNamesToRead rows (Slots device flash) =
     IsNamed rows (codes "DEVICE") device.now × IsNamed rows (codes "FLASH") flash.now
 HasNamesToRead rows Codes = ⊤
 
--- .. and so are the names and options of any order.
+-- The names and options of any order are those that the matches of its subcommand have.
 abbrev pub HasNames : List Row → Order → Type 0
 HasNames rows (Read order) = HasNamesToRead rows order
 HasNames rows (MakeDevice device) = SaysDevice rows device
@@ -206,30 +206,30 @@ HasNames rows (Sweep device script images choices) =
     × (all_of (codes "IMAGE") rows ≡ Some (map (λ image. image.now) images.items))
     × SaysSweep rows choices
 
--- A subcommand with these matches asks for this order.
+-- A subcommand with these matches gives this order.
 abbrev pub Asks : Text → List Row → Order → Type 0
 Asks command rows order = (command ≡ name_for (subcommand_for order)) × HasNames rows order
 
--- A subcommand with these matches asks for this order to a device.
+-- A subcommand with these matches gives this order to a device.
 abbrev pub AsksDevice : Text → List Row → DeviceOrder → Type 0
 AsksDevice command rows order = Asks command rows (Device order)
 
--- The order that is asked for by the subcommand that was named, with its matches.
+-- The named subcommand with its matches gives this order.
 abbrev pub IsOrderOf : Option (Text × List Row) → Order → Type 0
 IsOrderOf None order = ⊥
 IsOrderOf (Some named) order = Asks named.0 named.1 order
 
--- The arguments ask for this order: they name its subcommand, and give it its names and options.
+-- The arguments give this order: they name its subcommand, and have its names and options.
 abbrev pub IsOrder : List Text → Order → Type 0
 IsOrder words = IsOrderOf (subcommand_of bootswap words)
 
--- The names of the files that a manifest is made of: a flash, where there is one, and then those
--- that may come.
+-- The names of the files that a manifest is made of: a flash if there is one, and then the files of
+-- its components.
 abbrev pub files_of : NewManifest → List (Bor Text)
 files_of manifest =
     option_to_list manifest.precursor ++ map (λ component. component.file) manifest.components.items
 
--- All the names of an order to read ..
+-- All the names of an order to read.
 abbrev pub names_to_read : ReadOrder → List (Bor Text)
 names_to_read (Choose table) = table ∷ []
 names_to_read (Check table report) = table ∷ report ∷ []
@@ -239,7 +239,7 @@ names_to_read (Show device flash) = device ∷ flash ∷ []
 names_to_read (Slots device flash) = device ∷ flash ∷ []
 names_to_read Codes = []
 
--- .. and of any order.
+-- All the names of any order.
 abbrev pub names_of : Order → List (Bor Text)
 names_of (Read order) = names_to_read order
 names_of (MakeDevice device) = []
@@ -249,7 +249,7 @@ names_of (Device order) = of_device.names_of order
 names_of (Extract device flash image side out) = device ∷ flash ∷ out.name ∷ []
 names_of (Sweep device script images choices) = device ∷ script ∷ images.items
 
--- The file to write is standard input.
+-- Whether the file that an order writes is standard input.
 abbrev pub writes_to_standard_input : Order → Bool
 writes_to_standard_input (MakeImage image body values) = is_standard_input image.name
 writes_to_standard_input (Device order) = of_device.writes_to_standard_input order
@@ -258,13 +258,13 @@ writes_to_standard_input (Sweep device script images choices) =
     option_map_or is_standard_input choices.picture false
 writes_to_standard_input _ = false
 
--- The fault of an order in its use of standard input.
+-- The fault of an order that misuses standard input.
 abbrev pub misuse_of : Order → Option ErrorKind
 misuse_of order =
     misuse_kind (writes_to_standard_input order) (nat_lt 1 (standard_inputs (names_of order)))
 
--- The arguments give this order: `clap` takes them, they ask for it, and it doesn't misuse standard
--- input.
+-- The arguments give this order: `clap` accepts them, they describe it, and it doesn't misuse
+-- standard input.
 pub record GiveOrder (words : List Text) (order : Order) : Type 0 where
   pub taken : fault_of bootswap words ≡ []
   pub asks : IsOrder words order

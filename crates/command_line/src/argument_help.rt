@@ -5,7 +5,7 @@
 pub struct OptionHelp {
     /// The name of its value.
     pub value: &'static str,
-    /// What it means.
+    /// Its meaning.
     pub text: &'static str,
 }
 

@@ -1,4 +1,4 @@
-//! The arguments of subcommands: names of files, and options.
+//! Defines the arguments of subcommands for `clap`: names of files, and options.
 
 ghost use Rattle.std.specs.Prelude.{◌≡◌, IfOk, false};
 ghost use Rattle.clap.specs.Words.{app_of, rule_of};
@@ -29,7 +29,7 @@ pub enum Argument {
 }
 
 impl Argument {
-    /// The argument, as `clap` defines it.
+    /// Returns the argument as `clap` defines it.
     fn arg<'a>(&self, alloc: Global) -> Result<Arg<'a>, AllocError>
         ensures rule { IfOk result (λ arg. rule_of arg ≡ rule_for self.now) }
         ensures local { IfOk result (λ arg. arg.global ≡ false) }
@@ -75,7 +75,7 @@ fn with_argument<'a>(
     command.arg(argument.arg(alloc)?)
 }
 
-/// An option with one value.
+/// Defines an option with one value.
 fn option<'a>(alloc: Global, name: &'a str, help: OptionHelp) -> Arg<'a>
     ensures rule { rule_of result ≡ one_option name.entry.now false }
     ensures local { result.global ≡ false }
@@ -86,7 +86,7 @@ fn option<'a>(alloc: Global, name: &'a str, help: OptionHelp) -> Arg<'a>
         .help(help.text)
 }
 
-/// An option with one value and two names.
+/// Defines an option with one value and two names.
 fn aliased<'a>(
     alloc: Global,
     name: &'a str,
@@ -100,7 +100,7 @@ fn aliased<'a>(
     option(alloc, name, help).visible_alias(other)
 }
 
-/// Names of files. At least one is required.
+/// Defines an argument for names of files, of which at least one is required.
 fn files(alloc: Global, name: &str) -> Arg<'_>
     ensures rule { rule_of result ≡ all_names name.entry.now }
     ensures local { result.global ≡ false }
@@ -108,7 +108,7 @@ fn files(alloc: Global, name: &str) -> Arg<'_>
     Arg::new(alloc, name).required(true).num_args(1..)
 }
 
-/// An option without a value.
+/// Defines an option without a value.
 fn flag(alloc: Global, name: &str) -> Arg<'_>
     ensures rule { rule_of result ≡ one_flag name.entry.now }
     ensures local { result.global ≡ false }

@@ -14,7 +14,8 @@ use common::ascii::{cut, number_u8};
 use std::alloc::{AllocError, Global};
 use version_order::{Dependency, Version};
 
-/// The dependencies of all `--dependencies`. `None` if a value isn't a list of dependencies.
+/// Returns the dependencies of all `--dependencies`, or `None` if a value isn't a list of
+/// dependencies.
 pub fn bracketed_in(
     alloc: Global,
     names: &ArgMatches<'_>,
@@ -39,8 +40,8 @@ impl WordReader<'_, Dependency> for BracketReader {
     }
 }
 
-/// The dependency that a value says: the number of an image and a version in brackets, separated by
-/// a comma, which a space may follow: `(1, 2.0.0)`.
+/// Reads a dependency: the number of an image and a version in brackets, separated by a comma,
+/// which a space may follow. For example `(1, 2.0.0)`.
 fn bracketed_need(word: &str) -> Option<Dependency>
     ensures { result ≡ bracketed_need word.now }
 {
@@ -50,7 +51,7 @@ fn bracketed_need(word: &str) -> Option<Dependency>
     }
 }
 
-/// The dependency between the brackets.
+/// Reads the dependency between the brackets.
 fn need_between(text: &[u8]) -> Option<Dependency>
     ensures { result ≡ need_between text.now }
 {

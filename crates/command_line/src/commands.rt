@@ -1,4 +1,4 @@
-//! The program and its subcommands, as `clap` defines them.
+//! Defines the program and its subcommands for `clap`.
 
 ghost use Rattle.std.specs.Prelude.{◌≡◌, IfOk, map};
 ghost use Rattle.clap.specs.Words.{app_of, new_app, shape_of};
@@ -12,7 +12,7 @@ use crate::{argument_help, help};
 use clap::Command;
 use std::alloc::{AllocError, Global};
 
-/// The names of arguments in help, and of options without their two hyphens.
+/// The names of arguments in help, and those of options without their two hyphens.
 pub mod named {
     pub const TABLE: &str = "TABLE";
 
@@ -87,17 +87,17 @@ pub mod named {
     pub const DEPENDENCIES: &str = "dependencies";
 }
 
-/// The option of each subcommand.
+/// The option that each subcommand has.
 const EXPLAIN: Argument = Argument::Flag(named::EXPLAIN, argument_help::EXPLAIN);
 
-/// The option of each subcommand that makes an image file.
+/// The option that each subcommand has that makes an image file.
 const FORCE: Argument = Argument::Flag(named::FORCE, argument_help::FORCE);
 
-/// How a subcommand is defined.
+/// The definition of a subcommand.
 struct Definition {
     /// Its name.
     name: &'static str,
-    /// Its name, in its usage.
+    /// Its name in its usage line.
     usage_name: &'static str,
     /// Its help.
     help: &'static Help,
@@ -322,7 +322,7 @@ const SUBCOMMANDS: [Subcommand; 14] = [
     Subcommand::Codes,
 ];
 
-/// The program with its subcommands.
+/// Returns the program with its subcommands.
 pub fn bootswap<'a>(alloc: Global) -> Result<Command<'a>, AllocError>
     ensures { IfOk result (λ command. app_of command ≡ bootswap) }
 {
@@ -333,7 +333,7 @@ pub fn bootswap<'a>(alloc: Global) -> Result<Command<'a>, AllocError>
     Ok(program)
 }
 
-/// The program without its subcommands. `clap` requires one of them.
+/// Returns the program without its subcommands. `clap` requires one of them.
 fn program<'a>(alloc: Global) -> Result<Command<'a>, AllocError>
     ensures { IfOk result (λ command. app_of command ≡ program) }
 {
@@ -355,7 +355,7 @@ fn with_command<'a>(
 }
 
 impl Subcommand {
-    /// The subcommand of this name.
+    /// Returns the subcommand of this name.
     pub fn of_name(name: &str) -> Option<Subcommand>
         ensures { Finds (λ one. name.now ≡ name_for one) result }
     {
@@ -367,7 +367,7 @@ impl Subcommand {
         None
     }
 
-    /// The subcommand, as `clap` defines it.
+    /// Returns the subcommand as `clap` defines it.
     pub(crate) fn command<'a>(self, alloc: Global) -> Result<Command<'a>, AllocError>
         ensures { IfOk result (λ command. shape_of command ≡ shape_for self) }
     {
@@ -377,7 +377,7 @@ impl Subcommand {
         with_arguments(alloc, command, definition.arguments)
     }
 
-    /// Its definition.
+    /// Returns its definition.
     fn definition(self) -> &'static Definition
         ensures name { result.now.name.now ≡ name_for self }
         ensures arguments { map rule_for result.now.arguments.now ≡ (shape_for self).rules }
@@ -400,20 +400,20 @@ impl Subcommand {
         }
     }
 
-    /// Its name.
+    /// Returns its name.
     fn name(self) -> &'static str
         ensures { result.now ≡ name_for self }
     {
         self.definition().name
     }
 
-    /// Its name, in its usage.
+    /// Returns its name in its usage line.
     pub fn usage_name(self) -> &'static str {
         self.definition().usage_name
     }
 }
 
-/// A command without arguments, with its help.
+/// Returns a command with its help and without arguments.
 fn new_command<'a>(alloc: Global, name: &'a str, help: &Help) -> Command<'a>
     ensures { app_of result ≡ new_app name.entry.now }
 {

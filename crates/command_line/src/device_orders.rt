@@ -1,4 +1,4 @@
-//! The orders to a device, `provision` and `run`, and how arguments give them.
+//! The orders to a device, `provision` and `run`, and their arguments.
 
 ghost use Rattle.std.specs.Prelude.{◌≡◌, ◌∷◌, IfErr, IfOk, IfSome, IsSomeAnd, None, [], codes, map};
 ghost use Rattle.std.specs.Prelude.{nat_lt, option_map};
@@ -21,7 +21,7 @@ use clap::{ArgMatches, Error};
 use std::alloc::{AllocError, Global};
 use std::convert::AsStr;
 
-/// What the arguments ask for: to provision a flash, or to run a device on one.
+/// An order to provision a flash or to run a device on one.
 #[derive(Drop)]
 pub enum DeviceOrder<'a> {
     /// `provision`: makes a flash file.
@@ -56,7 +56,7 @@ pub struct DeviceRequest<'a> {
 }
 
 impl DeviceOrder<'_> {
-    /// Its subcommand.
+    /// Returns its subcommand.
     pub fn subcommand(&self) -> Subcommand
         ensures { result ≡ subcommand_for self.now }
     {
@@ -66,7 +66,7 @@ impl DeviceOrder<'_> {
         }
     }
 
-    /// Whether the flash is standard input, which can't be written.
+    /// Returns whether the flash is standard input, which can't be written.
     pub fn writes_to_standard_input(&self) -> bool
         ensures { result ≡ writes_to_standard_input self.now }
     {
@@ -76,7 +76,7 @@ impl DeviceOrder<'_> {
         }
     }
 
-    /// Whether two of its files are standard input, which can be read only once.
+    /// Returns whether two of its files are standard input, which can be read only once.
     pub fn reads_standard_input_twice(&self) -> bool
         ensures { result ≡ nat_lt 1 (standard_inputs (names_of self.now)) }
     {
@@ -96,12 +96,13 @@ impl DeviceOrder<'_> {
     }
 }
 
-/// The order to a device that `words` ask for, `None` if they ask for another command. The first of
-/// `words` is the program's own name. The order is in memory of `alloc`.
+/// Returns the order to a device that `words` give, or `None` if they give another command. The
+/// first of `words` is the program's own name. The order is in memory of `alloc`.
 ///
 /// # Errors
-/// `Usage` if they ask for help or the version, if `clap` refuses them, or if the order names
-/// standard input for two files or for the flash, which is written. `NoMemory` if memory ran out.
+/// - `Usage` if the words ask for help or the version, if `clap` refuses them, or if the order
+///   names standard input for two files or for the flash, which is written.
+/// - `NoMemory` if memory ran out.
 pub fn device_request<'a, S: AsStr>(
     alloc: Global,
     words: &'a [S],
@@ -123,7 +124,7 @@ pub fn device_request<'a, S: AsStr>(
     }
 }
 
-/// The request of an order. Refuses an order that misuses standard input.
+/// Returns the request of an order. Refuses an order that misuses standard input.
 fn request_of<'a>(
     alloc: Global,
     order: DeviceOrder<'a>,
@@ -145,7 +146,8 @@ fn request_of<'a>(
     }
 }
 
-/// The order to a device of these matches. All its names are there, since `clap` requires them.
+/// Returns the order to a device of these matches. It has all its names, because `clap` requires
+/// them.
 fn order_in<'a>(
     alloc: Global,
     matches: &ArgMatches<'a>,
@@ -165,7 +167,7 @@ fn order_in<'a>(
     Ok(None)
 }
 
-/// The order that the arguments of `provision` give. `None` if a name is missing.
+/// Returns the order of the arguments of `provision`, or `None` if a name is missing.
 pub fn provision_in<'a>(
     alloc: Global,
     names: &ArgMatches<'a>,
@@ -188,7 +190,7 @@ pub fn provision_in<'a>(
     }))
 }
 
-/// The order that the arguments of `run` give. `None` if a name is missing.
+/// Returns the order of the arguments of `run`, or `None` if a name is missing.
 pub fn run_in<'a>(names: &ArgMatches<'a>) -> Option<DeviceOrder<'a>>
     ensures { Finds (AsksDevice (codes "run") (rows_of (found_of names.now))) result }
 {
@@ -204,7 +206,7 @@ pub fn run_in<'a>(names: &ArgMatches<'a>) -> Option<DeviceOrder<'a>>
     })
 }
 
-/// The fault of an order that writes standard input, or reads it twice.
+/// Returns the fault of an order that writes standard input or reads it twice.
 fn misuse(alloc: Global, order: &DeviceOrder<'_>) -> Result<Option<Error>, AllocError>
     ensures { IfOk result (λ found. option_map kind_of found ≡ misuse_of (Device order.now)) }
 {

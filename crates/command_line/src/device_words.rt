@@ -15,7 +15,7 @@ use common::ascii::number;
 use common::limits::MOST_TRIAL_BOOTS;
 use std::alloc::{AllocError, Global};
 
-/// The device that the arguments describe. `None` if one of the numbers isn't valid.
+/// Returns the device that the arguments describe, or `None` if one of the numbers isn't valid.
 pub fn device_in<'a>(
     alloc: Global,
     names: &ArgMatches<'a>,
@@ -49,7 +49,7 @@ pub fn device_in<'a>(
     }))
 }
 
-/// The text of the fault of arguments that describe no device: the first that isn't valid.
+/// Returns the text of the first fault of arguments that describe no device.
 pub fn invalid_device(names: &ArgMatches<'_>) -> &'static str {
     if number_in(names, named::SECTOR).is_none() {
         order_fault_texts::NO_SECTOR
@@ -60,15 +60,15 @@ pub fn invalid_device(names: &ArgMatches<'_>) -> &'static str {
     }
 }
 
-/// The number that is given for this argument.
+/// Returns the number that is given for this argument.
 pub fn number_in(names: &ArgMatches<'_>, argument: &str) -> Option<u32>
     ensures { result ≡ number_at argument.now (rows_of (found_of names.now)) }
 {
     number(name_in(names, argument)?.as_bytes())
 }
 
-/// The number of boots of a trial, if it is given. `None` if it isn't a number from 1 to
-/// [`MOST_TRIAL_BOOTS`].
+/// Returns the number of boots of a trial, if it is given. Returns `None` if it isn't a number from
+/// 1 to [`MOST_TRIAL_BOOTS`].
 pub fn trial_boots_in(names: &ArgMatches<'_>) -> Option<Option<u8>>
     ensures { Finds (HasTrialBoots (rows_of (found_of names.now))) result }
 {
@@ -83,7 +83,7 @@ pub fn trial_boots_in(names: &ArgMatches<'_>) -> Option<Option<u8>>
     }
 }
 
-/// The numbers of a text, separated by commas. `None` if one of them isn't a number.
+/// Reads numbers that are separated by commas. Returns `None` if one of them isn't a number.
 fn numbers_in(alloc: Global, text: &str) -> Result<Option<Vec<u32>>, AllocError>
     ensures { IfOk result (Finds (λ numbers.
         AllZip IsNumber (words_of text.now) numbers.items)) }
@@ -92,7 +92,7 @@ fn numbers_in(alloc: Global, text: &str) -> Result<Option<Vec<u32>>, AllocError>
     values_of(alloc, &NumberReader, &words)
 }
 
-/// The words of a text, separated by commas.
+/// Returns the words of a text that are separated by commas.
 fn words_in<'a>(alloc: Global, text: &'a str) -> Result<Vec<&'a str>, AllocError>
     ensures { IfOk result (λ words. map (λ word. word.now) words.items ≡ words_of text.now) }
 {

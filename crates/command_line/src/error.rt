@@ -1,4 +1,4 @@
-//! Why arguments give no order.
+//! The reasons why arguments give no order.
 
 ghost use Rattle.std.specs.Prelude.{◌≡◌};
 ghost use Rattle.command_line.specs.Codes.{code_of, name_of};
@@ -11,8 +11,8 @@ use thiserror::Error;
 /// Why arguments give no order. The numbers are 1 and 2, in this order.
 #[derive(Debug, Drop, Error)]
 pub enum OrderError {
-    /// The program doesn't know the arguments, or they ask for help or the version: the answer of
-    /// `clap`, with the text to print and the exit status. It is never that memory ran out.
+    /// `clap` or the program refuses the arguments, or they ask for help or the version. The error
+    /// has the text to print and the exit status. Its kind is never that memory ran out.
     #[error("{0}")]
     Usage(clap::Error),
     /// Memory ran out.
@@ -21,7 +21,7 @@ pub enum OrderError {
 }
 
 impl OrderError {
-    /// The number of the kind, 1 or 2.
+    /// Returns the number of the kind, 1 or 2.
     pub fn code(&self) -> u8
         ensures { result ≡ code_of self.now }
     {
@@ -31,7 +31,7 @@ impl OrderError {
         }
     }
 
-    /// The name of the kind.
+    /// Returns the name of the kind.
     pub fn name(&self) -> &'static str
         ensures { result.now ≡ name_of self.now }
     {
@@ -50,7 +50,7 @@ impl From<AllocError> for OrderError {
     }
 }
 
-/// The error of `clap`, `NoMemory` if memory ran out.
+/// Converts an error of `clap`, to `NoMemory` if memory ran out.
 impl From<clap::Error> for OrderError {
     ghost from_gives = { λ answer error. Says answer error };
 

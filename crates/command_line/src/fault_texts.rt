@@ -1,6 +1,6 @@
 //! The texts of faults in the arguments of any command.
 
-/// The arguments aren't text.
+/// The arguments aren't valid UTF-8.
 pub const NO_TEXT: &str = "invalid UTF-8 was detected in one or more arguments";
 
 /// The order names standard input twice.

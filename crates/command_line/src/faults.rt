@@ -1,4 +1,4 @@
-//! Faults in arguments, as `clap` prints its own.
+//! Makes the errors of faults in arguments, as `clap` prints its own.
 
 ghost use Rattle.std.specs.Prelude.{◌≡◌, IfOk, option_map};
 ghost use Rattle.clap.specs.Words.{kind_of};
@@ -16,8 +16,8 @@ use common::texts::Escaped;
 use std::alloc::{AllocError, Global};
 use std::convert::AsStr;
 
-/// The fault of these arguments, as it is printed: the text of `clap` names them with their control
-/// characters escaped. `fault` is the answer to them.
+/// Returns the fault of these arguments as it is printed: the text of `clap` names them with their
+/// control characters escaped. `fault` is the answer of `clap` to the arguments as they are.
 pub fn fault_of<S: AsStr>(alloc: Global, words: &[S], fault: Error) -> OrderError
     ensures { IsTold result }
 {
@@ -30,7 +30,7 @@ pub fn fault_of<S: AsStr>(alloc: Global, words: &[S], fault: Error) -> OrderErro
     }
 }
 
-/// The fault of arguments that aren't text.
+/// Returns the fault of arguments that aren't valid UTF-8.
 pub fn no_text(alloc: Global) -> OrderError
     ensures { IsUsage InvalidValue result }
 {
@@ -40,14 +40,14 @@ pub fn no_text(alloc: Global) -> OrderError
     }
 }
 
-/// A fault in the arguments of the program, with its text.
+/// Returns a fault in the arguments of the program, with this text.
 pub fn program_error(alloc: Global, kind: ErrorKind, text: &str) -> Result<Error, AllocError>
     ensures { IfOk result (λ error. kind_of error ≡ kind) }
 {
     commands::bootswap(alloc)?.error(kind, text)
 }
 
-/// A fault in the arguments of a subcommand, with its text.
+/// Returns a fault in the arguments of a subcommand, with this text.
 pub fn subcommand_error(
     alloc: Global,
     subcommand: Subcommand,
@@ -62,7 +62,8 @@ pub fn subcommand_error(
     command.error(kind, text)
 }
 
-/// The fault of an order that writes standard input, with its text, or that reads it twice.
+/// Returns the fault of an order that writes standard input, with `written_text`, or that reads it
+/// twice. Returns `None` if it does neither.
 pub fn misuse_error(
     alloc: Global,
     subcommand: Subcommand,

@@ -8,9 +8,9 @@ pub struct Help {
     /// The usage line. It shows options only if one is required, or if the command has more than
     /// one of its own.
     pub usage: &'static str,
-    /// What the command does, in one line.
+    /// The purpose of the command in one line.
     pub about: &'static str,
-    /// What the command does, and what its files and its answer look like.
+    /// The purpose of the command, and the form of its files and its answer.
     pub long_about: &'static str,
     /// The end of short help: the exit statuses in one line, and an example.
     pub after: &'static str,

@@ -18,7 +18,7 @@ use common::ascii::number_u8;
 use std::alloc::{AllocError, Global};
 use version_order::{Dependency, Version};
 
-/// The image that the arguments describe. `None` if one of them isn't valid.
+/// Returns the image that the arguments describe, or `None` if one of them isn't valid.
 pub fn image_values_in(
     alloc: Global,
     names: &ArgMatches<'_>,
@@ -57,7 +57,7 @@ pub fn image_values_in(
     }))
 }
 
-/// The text of the fault of arguments that describe no image: the first that isn't valid.
+/// Returns the text of the first fault of arguments that describe no image.
 pub fn invalid_image(alloc: Global, names: &ArgMatches<'_>) -> Result<&'static str, AllocError> {
     if version_in(names).is_none() {
         return Ok(order_fault_texts::NO_VERSION);
@@ -83,14 +83,15 @@ pub fn invalid_image(alloc: Global, names: &ArgMatches<'_>) -> Result<&'static s
     }
 }
 
-/// The version that is given.
+/// Returns the version that is given.
 fn version_in(names: &ArgMatches<'_>) -> Option<Version>
     ensures { result ≡ version_at (rows_of (found_of names.now)) }
 {
     Version::parse(name_in(names, named::VERSION)?).ok()
 }
 
-/// The number for this argument, if one is given. `None` if the value isn't a number.
+/// Returns the number for this argument, if one is given. Returns `None` if the value isn't a
+/// number.
 pub fn number_said(names: &ArgMatches<'_>, argument: &str) -> Option<Option<u32>>
     ensures { Finds (HasNumber argument.now (2 ^ 32) (rows_of (found_of names.now))) result }
 {
@@ -100,7 +101,8 @@ pub fn number_said(names: &ArgMatches<'_>, argument: &str) -> Option<Option<u32>
     Some(Some(number_in(names, argument)?))
 }
 
-/// The size of the header, if it is given. `None` if it isn't a number below 65536.
+/// Returns the size of the header in bytes, if it is given. Returns `None` if it isn't a number
+/// below 65536.
 fn header_size_in(names: &ArgMatches<'_>) -> Option<Option<u16>>
     ensures { Finds (HasNumber (codes "header-size") (2 ^ 16) (rows_of (found_of names.now)))
         result }
@@ -112,8 +114,8 @@ fn header_size_in(names: &ArgMatches<'_>) -> Option<Option<u16>>
     Some(Some(size))
 }
 
-/// The dependencies that are given, those in brackets after the others. `None` if one of the values
-/// isn't a dependency.
+/// Returns the dependencies that are given: those of `--needs`, then those in brackets. Returns
+/// `None` if one of the values isn't a dependency.
 fn dependencies_in(
     alloc: Global,
     names: &ArgMatches<'_>,
@@ -131,7 +133,7 @@ fn dependencies_in(
     Ok(Some(dependencies))
 }
 
-/// The dependencies of all `--needs`. `None` if one of the values isn't a dependency.
+/// Returns the dependencies of all `--needs`, or `None` if one of the values isn't a dependency.
 fn needs_in_words(
     alloc: Global,
     names: &ArgMatches<'_>,
@@ -143,7 +145,7 @@ fn needs_in_words(
     values_in(alloc, names, named::NEEDS, &NeedReader)
 }
 
-/// The groups that are given. `None` if one of the values isn't a group.
+/// Returns the groups that are given, or `None` if one of the values isn't a group.
 fn groups_in(
     alloc: Global,
     names: &ArgMatches<'_>,
@@ -178,7 +180,7 @@ impl WordReader<'_, Vec<Dependency>> for GroupReader {
     }
 }
 
-/// The single dependency that a value says.
+/// Reads a single dependency.
 fn dependency_of(alloc: Global, word: &str) -> Result<Option<Dependency>, AllocError>
     ensures { IfOk result (Finds (IsNeed word.now)) }
 {
@@ -191,8 +193,7 @@ fn dependency_of(alloc: Global, word: &str) -> Result<Option<Dependency>, AllocE
     }
 }
 
-/// The dependencies that a value says: for each the number of an image and a version, separated by
-/// spaces.
+/// Reads dependencies: for each the number of an image and a version, separated by spaces.
 fn needs_in(alloc: Global, word: &str) -> Result<Option<Vec<Dependency>>, AllocError>
     ensures { IfOk result (λ needs. option_map (λ needs. needs.items) needs
         ≡ needs_of (spaced word.now)) }
@@ -201,14 +202,14 @@ fn needs_in(alloc: Global, word: &str) -> Result<Option<Vec<Dependency>>, AllocE
     needs_of(alloc, &words)
 }
 
-/// The words of a text, separated by spaces.
+/// Returns the words of a text that are separated by spaces.
 fn spaced_words<'a>(alloc: Global, text: &'a str) -> Result<Vec<&'a str>, AllocError>
     ensures { IfOk result (λ words. map (λ word. word.now) words.items ≡ spaced text.now) }
 {
     text.split(' ').collect(alloc)
 }
 
-/// The dependencies that these words say, two words for each.
+/// Reads dependencies, each from two words.
 fn needs_of(alloc: Global, words: &[&str]) -> Result<Option<Vec<Dependency>>, AllocError>
     ensures { IfOk result (λ needs. option_map (λ needs. needs.items) needs
         ≡ needs_of (map (λ word. word.now) words.now)) }
@@ -229,7 +230,7 @@ fn needs_of(alloc: Global, words: &[&str]) -> Result<Option<Vec<Dependency>>, Al
     }
 }
 
-/// The dependency that these two words say.
+/// Reads a dependency from two words.
 fn need_of(image: &str, minimum: &str) -> Option<Dependency>
     ensures { result ≡ need_of image.now minimum.now }
 {

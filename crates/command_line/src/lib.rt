@@ -2,13 +2,13 @@
 //!
 //! - Promises: The arguments give an order exactly as `clap` defines it, or another answer with its
 //!   reason: a fault in them, which ends with 2, help or the version, or lack of memory. An order
-//!   names standard input once at most.
+//!   names standard input at most once.
 //! - Main calls: `device_request`, `request`, `matches_of`
 //! - Allocates: to read the arguments and to make texts.
 //! - Callers: commands and programs.
 //!
-//! `device_request` reads the orders to a device alone, `provision` and `run`, and `request` those
-//! of all commands. Files are named here and not opened.
+//! `device_request` reads only the orders to a device, `provision` and `run`. `request` reads those
+//! of all commands. This crate names files and opens none.
 #![tactic(auto)]
 
 mod argument_help;

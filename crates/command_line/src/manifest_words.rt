@@ -15,8 +15,8 @@ use common::ascii::number_u8;
 use common::limits::MOST_IMAGES;
 use std::alloc::{AllocError, Global};
 
-/// The manifest that the arguments describe. `None` if one of them isn't valid, or if they name no
-/// file, or more files than a device has images.
+/// Returns the manifest that the arguments describe. Returns `None` if one of them isn't valid, or
+/// if they name no file, or more files than a device may have images.
 pub fn manifest_values_in<'a>(
     alloc: Global,
     names: &ArgMatches<'a>,
@@ -37,8 +37,8 @@ pub fn manifest_values_in<'a>(
     }))
 }
 
-/// The text of the fault of arguments that describe no manifest: the first that isn't valid, or that
-/// they name no file or too many.
+/// Returns the text of the first fault of arguments that describe no manifest: one of them isn't
+/// valid, or they name no file or too many.
 pub fn invalid_manifest(alloc: Global, names: &ArgMatches<'_>) -> Result<&'static str, AllocError> {
     if number_in(names, named::SEQUENCE).is_none() {
         return Ok(order_fault_texts::NO_SEQUENCE);
@@ -52,8 +52,9 @@ pub fn invalid_manifest(alloc: Global, names: &ArgMatches<'_>) -> Result<&'stati
     }
 }
 
-/// The files that are given, those for a test before those that are to stay. `None` if one of the
-/// values isn't an image and a file, or if there is no file, or more than a device has images.
+/// Returns the files that are given: those for a test, then those that are permanent. Returns
+/// `None` if one of the values isn't an image and a file, or if there is no file, or more than a
+/// device may have images.
 fn all_components_in<'a>(
     alloc: Global,
     names: &ArgMatches<'a>,
@@ -78,7 +79,8 @@ fn all_components_in<'a>(
     Ok(Some(components))
 }
 
-/// The files that are given for this option. `None` if one of the values isn't an image and a file.
+/// Returns the files that are given for this option, or `None` if one of the values isn't an image
+/// and a file.
 fn components_in<'a>(
     alloc: Global,
     names: &ArgMatches<'a>,
@@ -107,7 +109,7 @@ impl<'a> WordReader<'a, NewComponent<'a>> for ComponentReader {
     }
 }
 
-/// The file that a value says, and the image that it is for: `1=b.img`.
+/// Reads a file and the image that it is for. For example `1=b.img`.
 fn component_of<'a>(word: &'a str, permanent: bool) -> Option<NewComponent<'a>>
     ensures { Finds (IsComponent permanent word.entry.now) result }
 {

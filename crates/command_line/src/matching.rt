@@ -1,4 +1,4 @@
-//! The matches of `clap`.
+//! Reads the matches of `clap` for the program's arguments.
 
 ghost use Rattle.std.specs.Prelude.{◌≡◌, IfErr, IfOk, [], codes, map, option_map};
 ghost use Rattle.clap.specs.Words.{HasKind, all_of, fault_of, first_of, found_of};
@@ -11,12 +11,12 @@ use clap::{ArgMatches, Error};
 use std::alloc::{AllocError, Global};
 use std::convert::AsStr;
 
-/// The matches of `clap` for these arguments, in memory of `alloc`. The first argument is the
-/// program's own name.
+/// Returns the matches of `clap` for these arguments, in memory of `alloc`. The first argument is
+/// the program's own name.
 ///
 /// # Errors
-/// The answer of `clap` if it refuses them, or if they ask for help or the version. `NoMemory` if
-/// memory ran out.
+/// The error of `clap` if it refuses the arguments, or if they ask for help or the version. Its
+/// kind is `OutOfMemory` if memory ran out.
 pub fn matches_of<'a, S: AsStr>(alloc: Global, words: &'a [S]) -> Result<ArgMatches<'a>, Error>
     ensures found { IfOk result (λ matches. subcommand_rows_of matches
         ≡ subcommand_of bootswap (map S.text words.entry.now)) }
@@ -26,7 +26,7 @@ pub fn matches_of<'a, S: AsStr>(alloc: Global, words: &'a [S]) -> Result<ArgMatc
     bootswap(alloc)?.try_get_matches_from(words)
 }
 
-/// The subcommand that was named, with its matches.
+/// Returns the subcommand that was named, with its matches.
 pub fn named_in<'m, 'a>(matches: &'m ArgMatches<'a>) -> Option<(&'a str, &'m ArgMatches<'a>)>
     ensures { option_map (λ named. (named.0.now, rows_of (found_of named.1.now))) result
         ≡ subcommand_rows_of matches.now }
@@ -34,7 +34,7 @@ pub fn named_in<'m, 'a>(matches: &'m ArgMatches<'a>) -> Option<(&'a str, &'m Arg
     matches.subcommand()
 }
 
-/// Whether to explain the answer (`--explain`).
+/// Returns whether to explain the answer (`--explain`).
 pub fn is_explained(matches: &ArgMatches<'_>) -> bool
     ensures { result ≡ has_explain (subcommand_rows_of matches.now) }
 {
@@ -44,7 +44,7 @@ pub fn is_explained(matches: &ArgMatches<'_>) -> bool
     }
 }
 
-/// The images that are given, in memory of `alloc`.
+/// Returns the names of the images that are given, in memory of `alloc`.
 pub fn images_in<'a>(
     alloc: Global,
     names: &ArgMatches<'a>,
@@ -59,7 +59,7 @@ pub fn images_in<'a>(
     }
 }
 
-/// The value that is given for this argument.
+/// Returns the value that is given for this argument.
 pub fn name_in<'a>(names: &ArgMatches<'a>, argument: &str) -> Option<&'a str>
     ensures { option_map (λ name. name.now) result
         ≡ first_of argument.now (rows_of (found_of names.now)) }
@@ -67,7 +67,7 @@ pub fn name_in<'a>(names: &ArgMatches<'a>, argument: &str) -> Option<&'a str>
     names.get_str(argument)
 }
 
-/// Whether this option without a value is given.
+/// Returns whether this option without a value is given.
 pub fn is_given(names: &ArgMatches<'_>, option: &str) -> bool
     ensures { result ≡ is_given option.now (rows_of (found_of names.now)) }
 {
@@ -77,7 +77,7 @@ pub fn is_given(names: &ArgMatches<'_>, option: &str) -> bool
     }
 }
 
-/// All values that are given for this argument.
+/// Returns all values that are given for this argument.
 pub fn names_in<'m, 'a>(names: &'m ArgMatches<'a>, argument: &str) -> Option<&'m [&'a str]>
     ensures { option_map (λ found. map (λ name. name.now) found.now) result
         ≡ all_of argument.now (rows_of (found_of names.now)) }

@@ -12,10 +12,10 @@ pub const NO_SEQUENCE: &str = "`--sequence` is a number, in digits, below 429496
 /// A file for a test isn't valid.
 pub const NO_TEST: &str = "`--test` is the number of an image and its file: 0=a.img";
 
-/// A file that is to stay isn't valid.
+/// A permanent file isn't valid.
 pub const NO_PERMANENT: &str = "`--permanent` is the number of an image and its file: 0=a.img";
 
-/// The arguments name no file, or more files than a device has images.
+/// The arguments name no file, or more files than a device may have images.
 pub const NO_COMPONENTS: &str =
     "give one to eight files that may come, by `--test I=FILE` or `--permanent I=FILE`";
 
@@ -57,10 +57,10 @@ pub const NO_SLOTS: &str =
 /// The number of boots of a trial isn't valid.
 pub const NO_TRIAL_BOOTS: &str = "`--trial-boots` is a number from 1 to 7";
 
-/// The number of runs isn't valid.
+/// The number of random cuts isn't valid.
 pub const NO_SAMPLE: &str = "`--sample` is a number, in digits, below 4294967296";
 
-/// The seed of the draws isn't a number.
+/// The seed of the random cuts isn't a number.
 pub const NO_SEED: &str = "`--seed` is a number, in digits, below 4294967296";
 
 /// The order makes an image on standard input.

@@ -1,4 +1,4 @@
-//! The orders of all commands, and how arguments give them.
+//! The orders of all commands, and their arguments.
 
 ghost use Rattle.std.specs.Prelude.{◌≡◌, ◌∷◌, IfOk, codes, nat_lt, option_map};
 ghost use Rattle.clap.specs.Words.{found_of, rows_of};
@@ -23,12 +23,12 @@ use sector_map::Side;
 use std::alloc::{AllocError, Global};
 use version_order::{Dependency, Version};
 
-/// The device of `make-device`, as the arguments describe it.
+/// The device that the arguments of `make-device` describe.
 #[derive(Drop)]
 pub struct NewDevice<'a> {
     /// The length of a sector in bytes.
     pub sector_size: u32,
-    /// The number of sectors of each slot of an image, an entry for each image.
+    /// The number of sectors of each of an image's slots, an entry for each image.
     pub sectors: Vec<u32>,
     /// The domain name of the vendor.
     pub vendor: &'a str,
@@ -38,7 +38,7 @@ pub struct NewDevice<'a> {
     pub trial_boots: Option<u8>,
 }
 
-/// The image of `make-image`, as the arguments describe it.
+/// The image that the arguments of `make-image` describe.
 #[derive(Drop)]
 pub struct NewImage {
     /// Its version.
@@ -77,33 +77,33 @@ pub struct NewComponent<'a> {
     pub file: &'a str,
 }
 
-/// The manifest of `make-manifest`, as the arguments describe it.
+/// The manifest that the arguments of `make-manifest` describe.
 #[derive(Drop)]
 pub struct NewManifest<'a> {
     /// Its sequence number.
     pub sequence: u32,
     /// The name of the flash file whose running images are the precursors, if it is given.
     pub precursor: Option<&'a str>,
-    /// The files: those for a test, in the order of the arguments, and then those that are to stay.
+    /// The files: those for a test in the order of the arguments, and then the permanent ones.
     pub components: Vec<NewComponent<'a>>,
-    /// Whether a file that the device will not take results in exit status 1.
+    /// Whether the exit status is 1 if the device will not take a file.
     pub is_strict: bool,
 }
 
-/// What a sweep tries and makes, as the arguments say it.
+/// The options of `sweep`.
 #[derive(Clone, Copy)]
 pub struct SweepChoices<'a> {
     /// Whether each write of the boot after a cut is cut too.
     pub is_twice: bool,
-    /// The number of runs that are drawn at random, if it is given.
+    /// The number of random cuts, if it is given.
     pub sample: Option<u32>,
-    /// The seed of the draws, if it is given.
+    /// The seed of the random cuts, if it is given.
     pub seed: Option<u32>,
     /// The name of the picture to make, if it is given.
     pub picture: Option<&'a str>,
 }
 
-/// What a command that only reads is asked for.
+/// An order of a command that only reads.
 #[derive(Clone, Copy)]
 pub enum ReadOrder<'a> {
     /// `choose`: chooses over a table.
@@ -148,7 +148,7 @@ pub enum ReadOrder<'a> {
     Codes,
 }
 
-/// What the arguments ask for: a subcommand, with the names of its files and its options.
+/// An order: a subcommand, with the names of its files and its options.
 #[derive(Drop)]
 pub enum Order<'a> {
     /// A command that writes nothing but its answer.
@@ -189,15 +189,15 @@ pub enum Order<'a> {
         /// The file that is made.
         out: NewFile<'a>,
     },
-    /// `sweep`: runs a script on a device with each of its writes cut, one run for each.
+    /// `sweep`: runs a script on a device once for each of its writes, and cuts that write.
     Sweep {
         /// The name of the device file.
         device: &'a str,
         /// The name of the script.
         script: &'a str,
-        /// The names of the images that run first, in their order.
+        /// The names of the images that run at the start, in their order.
         images: Vec<&'a str>,
-        /// What is tried and made.
+        /// Its options.
         choices: SweepChoices<'a>,
     },
 }
@@ -211,7 +211,7 @@ pub struct Request<'a> {
     pub is_explained: bool,
 }
 
-/// The order of a subcommand, with these matches.
+/// Returns the order of a subcommand with these matches, or `None` if a value isn't valid.
 pub fn order_of<'a>(
     alloc: Global,
     subcommand: Subcommand,
@@ -238,7 +238,7 @@ pub fn order_of<'a>(
     }
 }
 
-/// An order to a device, as one of all orders.
+/// Returns an order to a device as one of all orders.
 fn to_device(order: Option<DeviceOrder<'_>>) -> Option<Order<'_>>
     ensures { result ≡ option_map Device order.entry }
 {
@@ -357,7 +357,7 @@ fn extract_in<'a>(names: &ArgMatches<'a>) -> Option<Order<'a>>
     })
 }
 
-/// The image file to make that is given.
+/// Returns the image file to make that is given.
 fn new_file_in<'a>(names: &ArgMatches<'a>) -> Option<NewFile<'a>>
     ensures { Finds (IsNewFile (rows_of (found_of names.now))) result }
 {
@@ -366,21 +366,21 @@ fn new_file_in<'a>(names: &ArgMatches<'a>) -> Option<NewFile<'a>>
     Some(NewFile { name, is_forced })
 }
 
-/// The number of an image that is given.
+/// Returns the number of an image that is given.
 fn image_in_words(names: &ArgMatches<'_>) -> Option<u8>
     ensures { result ≡ image_at (rows_of (found_of names.now)) }
 {
     number_u8(name_in(names, named::IMAGE)?.as_bytes())
 }
 
-/// The side of a slot that is given.
+/// Returns the side of a slot that is given.
 fn side_in(names: &ArgMatches<'_>) -> Option<Side>
     ensures { result ≡ side_at (rows_of (found_of names.now)) }
 {
     side_of(name_in(names, named::SIDE)?)
 }
 
-/// The side that a value says.
+/// Reads a side.
 fn side_of(word: &str) -> Option<Side>
     ensures { result ≡ side_of word.now }
 {
@@ -416,7 +416,7 @@ fn sweep_in<'a>(alloc: Global, names: &ArgMatches<'a>) -> Result<Option<Order<'a
     }))
 }
 
-/// The text of the fault of arguments of `extract` that name no slot.
+/// Returns the text of the fault of arguments of `extract` that name no slot.
 pub fn invalid_slot(names: &ArgMatches<'_>) -> &'static str {
     if image_in_words(names).is_none() {
         order_fault_texts::NO_IMAGE_NUMBER
@@ -425,7 +425,7 @@ pub fn invalid_slot(names: &ArgMatches<'_>) -> &'static str {
     }
 }
 
-/// The text of the fault of an order that writes standard input.
+/// Returns the text of the fault of an order that writes standard input.
 pub fn written_text(order: &Order<'_>) -> &'static str {
     match order {
         Order::MakeImage { .. } | Order::Extract { .. } => order_fault_texts::IMAGE_WRITTEN,
@@ -434,7 +434,7 @@ pub fn written_text(order: &Order<'_>) -> &'static str {
     }
 }
 
-/// The subcommand of an order.
+/// Returns the subcommand of an order.
 pub fn subcommand_for(order: &Order<'_>) -> Subcommand
     ensures { result ≡ subcommand_for order.now }
 {
@@ -449,7 +449,7 @@ pub fn subcommand_for(order: &Order<'_>) -> Subcommand
     }
 }
 
-/// Whether an order writes standard input.
+/// Returns whether an order writes standard input.
 pub fn writes_to_standard_input(order: &Order<'_>) -> bool
     ensures { result ≡ writes_to_standard_input order.now }
 {
@@ -462,7 +462,7 @@ pub fn writes_to_standard_input(order: &Order<'_>) -> bool
     }
 }
 
-/// Whether two files of an order are standard input, which can be read only once.
+/// Returns whether two files of an order are standard input, which can be read only once.
 pub fn reads_standard_input_twice(order: &Order<'_>) -> bool
     ensures { result ≡ nat_lt 1 (standard_inputs (names_of order.now)) }
 {
@@ -490,7 +490,7 @@ pub fn reads_standard_input_twice(order: &Order<'_>) -> bool
 }
 
 impl ReadOrder<'_> {
-    /// Its subcommand.
+    /// Returns its subcommand.
     fn subcommand(&self) -> Subcommand
         ensures { result ≡ subcommand_to_read self.now }
     {
@@ -505,7 +505,7 @@ impl ReadOrder<'_> {
         }
     }
 
-    /// Whether two of its files are standard input, which can be read only once.
+    /// Returns whether two of its files are standard input, which can be read only once.
     fn reads_standard_input_twice(&self) -> bool
         ensures { result ≡ nat_lt 1 (standard_inputs (names_to_read self.now)) }
     {
@@ -531,7 +531,7 @@ impl ReadOrder<'_> {
     }
 }
 
-/// The number of files of a manifest that are standard input.
+/// Returns the number of files of a manifest that are standard input.
 fn inputs_of_manifest(device: &str, manifest: &NewManifest<'_>) -> usize
     ensures { result ≡ standard_inputs (device.entry ∷ files_of manifest.now) }
 {

@@ -1,4 +1,4 @@
-//! What arguments ask for, or why they ask for nothing.
+//! Reads the order that arguments give, or the reason why they give none.
 
 ghost use Rattle.std.specs.Prelude.{◌≡◌, ◌⊎◌, IfErr, IfOk, None, [], map, option_map};
 ghost use Rattle.clap.specs.Words.{fault_of, kind_of, subcommand_rows_of};
@@ -28,12 +28,13 @@ use clap::{ArgMatches, Error};
 use std::alloc::{AllocError, Global};
 use std::convert::AsStr;
 
-/// The order that `words` give: its subcommand, and the names, numbers and options. The first of
-/// `words` is the program's own name. The order is in memory of `alloc`.
+/// Returns the order that `words` give: its subcommand, and its names, numbers and options. The
+/// first of `words` is the program's own name. The order is in memory of `alloc`.
 ///
 /// # Errors
-/// `Usage` if they give no order, with the answer of `clap` or of the program, which may be help or
-/// the version. `NoMemory` if memory ran out.
+/// - `Usage` if they give no order, with the answer of `clap` or of the program, which may be help
+///   or the version.
+/// - `NoMemory` if memory ran out.
 pub fn order<'a, S: AsStr>(alloc: Global, words: &'a [S]) -> Result<Order<'a>, OrderError>
     ensures given { IfOk result (GiveOrder (map S.text words.entry.now)) }
     ensures refused { IfErr result (IsRefusal (map S.text words.entry.now)) }
@@ -42,11 +43,14 @@ pub fn order<'a, S: AsStr>(alloc: Global, words: &'a [S]) -> Result<Order<'a>, O
     Ok(asked.order)
 }
 
-/// What `words` ask for. The first of them is the program's own name.
+/// Returns the order that `words` give, and whether to explain its answer. The first of `words` is
+/// the program's own name. The order is in memory of `alloc`.
 ///
-/// Otherwise they ask for help or the version, or have a fault: `clap` refuses them, a number,
-/// version or dependency isn't valid, or the order names standard input for two files or for a file
-/// that is written.
+/// # Errors
+/// - `Usage` if the words ask for help or the version, or have a fault: `clap` refuses them; a
+///   number, version or dependency isn't valid; or the order names standard input for two files or
+///   for a file that is written.
+/// - `NoMemory` if memory ran out.
 pub fn request<'a, S: AsStr>(alloc: Global, words: &'a [S]) -> Result<Request<'a>, OrderError>
     ensures order { IfOk result (λ request. GiveOrder (map S.text words.entry.now) request.order) }
     ensures explained { IfOk result (λ request.
@@ -60,7 +64,7 @@ pub fn request<'a, S: AsStr>(alloc: Global, words: &'a [S]) -> Result<Request<'a
     }
 }
 
-/// The request of an order. Refuses an order that misuses standard input.
+/// Returns the request of an order. Refuses an order that misuses standard input.
 fn request_of<'a>(
     alloc: Global,
     order: Order<'a>,
@@ -81,8 +85,8 @@ fn request_of<'a>(
     }
 }
 
-/// The order of these matches. All its names are there, since `clap` requires them. `None` if a
-/// number, a version or a dependency isn't valid.
+/// Returns the order of these matches. It has all its names, because `clap` requires them. Returns
+/// `None` if a number, a version or a dependency isn't valid.
 fn order_in<'a>(alloc: Global, matches: &ArgMatches<'a>) -> Result<Option<Order<'a>>, AllocError>
     ensures { IfOk result (Finds (IsOrderOf (subcommand_rows_of matches.now))) }
 {
@@ -95,8 +99,8 @@ fn order_in<'a>(alloc: Global, matches: &ArgMatches<'a>) -> Result<Option<Order<
     }
 }
 
-/// The fault of arguments that `clap` accepts but that give no order: a value isn't valid, or there
-/// is no subcommand.
+/// Returns the fault of arguments that `clap` accepts but that give no order: a value isn't valid,
+/// or there is no subcommand.
 fn no_order(alloc: Global, matches: &ArgMatches<'_>) -> OrderError
     ensures { IsUsage InvalidValue result ⊎ IsUsage MissingSubcommand result }
 {
@@ -120,8 +124,8 @@ fn no_order_error(alloc: Global, matches: &ArgMatches<'_>) -> Result<Error, Allo
     }
 }
 
-/// The subcommand of arguments of which a value isn't valid, and the text of its fault. `None` if
-/// the subcommand takes any value, or there is none.
+/// Returns the subcommand of arguments with a value that isn't valid, and the text of the fault.
+/// Returns `None` if the subcommand takes any value, or if there is no subcommand.
 fn invalid_value(
     alloc: Global,
     matches: &ArgMatches<'_>,
@@ -143,7 +147,7 @@ fn invalid_value(
     Ok(Some((command, text)))
 }
 
-/// The fault of an order that writes standard input, or reads it twice.
+/// Returns the fault of an order that writes standard input or reads it twice.
 fn misuse(alloc: Global, order: &Order<'_>) -> Result<Option<Error>, AllocError>
     ensures { IfOk result (λ found. option_map kind_of found ≡ misuse_of order.now) }
 {

@@ -9,7 +9,7 @@ use crate::orders::SweepChoices;
 use crate::{is_given, name_in, named, order_fault_texts};
 use clap::ArgMatches;
 
-/// What the arguments say that a sweep tries and makes. `None` if one of the numbers isn't valid.
+/// Returns the options of a sweep, or `None` if one of the numbers isn't valid.
 pub fn sweep_choices_in<'a>(names: &ArgMatches<'a>) -> Option<SweepChoices<'a>>
     ensures { Finds (SaysSweep (rows_of (found_of names.now))) result }
 {
@@ -23,7 +23,7 @@ pub fn sweep_choices_in<'a>(names: &ArgMatches<'a>) -> Option<SweepChoices<'a>>
     })
 }
 
-/// The text of the fault of arguments of which one isn't a number: the first.
+/// Returns the text of the first fault of options of which one isn't a number.
 pub fn invalid_choices(names: &ArgMatches<'_>) -> &'static str {
     if number_said(names, named::SAMPLE).is_none() {
         order_fault_texts::NO_SAMPLE

@@ -1,4 +1,4 @@
-//! Values that the words of an argument say, one each.
+//! Reads the values of an argument, each from one word.
 
 ghost use Rattle.std.specs.Prelude.{ℕ, IfOk, List, map, option_map};
 ghost use Rattle.std.specs.List.{AllZip};
@@ -12,15 +12,16 @@ use std::alloc::{AllocError, Global};
 
 /// Reads a value from a word.
 pub trait WordReader<'a, T> {
-    /// A word says this value.
+    /// The word is read as this value.
     ghost says: { Self → List ℕ → T → Type 0 };
 
-    /// The value that a word says. `None` if it says none.
+    /// Returns the value of a word, or `None` if it has none.
     fn read(&self, alloc: Global, word: &'a str) -> Result<Option<T>, AllocError>
         ensures { IfOk result (Finds (says self.now word.entry.now)) };
 }
 
-/// The values that are given for this argument, one each word. `None` if a word says none.
+/// Returns the values that are given for this argument, one for each word. Returns `None` if a word
+/// has no value.
 pub fn values_in<'a, T: Drop, R: WordReader<'a, T>>(
     alloc: Global,
     names: &ArgMatches<'a>,
@@ -37,7 +38,7 @@ pub fn values_in<'a, T: Drop, R: WordReader<'a, T>>(
     }
 }
 
-/// The values that these words say, one each. `None` if one of them says none.
+/// Returns the values of these words, one for each. Returns `None` if one of them has no value.
 pub fn values_of<'a, T: Drop, R: WordReader<'a, T>>(
     alloc: Global,
     reader: &R,

@@ -5,7 +5,7 @@ use Rattle.command_line.specs.Commands.{also_named, one_option}
 use Rattle.command_line.proofs.Aliases.{rule-aliased, with_aliases}
 use Rattle.command_line.proofs.arguments.aliased.Goals as goal
 
--- The rule of the option, and the second name besides.
+-- The rule of the option, with the second name.
 pub returns-clause-rule : goal.returns-clause-rule
 returns-clause-rule c =
     IfOk-weaker c.visible_alias.result _

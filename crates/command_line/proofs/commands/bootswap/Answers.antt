@@ -7,13 +7,13 @@ use Rattle.command_line.specs.declared.commands.TheConstants.{SUBCOMMANDS}
 use Rattle.command_line.proofs.Folds.{fold-more}
 use Rattle.command_line.proofs.commands.bootswap.Goals as goal
 
--- All subcommands are those of the program.
+-- The program has all subcommands.
 pub returns : goal.returns
 returns c = c.loop-subcommand.invariant
     ∙ ap (fold with_command program)
     (take_all c.loop-subcommand.subcommand-index SUBCOMMANDS c.loop-subcommand-test.false)
 
--- One subcommand more.
+-- One more subcommand is added.
 pub loop-subcommand-preserved : goal.loop-subcommand-preserved
 loop-subcommand-preserved c = fold-more with_command program SUBCOMMANDS
     c.loop-subcommand.subcommand-index _ (app_of c.loop-subcommand.program) _ c.loop-subcommand-test.true

@@ -6,7 +6,7 @@ use Rattle.command_line.specs.Commands.{shape_for, with_command}
 use Rattle.command_line.specs.declared.commands.Subcommand.{Subcommand}
 use Rattle.command_line.proofs.commands.with_command.Goals as goal
 
--- No subcommand has an argument for all.
+-- No subcommand has a global argument.
 is_plain : (subcommand : Subcommand) → (shape_for subcommand).is_plain ≡ true
 is_plain subcommand = refl
 

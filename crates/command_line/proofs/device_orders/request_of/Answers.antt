@@ -4,7 +4,7 @@ use Rattle.clap.specs.Words.{kind_of}
 use Rattle.command_line.proofs.OrderLaws.{device_misused}
 use Rattle.command_line.proofs.device_orders.request_of.Goals as goal
 
--- An order that the words ask for is refused for its misuse.
+-- An order that the arguments give is refused for its misuse of standard input.
 pub returns-in-Some-clause-refused : goal.returns-in-Some-clause-refused
 returns-in-Some-clause-refused c = λ words taken is_order.
     device_misused words c.args.order c.in-Some.fault c.from.result taken is_order

@@ -1,6 +1,6 @@
 use Rattle.command_line.proofs.image_words.image_values_in.Goals as goal
 
--- What is found of no number would be found of the words.
+-- If an argument isn't valid, the matches describe no image.
 pub returns-in_default-number_said-2 : goal.returns-in_default-number_said-2
 returns-in_default-number_said-2 c = λ one says. c.in_default-number_said-2.ensures one.load_address says.load_address
 

@@ -3,7 +3,7 @@ use Rattle.std.specs.Prelude.{option_map}
 use Rattle.command_line.specs.Needs.{needs_of}
 use Rattle.command_line.proofs.image_words.needs_of.Given as goal
 
--- what the words that are left say comes behind the dependencies so far
+-- The dependencies so far, followed by those of the remaining words, are those of all words.
 abbrev pub invariant-loop-rest : goal.invariant-loop-rest
 invariant-loop-rest l =
     option_map (λ later. l.needs.items ++ later) (needs_of (map (λ word. word.now) l.rest)) ≡ needs_of (map (λ word. word.now) l.words)

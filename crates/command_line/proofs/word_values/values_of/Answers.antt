@@ -3,11 +3,11 @@ use Rattle.std.proofs.lemmas.List.{get_or_default, take_all}
 use Rattle.common.proofs.Mapped.{AllZip-at, AllZip-more}
 use Rattle.command_line.proofs.word_values.values_of.Goals as goal
 
--- the word at a place
+-- The word at a place.
 abbrev word_at : List (Bor (List ℕ)) → ℕ → Bor (List ℕ)
 word_at words place = get_or words place (record { ref_ptr = (0, 0); now = [] })
 
--- What is found of each word would be found of this one.
+-- If one word has no value, the words have no values.
 pub returns-in_default : goal.returns-in_default
 returns-in_default g c = λ values each.
     let word = word_at c.args.words.now c.loop-word.word-index in
@@ -16,7 +16,7 @@ returns-in_default g c = λ values each.
     c.loop-word-test.true is each in
     (rw c.in_default.is at c.in_ok-value.ensures) at.0 at.1
 
--- The value of one word more.
+-- One more word has a value.
 pub loop-word-preserved : goal.loop-word-preserved
 loop-word-preserved g c =
     let word = word_at c.args.words.now c.loop-word.word-index in
@@ -26,6 +26,6 @@ loop-word-preserved g c =
     (rw c.in-Some.is at c.in_ok-value.ensures) in
     rw c.in_ok-push.ensures.items more
 
--- At the end they are all there.
+-- All words were read.
 pub returns : goal.returns
 returns g c = rw (take_all c.loop-word.word-index c.args.words.now c.loop-word-test.false) at c.loop-word.invariant

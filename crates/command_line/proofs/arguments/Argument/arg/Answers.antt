@@ -1,4 +1,4 @@
--- What help says of an argument is no part of its rule; the rest is said step by step.
+-- The help of an argument isn't part of its rule. The rest is proved step by step.
 use Rattle.std.proofs.Common.{Some, ap, true}
 use Rattle.clap.specs.Words.{Rule}
 use Rattle.clap.specs.declared.builder.action.ArgAction.TheVariants.{Append}

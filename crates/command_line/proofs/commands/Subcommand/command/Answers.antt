@@ -10,11 +10,11 @@ use Rattle.command_line.specs.declared.arguments.Argument.{Argument}
 use Rattle.command_line.specs.declared.commands.Subcommand.{Subcommand}
 use Rattle.command_line.proofs.commands.Subcommand.command.Goals as goal
 
--- a command of this name with these rules
+-- A command of this name with these rules.
 abbrev named_with : Text → List Rule → Shape
 named_with name rules = record (new_shape name) { rules = rules }
 
--- a command that has rules already
+-- A command that has rules already.
 abbrev app_with : Text → List Rule → App
 app_with name rules = record { top = named_with name rules; subs = [] }
 

@@ -9,14 +9,14 @@ use Rattle.command_line.proofs.Folds.{fold-more}
 use Rattle.command_line.proofs.Names.{is_other, none_named}
 use Rattle.command_line.proofs.commands.Subcommand.of_name.Goals as goal
 
--- None of all subcommands has the name.
+-- No subcommand has the name.
 pub returns : goal.returns
 returns c = λ one same.
     let all = take_all c.loop-subcommand.subcommand-index SUBCOMMANDS c.loop-subcommand-test.false in
     none_named c.args.name.now one
     (c.loop-subcommand.invariant ∙ ap (λ (ss : List Subcommand). fold (is_other c.args.name.now) true ss) all) same
 
--- Nor has one more.
+-- One more subcommand doesn't have the name.
 pub loop-subcommand-preserved : goal.loop-subcommand-preserved
 loop-subcommand-preserved c =
     let differs = sym (ap (λ (n : Text). bytes_eq n c.args.name.now) c.name.ensures) ∙ sym c.eq.ensures ∙ c.if-eq.false in

@@ -4,7 +4,7 @@ use Rattle.command_line.specs.declared.commands.TheConstants.{SUBCOMMANDS}
 use Rattle.command_line.proofs.Names.{is_other}
 use Rattle.command_line.proofs.commands.Subcommand.of_name.Given as goal
 
--- none of the subcommands so far has the name
+-- None of the subcommands so far has the name.
 abbrev pub invariant-loop-subcommand : goal.invariant-loop-subcommand
 invariant-loop-subcommand l =
     true ≡ fold (is_other l.name) true (take l.subcommand-index SUBCOMMANDS)
