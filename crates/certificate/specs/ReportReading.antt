@@ -15,7 +15,7 @@ use Rattle.certificate.specs.LineReading.{report_line_of}
 abbrev pub empty_report : Report
 empty_report = record { images = record { items = [] }; refusals = record { items = [] } }
 
--- A report with one more image. There are at most eight, the number of the new one must be the
+-- A report with one more image. There are at most eight. The number of the new one must be the
 -- count of those before it, and there must be no refusal yet.
 abbrev pub with_reported_image : Report → ℕ → ReportedImage → Option Report
 with_reported_image report number image =

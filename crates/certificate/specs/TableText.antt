@@ -81,8 +81,8 @@ AsksForFew (request.Entry entry) = HasFewNeeds entry
 abbrev pub IsSmall : Image → Type 0
 IsSmall image = HasFewNeeds image.running × AsksForFew image.request
 
--- A text of a table: there are one to eight images, with at most 16 dependencies and 4 groups an
--- entry, and the lines of the text are those of the table in order.
+-- A text of a table. There are one to eight images, with at most 16 dependencies and 4 groups an
+-- entry. The lines of the text are those of the table in order.
 pub record IsTableText (bytes : List ℕ) (table : Table) : Type 0 where
   pub some : 1 ≤ length table.images.items
   pub most : length table.images.items ≤ MOST_IMAGES

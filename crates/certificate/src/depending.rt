@@ -10,8 +10,8 @@ ghost use Rattle.certificate.specs.Rightness.{once_if};
 use crate::table::{Entry, Image, Request, Table};
 use version_order::{Dependency, Group};
 
-/// Returns the requests that depend on image `number`, as a mask. Bit i is set exactly if image i
-/// has an intact request with a dependency on that image, or with a group of which that image is an
+/// Returns the requests that name image `number`, as a mask. Bit i is set exactly if image i has an
+/// intact request that names it: with a dependency on it, or with a group that has it as an
 /// alternative, in any version. The image doesn't need to exist.
 pub fn dependants(table: &Table, number: u8) -> u8
     ensures { (i : ℕ) → bit_at result i ≡ once_if (is_dependant table.now number i) }

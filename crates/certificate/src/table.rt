@@ -12,10 +12,11 @@ pub struct Entry {
     pub version: Version,
     /// The security counter, or 0 if the image has none.
     pub counter: u32,
-    /// Its dependencies on images of the device, in the order of the image's entries; at most 16.
+    /// Its dependencies on images of the device, in the order of the image's entries. There are at
+    /// most 16.
     pub dependencies: ArrayVec<Dependency, MOST_DEPENDENCIES>,
-    /// Its groups, each of which needs one of several images, in the order of the image's entries;
-    /// at most 4.
+    /// Its groups, each of which needs one of several images, in the order of the image's entries.
+    /// There are at most 4.
     pub groups: ArrayVec<Group, MOST_GROUPS>,
 }
 

@@ -88,8 +88,8 @@ fn has_unmet_group(table: &Table, before: &[Refusal], own: u8, groups: &[Group])
     first_group_out_of_reach(table, before, own, groups).is_some()
 }
 
-/// Returns as a reason the first dependency of an image's intact request that is out of reach after
-/// these refusals, or else the first such group.
+/// Returns as a reason the first dependency out of reach of an image's intact request after these
+/// refusals, or else the first such group.
 fn needs_reason(table: &Table, before: &[Refusal], number: u8) -> Option<Reason>
     ensures { result ≡ needs_reason table.now before.now number }
 {

@@ -100,8 +100,8 @@ impl DeviceOrder<'_> {
 /// first of `words` is the program's own name. The order is in memory of `alloc`.
 ///
 /// # Errors
-/// - `Usage` if the words ask for help or the version, if `clap` refuses them, or if the order
-///   names standard input for two files or for the flash, which is written.
+/// - `Usage` if the words ask for help or the version, or if `clap` refuses them. The same if the
+///   order names standard input for two files or for the flash, which is written.
 /// - `NoMemory` if memory ran out.
 pub fn device_request<'a, S: AsStr>(
     alloc: Global,

@@ -53,8 +53,8 @@ pub fn invalid_manifest(alloc: Global, names: &ArgMatches<'_>) -> Result<&'stati
 }
 
 /// Returns the files that are given: those for a test, then those that are permanent. Returns
-/// `None` if one of the values isn't an image and a file, or if there is no file, or more than a
-/// device may have images.
+/// `None` if one of the values isn't an image and a file. The same if there is no file, or more
+/// than a device may have images.
 fn all_components_in<'a>(
     alloc: Global,
     names: &ArgMatches<'a>,

@@ -1,6 +1,6 @@
 //! The files and the standard input of the system, as the host of the program's commands. The
-//! modules read a file or a part of it, open, lock and write that of a flash, make or replace a
-//! file, and compare the names of files. Others write the program's outputs, read the limit of a
+//! modules read a file or a part of it; open, lock and write that of a flash; make or replace a
+//! file; and compare the names of files. Others write the program's outputs, read the limit of a
 //! file's length, and reserve memory for the stack.
 //!
 //! Promises:

@@ -45,8 +45,8 @@ pub struct CheckedScript<'a> {
 ///
 /// # Errors
 /// Reports the first line with a fault:
-/// - `ScriptLine` if it isn't a line of a script, can't follow the lines before it, names standard
-///   input again, or names a part that its file doesn't have;
+/// - `ScriptLine` if it isn't a line of a script, or can't follow the lines before it. The same if
+///   it names standard input again, or a part that its file doesn't have.
 /// - `CannotRead` if its file can't be read, `TooLong` if the file is too long.
 ///
 /// `NoMemory` if memory ran out.

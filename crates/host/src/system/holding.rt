@@ -47,8 +47,8 @@ pub struct HeldFile {
 /// shared for reading, and exclusive for writing. A block device is locked by its number too.
 ///
 /// # Errors
-/// - `InUse` if another program holds the lock or has replaced the file, or if the system uses a
-///   block device that is to be written.
+/// - `InUse` if another program holds the lock or has replaced the file. The same if the system uses
+///   a block device that is to be written.
 /// - `WrongLength` if the file doesn't have `length` bytes.
 /// - `NoMemory` if memory ran out.
 /// - `Failed` if the system could not open, lock or measure it, or could not open its folder.

@@ -1,6 +1,6 @@
 //! The longest file that the system lets this program write, as `ulimit -f` sets it.
 //!
-//! A write past that limit ends a program by a signal in the middle of its work, and the standard
+//! A write past that limit ends a program by a signal in the middle of its work. The standard
 //! library can't change what a signal does. Therefore such a write is refused here before it
 //! reaches the system, with the error that the system returns if the signal is ignored. The limit
 //! and the position of an output are read below `/proc`. On a system without it, nothing is

@@ -44,8 +44,8 @@ fn there(found: io::Result<Metadata>) -> io::Result<Option<Metadata>> {
 /// The name is looked up once. The bytes are written to a new file in the same folder, which no
 /// other run of this program can use. It takes the name once the bytes are on the disk, and then
 /// the folder is synced. If anything fails before it has the name, it is removed. If the sync of
-/// the folder fails, the file of this name is the complete new one, and a power cut may restore the
-/// old one.
+/// the folder fails, the file of this name is the complete new one. A power cut may restore the old
+/// one.
 ///
 /// A file that is replaced must be a plain one that can be written, and it is locked meanwhile. Its
 /// permissions stay. A symbolic link to it stays too, and one that leads nowhere is refused. If
