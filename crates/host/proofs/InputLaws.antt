@@ -87,10 +87,6 @@ pub KeepsSource-kept : (source : Source) (old new : FileBytes) → KeepsFiles ol
 KeepsSource-kept StandardInput old new kept = tt
 KeepsSource-kept (File name) old new kept = kept name.now
 
-pub KeepsApart-kept : (apart : List ℕ → Bool) (old new : FileBytes) → KeepsFiles old new
-    → KeepsApart apart old new
-KeepsApart-kept apart old new kept = λ other _. kept other
-
 -- If a replaced file isn't the source, the source keeps its contents.
 pub KeepsSource-apart : (source : Source) (name : List ℕ) (apart : List ℕ → List ℕ → Bool)
     (old mid new : FileBytes) → KeepsFiles old mid → IsApartFrom apart name source

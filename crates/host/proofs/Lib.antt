@@ -1,2 +1,3 @@
 pub mod FileLaws
+pub mod HeldLaws
 pub mod InputLaws

@@ -1,7 +1,8 @@
-use Rattle.std.proofs.Common.{◌≡◌, ◌+◌, ◌-◌, ◌++◌, ℕ, List, Option, None, Some, ap, drop, length, refl, subst, sym, take, ◌∙◌}
+use Rattle.std.proofs.Common.{◌≡◌, ◌+◌, ◌-◌, ◌++◌, ℕ, List, Option, ap, drop, length, refl, subst, sym, take, ◌∙◌}
 use Rattle.std.proofs.KnownBytes.{Keeps-trans, append_known-moved}
 use Rattle.std.proofs.lemmas.List.{drop-drop, take-append-drop, take_rest}
 use Rattle.std.specs.Io.KnownBytes.{Appends, Keeps, append_known}
+use Rattle.host.proofs.HeldLaws.{Keeps-append_known}
 use Rattle.host.specs.Held.{held_contents}
 use Rattle.host.proofs.system.output.Output.send_held.Goals as goal
 use Rattle.host.proofs.system.output.Output.send_held.Goals.{in-Ok, in-Err}
@@ -20,14 +21,6 @@ Keeps-sent whole before after held sent count more sum kept taken =
     Keeps-trans whole (append_known before (drop sent held)) (append_known after (drop more held)) kept
     (append_known-moved before after (take count (drop sent held)) (drop more held) (drop sent held) same rest)
 
--- If the writer took nothing, the contents stay.
-Keeps-unsent : (whole before after : Option (List ℕ)) (rest : List ℕ) → Keeps whole (append_known before rest)
-    → Keeps before after → Keeps whole (append_known after rest)
-Keeps-unsent None before after rest kept same = tt
-Keeps-unsent (Some xs) None after rest kept same = absurd kept
-Keeps-unsent (Some xs) (Some ys) None rest kept same = absurd same
-Keeps-unsent (Some xs) (Some ys) (Some zs) rest kept same = ap (λ l. l ++ rest) same ∙ kept
-
 pub loop-preserved : goal.loop-preserved
 loop-preserved g c =
     let whole = held_contents g.W.Write.contents c.args.self.now.to c.args.self.now.held.items c.args.self.now.sent in
@@ -43,7 +36,7 @@ loop-preserved g c =
       }
       | in-Err w ↦ record {
         kept = subst (λ s. Keeps whole (held_contents g.W.Write.contents s.to s.held.items s.sent)) (sym w.self-is)
-            (Keeps-unsent whole (g.W.Write.contents c.loop.self.to) (g.W.Write.contents c.write_within.new.to)
+            (Keeps-append_known whole (g.W.Write.contents c.loop.self.to) (g.W.Write.contents c.write_within.new.to)
             (drop c.loop.self.sent c.loop.self.held.items) c.loop.invariant.kept w.in-Err.ensures.bytes);
       }
     ]

@@ -1,6 +1,7 @@
 use Rattle.std.proofs.Common.{◌≡◌, ℕ, List, [], ◌++◌, Option, None, Some, Result, Ok, Err, ap, append-nil, arith, drop, refl, subst, sym, take, ◌∙◌}
 use Rattle.std.proofs.lemmas.List.{drop_all}
 use Rattle.std.specs.Io.KnownBytes.{Appends, Keeps, WriteAppends, append_known}
+use Rattle.host.proofs.HeldLaws.{Keeps-append_known}
 use Rattle.host.specs.Held.{held_contents}
 use Rattle.host.proofs.system.output.OutputWrite.write.Goals as goal
 
@@ -15,21 +16,13 @@ Appends-passed (Some xs) (Some ys) (Some zs) rest bytes none kept more =
     let old : ys ≡ xs = sym (append-nil ys) ∙ sym (ap (λ l. ys ++ l) none) ∙ kept in
     ap (λ l. zs ++ l) none ∙ append-nil zs ∙ more ∙ ap (λ l. l ++ bytes) old
 
-Keeps-passed : (whole before after : Option (List ℕ)) (rest : List ℕ)
-    → Keeps whole (append_known before rest) → Keeps before after
-    → Keeps whole (append_known after rest)
-Keeps-passed None before after rest kept same = tt
-Keeps-passed (Some xs) None after rest kept same = absurd kept
-Keeps-passed (Some xs) (Some ys) None rest kept same = absurd same
-Keeps-passed (Some xs) (Some ys) (Some zs) rest kept same = ap (λ l. l ++ rest) same ∙ kept
-
 WriteAppends-passed : {E : Type 0} (whole before after : Option (List ℕ)) (rest bytes : List ℕ)
     (result : Result ℕ E) → rest ≡ [] → Keeps whole (append_known before rest)
     → WriteAppends before after result bytes → WriteAppends whole (append_known after rest) result bytes
 WriteAppends-passed whole before after rest bytes (Ok count) none kept more =
     Appends-passed whole before after rest (take count bytes) none kept more
 WriteAppends-passed whole before after rest bytes (Err error) none kept more =
-    Keeps-passed whole before after rest kept more
+    Keeps-append_known whole before after rest kept more
 
 pub returns-clause-bytes : goal.returns-clause-bytes
 returns-clause-bytes g c =
