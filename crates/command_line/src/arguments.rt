@@ -82,8 +82,8 @@ fn option<'a>(alloc: Global, name: &'a str, help: OptionHelp) -> Arg<'a>
 {
     Arg::new(alloc, name)
         .long(name)
-        .value_name(help.value)
-        .help(help.text)
+        .value_name(help.0)
+        .help(help.1)
 }
 
 /// Defines an option with one value and two names.
