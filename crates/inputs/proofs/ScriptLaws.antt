@@ -26,14 +26,14 @@ use Rattle.script.specs.Said.{PartWords, Said, SaidFile, SaidTorn, file_of, part
 use Rattle.script.specs.Said as said
 use Rattle.host.specs.declared.source.Source.{Source}
 use Rattle.host.specs.declared.source.Source.TheVariants.{StandardInput, File}
-use Rattle.host.specs.Input.{FileBytes, Gives, IsKnownAs, IsKnownPart, IsNamed, KeepsFiles, KeepsOthers}
+use Rattle.host.specs.Input.{FileBytes, IsKnownAs, IsKnownPart, IsNamed, KeepsFiles, KeepsOthers}
 use Rattle.script.proofs.LineLaws.{one_line}
 use Rattle.device_texts.specs.FlashOf.{armed_in, armed_of}
 use Rattle.device_texts.specs.declared.flash.CutWrite.{CutWrite}
 use Rattle.inputs.specs.declared.checking.BufferedInput.{BufferedInput}
 use Rattle.inputs.specs.declared.lines.Lines.{Lines}
 use Rattle.inputs.specs.Loading.{AddsCut, AreCutsOf, AreBuffered, Loads, LoadsAll, LoadsFirst, FirstCome, IsInputPiece, IsBuffered, IsNextLine, KeepsBuffered, Passes, ReadsNow, came_in, came_of}
-use Rattle.inputs.specs.Script.{AllCome, AllCut, Comes, IsCutBy, IsRead, IsScript, Known, ReadsFile, StaysKnown, known_after}
+use Rattle.inputs.specs.Script.{AllCome, AllCut, Comes, IsCutBy, IsScript, Known, ReadsFile, StaysKnown, known_after}
 use Rattle.host.proofs.InputLaws.{Gives-kept}
 use Rattle.host.proofs.InputLaws.{kept_itself, kept_twice}
 
@@ -60,28 +60,6 @@ StaysKnown-read (File name) known input new_input files new_files stays kept = r
   input_kept = kept_twice known.input input new_input stays.input_kept kept.0;
   files_kept = λ file. kept_twice (known.files file) (files file) (new_files file) (stays.files_kept file) (kept.1 file);
 }
-
--- The source of a name was read.
-pub IsRead-read : (name : List ℕ) (source : Source) (input new_input : Option (List ℕ))
-    (files new_files : FileBytes) (bytes : List ℕ) → IsNamed name source
-    → Gives source input files bytes → KeepsOthers source input files new_input new_files
-    → Passes (λ known after. IsRead name known bytes after) input files new_input new_files
-IsRead-read name source input new_input files new_files bytes named given kept = λ known stays. (
-  known_after source known,
-  record {
-    source = source;
-    named = named;
-    given = Gives-kept source known.input input known.files files bytes stays.input_kept stays.files_kept given;
-    then = refl;
-  },
-  StaysKnown-read source known input new_input files new_files stays kept,
-)
-
--- If nothing was read, the host is unchanged.
-KeepsOthers-itself : (source : Source) (input : Option (List ℕ)) (files : FileBytes)
-    → KeepsOthers source input files input files
-KeepsOthers-itself StandardInput input files = tt
-KeepsOthers-itself (File name) input files = (kept_itself input, λ file. kept_itself (files file))
 
 -- A known part stays known.
 IsKnownPart-kept : (old new : Option (List ℕ)) (from count : ℕ) (part : List ℕ)
@@ -175,11 +153,6 @@ AreBuffered-get : (buffered : List BufferedInput) (place : ℕ) (input : Option 
 AreBuffered-get [] place input files all = tt
 AreBuffered-get (first ∷ rest) zero input files all = all.0
 AreBuffered-get (first ∷ rest) (suc place) input files all = AreBuffered-get rest place input files all.1
-
--- Nothing was buffered, because it can be read again.
-pub KeepsBuffered-none : (buffered : List BufferedInput) (is_read : Bool) (input : Option (List ℕ))
-    (files : FileBytes) → KeepsBuffered buffered buffered is_read is_read input files input
-KeepsBuffered-none buffered is_read input files = λ first_input first_files files_kept input_kept all. (all, input_kept)
 
 -- The named bytes of a file were buffered.
 pub KeepsBuffered-file : (old new : List BufferedInput) (item : BufferedInput) (is_read : Bool)

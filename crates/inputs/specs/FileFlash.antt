@@ -1,5 +1,5 @@
 -- A flash over a file: what contracts see of it, and the state after a write.
-use Rattle.std.specs.Prelude.{◌≡◌, ◌↔◌, ℕ, ◌+◌, ◌*◌, true, false, Bool, List, replicate}
+use Rattle.std.specs.Prelude.{◌≡◌, ◌⊎◌, ◌↔◌, ℕ, ◌+◌, ◌*◌, true, false, Bool, List, replicate}
 use Rattle.std.specs.Prelude.{None, Some, Result, IsOk, IsErrOf}
 use Rattle.flash_model.specs.declared.error.FlashError.{FlashError}
 use Rattle.flash_model.specs.declared.error.FlashError.TheVariants.{Cut, Off}
@@ -77,6 +77,10 @@ pub record WritesThrough (result : Result Unit FlashError) (at : ℕ) (range : L
   pub armed : (left : Torn) → old.chip.is_on ≡ true → old.has_failed ≡ false
       → next_torn old.memory ≡ Some left
       → (new.memory ≡ torn at range left old.memory) × IsErrOf result Cut
+
+-- A flash that is off, or whose file failed before, doesn't write the file.
+abbrev pub LeavesFile : {F : Type 0} → OverFile → F → F → Type 0
+LeavesFile flash old new = ((flash.chip.is_on ≡ false) ⊎ (flash.has_failed ≡ true)) → new ≡ old
 
 -- The effect of programming these bytes.
 abbrev pub ProgramsThrough : ℕ → List ℕ → OverFile → OverFile → Result Unit FlashError → Type 0

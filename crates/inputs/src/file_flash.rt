@@ -1,6 +1,6 @@
 //! A flash in memory that is written through to a file.
 
-ghost use Rattle.std.specs.Prelude.{◌≡◌, ◌+◌, ◌<◌, ◌≤◌, ◌⊎◌, length, false, true, slice_range, option_map, IfSome, IsErrOf, OnOk};
+ghost use Rattle.std.specs.Prelude.{◌≡◌, ◌+◌, ◌<◌, ◌≤◌, length, false, true, slice_range, option_map, IfSome, IsErrOf, OnOk};
 ghost use Rattle.std.specs.Bool.{OnFalse};
 ghost use Rattle.std.specs.Option.{ForSome};
 ghost use Rattle.flash_model.specs.Chip.{size_of, IsCutAsArmed};
@@ -169,7 +169,7 @@ impl<F: FlashFile, L: Ledger, M: Ledger> FileFlash<F, L, M> {
 
 impl<F: FlashFile, L: Ledger, M: Ledger> Flash for FileFlash<F, L, M> {
     ghost use Rattle.std.proofs.Common.{ap};
-    ghost use Rattle.inputs.specs.FileFlash.{chip_of, file_of, over_file, restarted, ErasesThrough, ProgramsThrough};
+    ghost use Rattle.inputs.specs.FileFlash.{chip_of, file_of, over_file, restarted, ErasesThrough, LeavesFile, ProgramsThrough};
 
     ghost chip = { chip_of };
 
@@ -208,8 +208,7 @@ impl<F: FlashFile, L: Ledger, M: Ledger> Flash for FileFlash<F, L, M> {
         ensures chip { Programs at bytes.now (chip_of self.old) (chip_of self.new) result }
         ensures flash { ProgramsThrough at bytes.now (over_file self.old) (over_file self.new)
             result }
-        ensures file { ((chip_of self.old).is_on ≡ false ⊎ (over_file self.old).has_failed ≡ true)
-            → file_of self.new ≡ file_of self.old }
+        ensures file { LeavesFile (over_file self.old) (file_of self.old) (file_of self.new) }
     {
         if !self.is_on {
             return Err(FlashError::Off);
@@ -232,8 +231,7 @@ impl<F: FlashFile, L: Ledger, M: Ledger> Flash for FileFlash<F, L, M> {
         requires { sector < (chip_of self.old).sectors }
         ensures chip { Erases sector (chip_of self.old) (chip_of self.new) result }
         ensures flash { ErasesThrough sector (over_file self.old) (over_file self.new) result }
-        ensures file { ((chip_of self.old).is_on ≡ false ⊎ (over_file self.old).has_failed ≡ true)
-            → file_of self.new ≡ file_of self.old }
+        ensures file { LeavesFile (over_file self.old) (file_of self.old) (file_of self.new) }
     {
         if !self.is_on {
             return Err(FlashError::Off);
