@@ -2,7 +2,7 @@
 
 ghost use Rattle.std.specs.Prelude.{◌≡◌, ◌∷◌, IfErr, IfOk, IfSome, IsSomeAnd, None, [], codes, map};
 ghost use Rattle.std.specs.Prelude.{nat_lt, option_map};
-ghost use Rattle.clap.specs.Words.{fault_of, found_of, kind_of, rows_of, subcommand_rows_of};
+ghost use Rattle.clap.specs.Words.{all_of, fault_of, found_of, kind_of, rows_of, subcommand_rows_of};
 ghost use Rattle.command_line.specs.Commands.{bootswap};
 ghost use Rattle.command_line.specs.DeviceOrders.{names_of, subcommand_for};
 ghost use Rattle.command_line.specs.DeviceOrders.{writes_to_standard_input};
@@ -174,20 +174,21 @@ pub fn provision_in<'a>(
 ) -> Result<Option<DeviceOrder<'a>>, AllocError>
     ensures { IfOk result (Finds (AsksDevice (codes "provision") (rows_of (found_of names.now)))) }
 {
-    let Some(device) = name_in(names, named::DEVICE) else {
-        return Ok(None);
-    };
-    let Some(flash) = name_in(names, named::FLASH) else {
-        return Ok(None);
-    };
-    let Some(images) = images_in(alloc, names)? else {
-        return Ok(None);
-    };
-    Ok(Some(DeviceOrder::Provision {
-        device,
-        flash,
-        images,
-    }))
+    let images = images_in(alloc, names)?;
+    Ok(provision_of(names, images))
+}
+
+/// Returns the order of the arguments of `provision`, which name these images.
+fn provision_of<'a>(names: &ArgMatches<'a>, images: Option<Vec<&'a str>>) -> Option<DeviceOrder<'a>>
+    requires { option_map (λ images. map (λ image. image.now) images.items) images
+        ≡ all_of (codes "IMAGE") (rows_of (found_of names.now)) }
+    ensures { Finds (AsksDevice (codes "provision") (rows_of (found_of names.now))) result }
+{
+    Some(DeviceOrder::Provision {
+        device: name_in(names, named::DEVICE)?,
+        flash: name_in(names, named::FLASH)?,
+        images: images?,
+    })
 }
 
 /// Returns the order of the arguments of `run`, or `None` if a name is missing.

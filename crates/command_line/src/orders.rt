@@ -1,7 +1,7 @@
 //! The orders of all commands, and their arguments.
 
-ghost use Rattle.std.specs.Prelude.{◌≡◌, ◌∷◌, IfOk, codes, nat_lt, option_map};
-ghost use Rattle.clap.specs.Words.{found_of, rows_of};
+ghost use Rattle.std.specs.Prelude.{◌≡◌, ◌∷◌, IfOk, codes, map, nat_lt, option_map};
+ghost use Rattle.clap.specs.Words.{all_of, found_of, rows_of};
 ghost use Rattle.command_line.specs.Commands.{name_for};
 ghost use Rattle.command_line.specs.Given.{Finds, standard_inputs};
 ghost use Rattle.command_line.specs.Orders.{Asks, IsNewFile, files_of, image_at, names_of};
@@ -396,24 +396,22 @@ fn side_of(word: &str) -> Option<Side>
 fn sweep_in<'a>(alloc: Global, names: &ArgMatches<'a>) -> Result<Option<Order<'a>>, AllocError>
     ensures { IfOk result (Finds (Asks (codes "sweep") (rows_of (found_of names.now)))) }
 {
-    let Some(device) = name_in(names, named::DEVICE) else {
-        return Ok(None);
-    };
-    let Some(script) = name_in(names, named::SCRIPT) else {
-        return Ok(None);
-    };
-    let Some(images) = images_in(alloc, names)? else {
-        return Ok(None);
-    };
-    let Some(choices) = sweep_choices_in(names) else {
-        return Ok(None);
-    };
-    Ok(Some(Order::Sweep {
-        device,
-        script,
-        images,
-        choices,
-    }))
+    let images = images_in(alloc, names)?;
+    Ok(sweep_of(names, images))
+}
+
+/// Returns the order of the arguments of `sweep`, which name these images.
+fn sweep_of<'a>(names: &ArgMatches<'a>, images: Option<Vec<&'a str>>) -> Option<Order<'a>>
+    requires { option_map (λ images. map (λ image. image.now) images.items) images
+        ≡ all_of (codes "IMAGE") (rows_of (found_of names.now)) }
+    ensures { Finds (Asks (codes "sweep") (rows_of (found_of names.now))) result }
+{
+    Some(Order::Sweep {
+        device: name_in(names, named::DEVICE)?,
+        script: name_in(names, named::SCRIPT)?,
+        images: images?,
+        choices: sweep_choices_in(names)?,
+    })
 }
 
 /// Returns the text of the fault of arguments of `extract` that name no slot.
