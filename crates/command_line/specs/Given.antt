@@ -1,9 +1,9 @@
 -- What arguments give, according to the matches that `clap` returns for them.
-use Rattle.std.specs.Prelude.{◌≡◌, ℕ, Bool, false, List, Option, Some, None, codes, count_by, if◌then◌else◌}
+use Rattle.std.specs.Prelude.{◌≡◌, ℕ, Bool, false, List, Option, Some, None, Vec, codes, count_by, if◌then◌else◌, map, option_map}
 use Rattle.std.specs.Borrow.{Bor}
 use Rattle.std.specs.Option.{option_map_or}
 use Rattle.std.specs.Str.{bytes_eq}
-use Rattle.clap.specs.Words.{Row, Text, first_of, subcommand_of}
+use Rattle.clap.specs.Words.{Row, Text, all_of, first_of, subcommand_of}
 use Rattle.clap.specs.declared.error.kind.ErrorKind.{ErrorKind}
 use Rattle.clap.specs.declared.error.kind.ErrorKind.TheVariants.{ArgumentConflict, InvalidValue}
 use Rattle.command_line.specs.Commands.{bootswap}
@@ -11,6 +11,11 @@ use Rattle.command_line.specs.Commands.{bootswap}
 -- The matches of a subcommand have this name for an argument.
 abbrev pub IsNamed : List Row → Text → Text → Type 0
 IsNamed rows argument name = first_of argument rows ≡ Some name
+
+-- The matches of a subcommand have the names of these images.
+abbrev pub HasImages : {A : Type 0} → List Row → Option (Vec (Bor Text) A) → Type 0
+HasImages rows found =
+    option_map (λ images. map (λ image. image.now) images.items) found ≡ all_of (codes "IMAGE") rows
 
 -- Whether the matches have an option without a value.
 abbrev pub is_given : Text → List Row → Bool

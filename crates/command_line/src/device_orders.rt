@@ -2,12 +2,12 @@
 
 ghost use Rattle.std.specs.Prelude.{◌≡◌, ◌∷◌, IfErr, IfOk, IfSome, IsSomeAnd, None, [], codes, map};
 ghost use Rattle.std.specs.Prelude.{nat_lt, option_map};
-ghost use Rattle.clap.specs.Words.{all_of, fault_of, found_of, kind_of, rows_of, subcommand_rows_of};
+ghost use Rattle.clap.specs.Words.{fault_of, found_of, kind_of, rows_of, subcommand_rows_of};
 ghost use Rattle.command_line.specs.Commands.{bootswap};
 ghost use Rattle.command_line.specs.DeviceOrders.{names_of, subcommand_for};
 ghost use Rattle.command_line.specs.DeviceOrders.{writes_to_standard_input};
 ghost use Rattle.command_line.specs.Faults.{IsDeviceRefusal};
-ghost use Rattle.command_line.specs.Given.{Finds, is_explained, standard_inputs};
+ghost use Rattle.command_line.specs.Given.{Finds, HasImages, is_explained, standard_inputs};
 ghost use Rattle.command_line.specs.Orders.{AsksDevice, IsOrder, IsOrderOf, misuse_of};
 ghost use Rattle.command_line.specs.declared.orders.Order.TheVariants.{Device};
 
@@ -180,8 +180,7 @@ pub fn provision_in<'a>(
 
 /// Returns the order of the arguments of `provision`, which name these images.
 fn provision_of<'a>(names: &ArgMatches<'a>, images: Option<Vec<&'a str>>) -> Option<DeviceOrder<'a>>
-    requires { option_map (λ images. map (λ image. image.now) images.items) images
-        ≡ all_of (codes "IMAGE") (rows_of (found_of names.now)) }
+    requires { HasImages (rows_of (found_of names.now)) images }
     ensures { Finds (AsksDevice (codes "provision") (rows_of (found_of names.now))) result }
 {
     Some(DeviceOrder::Provision {

@@ -1,10 +1,10 @@
 //! Reads the matches of `clap` for the program's arguments.
 
-ghost use Rattle.std.specs.Prelude.{◌≡◌, IfErr, IfOk, [], codes, map, option_map};
+ghost use Rattle.std.specs.Prelude.{◌≡◌, IfErr, IfOk, [], map, option_map};
 ghost use Rattle.clap.specs.Words.{HasKind, all_of, fault_of, first_of, found_of};
 ghost use Rattle.clap.specs.Words.{rows_of, subcommand_of, subcommand_rows_of};
 ghost use Rattle.command_line.specs.Commands.{bootswap};
-ghost use Rattle.command_line.specs.Given.{has_explain, is_given};
+ghost use Rattle.command_line.specs.Given.{HasImages, has_explain, is_given};
 
 use crate::commands::{bootswap, named};
 use clap::{ArgMatches, Error};
@@ -49,9 +49,7 @@ pub fn images_in<'a>(
     alloc: Global,
     names: &ArgMatches<'a>,
 ) -> Result<Option<Vec<&'a str>>, AllocError>
-    ensures { IfOk result (λ found.
-        option_map (λ images. map (λ image. image.now) images.items) found
-        ≡ all_of (codes "IMAGE") (rows_of (found_of names.now))) }
+    ensures { IfOk result (HasImages (rows_of (found_of names.now))) }
 {
     match names_in(names, named::IMAGE) {
         Some(images) => Ok(Some(images.to_vec(alloc)?)),

@@ -1,9 +1,9 @@
 //! The orders of all commands, and their arguments.
 
-ghost use Rattle.std.specs.Prelude.{◌≡◌, ◌∷◌, IfOk, codes, map, nat_lt, option_map};
-ghost use Rattle.clap.specs.Words.{all_of, found_of, rows_of};
+ghost use Rattle.std.specs.Prelude.{◌≡◌, ◌∷◌, IfOk, codes, nat_lt, option_map};
+ghost use Rattle.clap.specs.Words.{found_of, rows_of};
 ghost use Rattle.command_line.specs.Commands.{name_for};
-ghost use Rattle.command_line.specs.Given.{Finds, standard_inputs};
+ghost use Rattle.command_line.specs.Given.{Finds, HasImages, standard_inputs};
 ghost use Rattle.command_line.specs.Orders.{Asks, IsNewFile, files_of, image_at, names_of};
 ghost use Rattle.command_line.specs.Orders.{names_to_read, side_at, side_of, subcommand_for};
 ghost use Rattle.command_line.specs.Orders.{subcommand_to_read, writes_to_standard_input};
@@ -402,8 +402,7 @@ fn sweep_in<'a>(alloc: Global, names: &ArgMatches<'a>) -> Result<Option<Order<'a
 
 /// Returns the order of the arguments of `sweep`, which name these images.
 fn sweep_of<'a>(names: &ArgMatches<'a>, images: Option<Vec<&'a str>>) -> Option<Order<'a>>
-    requires { option_map (λ images. map (λ image. image.now) images.items) images
-        ≡ all_of (codes "IMAGE") (rows_of (found_of names.now)) }
+    requires { HasImages (rows_of (found_of names.now)) images }
     ensures { Finds (Asks (codes "sweep") (rows_of (found_of names.now))) result }
 {
     Some(Order::Sweep {
