@@ -102,7 +102,7 @@ def code_of(crate):
 def type_named(crate, name):
     """Returns the path and the declaration of a type of a crate, without comments and attributes."""
     for path, text in code_of(crate).items():
-        found = re.search(rf"^(?:pub(?:\(crate\))? )?(?:struct|enum) {name}\b.*?(?:^\}}|;)$", text, re.MULTILINE | re.DOTALL)
+        found = re.search(rf"^(?:pub(?:\(crate\))? )?(?:struct|enum) {name}\b[^{{;]*(?:;|\{{.*?^\}})$", text, re.MULTILINE | re.DOTALL)
         if found:
             lines = [it for it in found[0].splitlines() if not it.strip().startswith(("///", "#["))]
             return path, lines

@@ -11,7 +11,7 @@ ghost use Rattle.certificate.specs.ReportText.{FitsReport, IsReportText, report_
 /// States that the combination of a right report is the greatest: it is valid, and contains every
 /// valid one.
 ///
-/// The body is empty: the contract is the theorem.
+/// The function does nothing: its contract is the theorem.
 #[tactic(auto, using(crate::proofs::Greatest::right_is_greatest))]
 pub fn right_reports_are_greatest()
     ensures { (table : Table) (report : Report)
@@ -20,7 +20,7 @@ pub fn right_reports_are_greatest()
 
 /// States that a table has at most one greatest combination: any two have the same members.
 ///
-/// The body is empty: the contract is the theorem.
+/// The function does nothing: its contract is the theorem.
 pub fn greatest_sets_are_equal()
     ensures { (table : Table) (first second : ℕ → Bool)
         → IsGreatest table first → IsGreatest table second → (j : ℕ) → first j ≡ second j }
@@ -28,7 +28,7 @@ pub fn greatest_sets_are_equal()
 
 /// States that no valid combination has a newer version of any image than the greatest combination.
 ///
-/// The body is empty: the contract is the theorem.
+/// The function does nothing: its contract is the theorem.
 #[tactic(auto, using(crate::proofs::Newest::greatest_is_newest))]
 pub fn greatest_sets_have_the_newest_versions()
     ensures { (table : Table) (greatest other : ℕ → Bool)
@@ -39,7 +39,7 @@ pub fn greatest_sets_have_the_newest_versions()
 /// States that the printed text of a table is a text of this table, which [`Table::parse`] reads
 /// back.
 ///
-/// The body is empty: the contract is the law.
+/// The function does nothing: its contract is the law.
 #[tactic(auto, using(crate::proofs::ReadBack::printed_table_is_text))]
 pub fn tables_are_read_back()
     ensures { (table : Table) → FitsTable table → IsTableText (table_text table) table }
@@ -48,7 +48,7 @@ pub fn tables_are_read_back()
 /// States that the printed text of a report is a text of this report, which [`Report::parse`] reads
 /// back.
 ///
-/// The body is empty: the contract is the law.
+/// The function does nothing: its contract is the law.
 #[tactic(auto, using(crate::proofs::ReadBack::printed_report_is_text))]
 pub fn reports_are_read_back()
     ensures { (report : Report) → FitsReport report → IsReportText (report_text report) report }
@@ -57,7 +57,7 @@ pub fn reports_are_read_back()
 /// States that the printed text of a report that is right for a table is a text of this report. The
 /// table has to fit its fields, as any table does that was read.
 ///
-/// The body is empty: the contract is the law.
+/// The function does nothing: its contract is the law.
 #[tactic(auto, using(crate::proofs::RightFits::right_report_has_text))]
 pub fn right_reports_have_a_text()
     ensures { (table : Table) (report : Report)

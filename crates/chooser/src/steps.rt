@@ -20,7 +20,7 @@ pub struct Steps {
 
 /// States that `MOST_LOOKS` is the limit that contracts name.
 ///
-/// The body is empty: the contract is the law.
+/// The function does nothing: its contract is the law.
 pub fn most_looks_are_as_specified()
     ensures { MOST_LOOKS ≡ limit.MOST_LOOKS }
 {}

@@ -11,7 +11,7 @@ use thiserror::Error;
 pub enum FlashError {
     /// Power failed during a write. The range of the write holds any bytes, all other bytes are
     /// unchanged, and the flash is off.
-    #[error("power failed in the midst of a write")]
+    #[error("power failed during a write")]
     Cut,
     /// The flash was off before the call. Nothing changed.
     #[error("the flash is off")]

@@ -52,7 +52,7 @@ pub enum ImageError {
     #[error("more than {most} dependencies", most = MOST_DEPENDENCIES)]
     TooManyDependencies,
     /// Bytes follow the image.
-    #[error("bytes behind the image")]
+    #[error("bytes after the image")]
     TrailingBytes,
     /// A security counter isn't 4 bytes long, or there are two or more.
     #[error("two security counters, or one that isn't 4 bytes long")]

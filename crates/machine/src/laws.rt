@@ -186,7 +186,7 @@ pub fn trailers_tell_trials_and_requests()
 /// A booted device has the images that run in its primary slots: each slot begins with the image
 /// that the state of the device runs.
 ///
-/// It does nothing: its contract is the law.
+/// The function does nothing: its contract is the law.
 #[tactic(auto, using(crate::proofs::Lifecycle::holder_runs))]
 pub fn booted_devices_run_their_primary_slots()
     ensures { (map : SectorMap) (device : DeviceView) (m : Machine) → Holds map device m
@@ -197,7 +197,7 @@ pub fn booted_devices_run_their_primary_slots()
 /// that is made anew over its flash holds the same state. The new device isn't booted and has no
 /// uploads.
 ///
-/// It does nothing: its contract is the law.
+/// The function does nothing: its contract is the law.
 pub fn flashes_keep_the_states_of_their_devices()
     ensures { (map : SectorMap) (old new : DeviceView) (m : Machine) → IsLaidOut map old.flash
         → Holds map old m → IsJustMade (with_power old.flash) new → Holds map new (asleep m.kept) }

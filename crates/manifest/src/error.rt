@@ -17,7 +17,7 @@ pub enum ManifestError {
     #[error("a key that is missing, or one that isn't known")]
     BadKey,
     /// The value at a key isn't allowed there.
-    #[error("a value that may not stand at its key")]
+    #[error("a value that its key doesn't allow")]
     BadValue,
     /// The manifest is for devices of another vendor.
     #[error("another vendor")]

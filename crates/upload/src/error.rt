@@ -12,7 +12,7 @@ use thiserror::Error;
 #[derive(Clone, Copy, Debug, PartialEq, Eq, Error)]
 pub enum UploadError {
     /// The manifest has a lower sequence number than the last accepted one.
-    #[error("a manifest of an older sequence number was accepted last")]
+    #[error("the last accepted manifest has a newer sequence number")]
     OldSequence,
     /// An image of the manifest is longer than its slot.
     #[error("an image that is longer than its slot")]

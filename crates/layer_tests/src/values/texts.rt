@@ -7,8 +7,8 @@ use version_order::BadVersion;
 
 /// What is said of a table from line 3 on, of a report from the last line on, of a text that spells
 /// no version, and of a header.
-const SAID: &str = "no table goes on from line 3\n\
-    no report goes on from line 18446744073709551615\n\
+const SAID: &str = "no table continues with line 3\n\
+    no report continues with line 18446744073709551615\n\
     not a version: write major.minor.revision+build in decimal without leading zeros, as 1.4.0+7; \
     parts may be left out from the right\n\
     a header length below 32\n";
