@@ -1,4 +1,4 @@
--- A flash that was just made, once writes of it are armed.
+-- A new flash after writes of it were armed.
 use Rattle.std.proofs.Common.{◌≡◌, ◌++◌, ◌∷◌, [], List, ℕ, ap, append_assoc, sym, ◌∙◌}
 use Rattle.std.proofs.lemmas.List.{map-append}
 use Rattle.flash_model.specs.declared.torn.Armed.{Armed}
@@ -8,7 +8,7 @@ use Rattle.sector_map.specs.declared.layout.SectorMap.{SectorMap}
 use Rattle.device_texts.specs.FlashOf.{armed_chip, armed_in, armed_of, flash_of}
 use Rattle.device_texts.specs.declared.flash.CutWrite.{CutWrite}
 
--- a cut more is armed
+-- One more cut is armed.
 pub armed-more : (old mid new : List Armed) (before : List CutWrite) (cut : CutWrite) (at : ℕ) → at ≡ cut.write
     → new ≡ mid ++ record { at = at; torn = cut.torn } ∷ [] → mid ≡ old ++ armed_in before
     → new ≡ old ++ armed_in (before ++ cut ∷ [])
@@ -18,7 +18,7 @@ armed-more old mid new before cut at number is known =
     ∙ ap (λ all. all ++ one) known ∙ append_assoc old (armed_in before) one
     ∙ ap (λ all. old ++ all) (sym (map-append armed_of before (cut ∷ [])))
 
--- the flash that has these bytes, once these writes were armed and no other was before
+-- The flash with these bytes after these writes were armed, if none was armed before.
 pub armed-chip : (old new : Chip) (map : SectorMap) (bytes : List ℕ) (cuts : List Armed)
     → old ≡ flash_of map bytes → new ≡ with_armed old new.fixed.armed
     → new.fixed.armed ≡ old.fixed.armed ++ cuts → new ≡ armed_chip map bytes cuts

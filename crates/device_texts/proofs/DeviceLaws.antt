@@ -1,5 +1,4 @@
--- Why bytes are no device file, by why the value of their text says nothing of a device; and what
--- is true of each device of a file.
+-- Facts about device files: why bytes aren't one, and what each device of a file has.
 use Rattle.std.proofs.Common.{◌≡◌, ℕ, List, None, Some, arith, codes, subst}
 use Rattle.std.proofs.Math.Logic.{⊎_elim}
 use Rattle.serde_json.specs.Data.{Data}
@@ -12,7 +11,7 @@ use Rattle.device_texts.specs.declared.device.DeviceFault.TheVariants.{Malformed
 use Rattle.device_texts.specs.declared.device.DeviceFields.{DeviceFields}
 use Rattle.device_texts.specs.declared.device.DeviceFile.{DeviceFile}
 
--- bytes are the text of one value at most, so what that one doesn't say they don't
+-- Bytes are the text of at most one value. So they spell nothing that this value doesn't.
 pub IsDeviceFault-read : (bytes : List ℕ) (value : Data) (fault : DeviceFault) → IsJson bytes value
     → IsReadingFault ((fields : DeviceFields) × Spells value fields) fault
     → IsDeviceFault bytes fault
@@ -23,14 +22,14 @@ IsDeviceFault-read bytes value Malformed json none = λ said.
 IsDeviceFault-read bytes value (Map fault) json none = absurd none
 IsDeviceFault-read bytes value NoMemory json none = tt
 
--- a number of boots that a value says is few
+-- A number of boots that a value gives is valid.
 few_boots : (value : Data) (boots : ℕ) → IsTrialBoots value boots → IsFewBoots boots
 few_boots value boots said = ⊎_elim
     (λ (one : (get (codes "trial-boots") value ≡ None) × (boots ≡ 1)). record { one = omega (arith, one.1); few = omega (arith, one.1) })
     (λ (some : (number_at (codes "trial-boots") value ≡ Some boots) × IsFewBoots boots). some.1)
     said
 
--- a device of a file has as many images as its map, and few boots of a trial
+-- A device of a file has the number of images of its map, and a valid number of boots.
 pub IsOfFile-read : (bytes : List ℕ) (device : DeviceFile) → IsDeviceFile bytes device → IsOfFile device
 IsOfFile-read bytes device read =
     let few = few_boots read.1.value read.0.trial_boots read.1.spelled.trial_boots in

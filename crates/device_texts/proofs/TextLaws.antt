@@ -1,9 +1,9 @@
--- Texts of many numbers, one more of them at a time.
+-- Texts of the numbers below a bound that grows by 1.
 use Rattle.std.proofs.Common.{◌≡◌, ℕ, zero, suc, ◌+◌, List, [], ◌∷◌, ◌++◌, sym, ap, ◌∙◌, add-one, zero-add, add-zero, arith}
 use Rattle.std.specs.List.{flat_map, range_with_len}
 use Rattle.std.proofs.lemmas.List.{flat_map_more}
 
--- one number more
+-- A range that is longer by 1 ends with one more number.
 range_with_len-more : (a n : ℕ) → range_with_len a (suc n) ≡ range_with_len a n ++ (a + n) ∷ []
 range_with_len-more a zero = ap (λ k. k ∷ []) (sym (add-zero a))
 range_with_len-more a (suc n) =
@@ -15,7 +15,7 @@ range-more n =
     ap (λ k. range_with_len 0 k) (add-one n) ∙ range_with_len-more 0 n
     ∙ ap (λ k. range_with_len 0 n ++ k ∷ []) (zero-add n)
 
--- what is said of one number more
+-- The text of one more number follows those of the others.
 pub flat_map-range_more : (said : ℕ → List ℕ) (n : ℕ)
     → flat_map said (range_with_len 0 (n + 1)) ≡ flat_map said (range_with_len 0 n) ++ said n
 flat_map-range_more said n =

@@ -1,4 +1,4 @@
--- What a device file says: a JSON object, whose meaning is that of the JSON value that is read.
+-- The meaning of a device file: that of the JSON value of its text.
 use Rattle.std.specs.Prelude.{◌≡◌, ◌⊎◌, ℕ, ◌^◌, ◌<◌, ◌≤◌, IsSomeAnd, List, [], ◌∷◌, None, Some, codes}
 use Rattle.std.specs.List.{AllZip}
 use Rattle.serde_json.specs.Data.{Data}
@@ -12,12 +12,12 @@ use Rattle.device_texts.specs.declared.device.DeviceFile.{DeviceFile}
 use Rattle.device_texts.specs.declared.device.DeviceFault.{DeviceFault}
 use Rattle.device_texts.specs.declared.device.DeviceFault.TheVariants.{Malformed, Map, NoMemory}
 
--- The keys that a device file needs, in the order of their bytes ..
+-- The keys that a device file must have, in the order of their bytes.
 abbrev pub device_keys : List (List ℕ)
 device_keys =
     codes "class-id" ∷ codes "sector" ∷ codes "sectors" ∷ codes "vendor-id" ∷ []
 
--- .. and these with the one that may be missing.
+-- The keys of a device file that also has the optional key.
 abbrev pub device_keys_with_trial_boots : List (List ℕ)
 device_keys_with_trial_boots =
     codes "class-id" ∷ codes "sector" ∷ codes "sectors" ∷ codes "trial-boots"
@@ -32,18 +32,18 @@ HasDeviceKeys value =
 abbrev pub IsNumber : Data → ℕ → Type 0
 IsNumber value number = (whole_number value ≡ Some number) × (number < 2 ^ 32)
 
--- A number of boots of a trial.
+-- A valid number of boots of a trial.
 pub record IsFewBoots (boots : ℕ) : Type 0 where
   pub one : 1 ≤ boots
   pub few : boots ≤ MOST_TRIAL_BOOTS
 
--- The number of boots of a trial by the value, 1 if it has none.
+-- The value gives this number of boots of a trial. It is 1 if the value doesn't have the key.
 abbrev pub IsTrialBoots : Data → ℕ → Type 0
 IsTrialBoots value boots =
     ((get (codes "trial-boots") value ≡ None) × (boots ≡ 1))
     ⊎ ((number_at (codes "trial-boots") value ≡ Some boots) × IsFewBoots boots)
 
--- The value says this of a device, key by key.
+-- The value spells these fields of a device, key by key.
 pub record Spells (value : Data) (fields : DeviceFields) : Type 0 where
   pub keys : HasDeviceKeys value
   pub sector_size : number_at (codes "sector") value ≡ Some fields.sector_size
@@ -54,13 +54,13 @@ pub record Spells (value : Data) (fields : DeviceFields) : Type 0 where
   pub class : uuid_at (codes "class-id") value ≡ Some fields.class
   pub trial_boots : IsTrialBoots value fields.trial_boots
 
--- Bytes are the JSON text of a value that says this of a device.
+-- Bytes are the JSON text of a value that spells these fields.
 pub record IsDeviceText (bytes : List ℕ) (fields : DeviceFields) : Type 0 where
   pub value : Data
   pub json : IsJson bytes value
   pub spelled : Spells value fields
 
--- The device is that of these fields, with the map of their sizes and as many images.
+-- The device has these fields, the map of their sizes, and the number of images of that map.
 pub record IsDeviceOf (fields : DeviceFields) (device : DeviceFile) : Type 0 where
   pub map : HasSizes fields.sector_size fields.sectors.items device.map
   pub vendor : device.identity.vendor ≡ fields.vendor
@@ -68,12 +68,12 @@ pub record IsDeviceOf (fields : DeviceFields) (device : DeviceFile) : Type 0 whe
   pub images : device.identity.images ≡ device.map.images
   pub trial_boots : device.trial_boots ≡ fields.trial_boots
 
--- What is true of each device of a file.
+-- Each device of a device file has the number of images of its map, and a valid number of boots.
 pub record IsOfFile (device : DeviceFile) : Type 0 where
   pub images : device.identity.images ≡ device.map.images
   pub boots : IsFewBoots device.trial_boots
 
--- What a device of a file is made with.
+-- The setup of the device of a file.
 abbrev pub setup_of : DeviceFile → Setup
 setup_of device = record { map = device.map; identity = device.identity; boots = device.trial_boots }
 
@@ -82,15 +82,15 @@ abbrev pub IsDeviceFile : List ℕ → DeviceFile → Type 0
 IsDeviceFile bytes device =
     (fields : DeviceFields) × IsDeviceText bytes fields × IsDeviceOf fields device
 
--- Bytes aren't a device file: they describe no device, or sizes that make no map, of which this is
--- the first check that fails. That memory runs out is no property of bytes.
+-- Why bytes aren't a device file: `Malformed` if they describe no device, or `Map` with the first
+-- check that their sizes fail. `NoMemory` says nothing about the bytes.
 abbrev pub IsDeviceFault : List ℕ → DeviceFault → Type 0
 IsDeviceFault bytes Malformed = (fields : DeviceFields) × IsDeviceText bytes fields → ⊥
 IsDeviceFault bytes (Map fault) = (fields : DeviceFields) × IsDeviceText bytes fields
     × IsMapFault fields.sector_size fields.sectors.items fault
 IsDeviceFault bytes NoMemory = Unit {0}
 
--- Why nothing was read that a value would have to spell: it doesn't, or memory ran out.
+-- Why nothing was read from a value: the value doesn't spell it, or memory ran out.
 abbrev pub IsReadingFault : Type 0 → DeviceFault → Type 0
 IsReadingFault Spelled Malformed = Spelled → ⊥
 IsReadingFault Spelled (Map fault) = ⊥

@@ -19,11 +19,11 @@ use Rattle.machine.specs.declared.reply.Reply.{Reply}
 use Rattle.machine.specs.declared.reply.Reply.TheVariants.{Done, Booted, Reverted, TrialAgain, Refused, Cut}
 use Rattle.device_texts.specs.AnswerText.{line_text}
 
--- An image after a space, if it is in a set.
+-- A space and the number of the image, if the image is in the set. Else nothing.
 abbrev pub member_text : ℕ → ℕ → List ℕ
 member_text set image = if is_member set image then 32 ∷ decimal image else []
 
--- The images of a set by ascending number, each after a space.
+-- The images of a set in ascending order, each after a space.
 unfoldable pub set_text : ℕ → List ℕ
 set_text set = flat_map (member_text set) (range_with_len 0 MOST_IMAGES)
 
@@ -54,19 +54,19 @@ fault_text fault = group_text (codes "boot") (boot.code_of fault) (boot.name_of 
 abbrev pub refused_fault_text : Fault → List ℕ
 refused_fault_text fault = line_text (codes "refused") (fault_text fault)
 
--- Whether the request of some image is taken.
+-- Whether the request of at least one image is taken.
 abbrev pub is_some_taken : List ReportedImage → Bool
 is_some_taken images = list_any (λ image. image.is_taken) images
 
--- What a boot with a report did: it took nothing, or what it took is on trial, or is to
--- stay.
+-- The decision of a boot with a report: `plain` if it took no request, `permanent` if what it took
+-- is permanent, else `trial`.
 abbrev pub decision_text : Report → Bool → List ℕ
 decision_text report permanent =
     if is_some_taken report.images.items
     then if permanent then codes "permanent" else codes "trial"
     else codes "plain"
 
--- The reply to the n-th event. The lines of a report follow the line of its boot.
+-- The text of the reply to the n-th event. The lines of a report follow the line of its boot.
 abbrev pub reply_text : ℕ → Reply → List ℕ
 reply_text n Done = line_text (decimal n) (codes "done")
 reply_text n (Booted table report permanent) =
@@ -77,7 +77,7 @@ reply_text n (TrialAgain set left) =
 reply_text n (Refused fault) = line_text (decimal n) (codes "refused" ␣ fault_text fault)
 reply_text n Cut = line_text (decimal n) (codes "cut")
 
--- The replies to events that are numbered from n on.
+-- The texts of replies to events that are numbered from n on.
 abbrev pub replies_text : ℕ → List Reply → List ℕ
 replies_text n [] = []
 replies_text n (reply ∷ replies) = reply_text n reply ++ replies_text (n + 1) replies

@@ -22,7 +22,7 @@ const USUAL_TRIAL_BOOTS: u8 = 1;
 /// The keys of a device file, in the order of their bytes.
 const KEYS: [&str; 4] = ["class-id", "sector", "sectors", "vendor-id"];
 
-/// The same with the key that may be missing.
+/// The keys of a device file that also has the optional key.
 const KEYS_WITH_TRIAL_BOOTS: [&str; 5] = [
     "class-id",
     "sector",
@@ -31,7 +31,7 @@ const KEYS_WITH_TRIAL_BOOTS: [&str; 5] = [
     "vendor-id",
 ];
 
-/// What a device file says.
+/// The fields of a device file.
 #[derive(Drop)]
 pub struct DeviceFields {
     /// The length of a sector in bytes.
@@ -60,11 +60,11 @@ pub struct DeviceFile {
 /// Why bytes aren't a device file.
 #[derive(Clone, Copy, Debug, Error)]
 pub enum DeviceFault {
-    /// They aren't the JSON text of an object with exactly the keys of a device file, or a value
-    /// isn't valid.
+    /// The bytes aren't the JSON text of an object with exactly the keys of a device file, or a
+    /// value isn't valid.
     #[error("no device file")]
     Malformed,
-    /// They are a device file whose sizes make no map.
+    /// The sizes of the device file make no map. The first check that they fail.
     #[error("{0}")]
     Map(MapError),
     /// Memory ran out.
@@ -73,7 +73,7 @@ pub enum DeviceFault {
 }
 
 impl DeviceFile {
-    /// The device of a file.
+    /// Reads a device file.
     ///
     /// `bytes` are the complete file, of any length: a JSON text (RFC 8259) of one object with
     /// exactly the keys that docs/FORMATS.md lists. Its value is in memory of `alloc` while it is
@@ -159,7 +159,7 @@ fn has_keys(value: &Value) -> bool
     has_names(value, KEYS.as_slice()) || has_names(value, KEYS_WITH_TRIAL_BOOTS.as_slice())
 }
 
-/// The numbers below 2^32 that these values are, one each.
+/// The numbers of JSON values, each below 2^32.
 fn numbers_of(alloc: Global, values: &[Value]) -> Result<Vec<u32>, DeviceFault>
     ensures numbers { IfOk result
         (λ numbers. AllZip IsNumber (map view values.now) numbers.items) }

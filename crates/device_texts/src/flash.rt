@@ -1,4 +1,4 @@
-//! The flash of a device, in memory, and the writes of it that are cut.
+//! Makes the flash of a device in memory, and arms it with the cuts of a script.
 ghost use Rattle.std.specs.Prelude.{◌≡◌, ◌≤◌, ◌++◌, OnOk};
 ghost use Rattle.flash_model.specs.Memory.{chip_of, with_armed};
 ghost use Rattle.sector_map.specs.Map.{IsLaidOut};
@@ -9,10 +9,10 @@ use sector_map::SectorMap;
 use std::alloc::{AllocError, Global};
 use std::sync::ledger::{Blank, Ledger};
 
-/// The flash of a device that has these bytes, in memory. It has power, and nothing is armed.
+/// Makes the flash of a device in memory. It has power, and no write is armed.
 ///
-/// The number of bytes is that of the map. The ledger's token has two parts, as `Blank::new(2)`
-/// makes it. Does not allocate: `bytes` become those of the flash.
+/// `bytes` are those of all sectors of `map`, and become those of the flash: nothing is allocated.
+/// `blank` is a ledger's token of two parts, as `Blank::new(2)` makes it.
 pub fn flash_of<L: Ledger>(
     alloc: Global,
     blank: Blank,
@@ -38,11 +38,11 @@ pub struct CutWrite {
     pub torn: Torn,
 }
 
-/// Arms a flash with these cuts, after those that it is armed with already. The flash took no write
-/// yet.
+/// Arms a flash with these cuts, after those that it is armed with already. The flash must have
+/// taken no write.
 ///
 /// # Errors
-/// `AllocError` if memory is refused.
+/// `AllocError` if memory is refused. Only the armed writes of the flash may have changed.
 pub fn arm_all<L: Ledger>(flash: &mut MemFlash<L>, cuts: Vec<CutWrite>) -> Result<(), AllocError>
     requires { (chip_of flash.old).writes ≡ 0 }
     ensures chip { chip_of flash.new

@@ -55,7 +55,8 @@ fn word_text(alloc: Global, number: usize, word: &str) -> Result<String, AllocEr
     format!(in alloc; "{number} {word}\n")
 }
 
-/// What a boot with a report did: it took nothing, or what it took is on trial, or is to stay.
+/// The decision of a boot with a report: `plain` if it took no request, else `permanent` or
+/// `trial`.
 fn decision_text(report: &Report, permanent: bool) -> &'static str
     ensures { result.now ≡ decision_text report.now permanent }
 {
@@ -68,7 +69,7 @@ fn decision_text(report: &Report, permanent: bool) -> &'static str
     }
 }
 
-/// Whether the request of some image is taken.
+/// Whether the request of at least one image is taken.
 fn is_some_taken(images: &[ReportedImage]) -> bool
     ensures { result ≡ is_some_taken images.now }
 {
@@ -99,8 +100,8 @@ fn write_members<W: fmt::Write>(f: &mut fmt::Formatter<W>, set: u8) -> fmt::Resu
     Ok(())
 }
 
-/// The line `refused GROUP CODE NAME` of a device that refuses a call, with the image after
-/// `RunningDamaged` and the check after `NotAnImage`: text in memory of `alloc`.
+/// The line `refused GROUP CODE NAME` of a device that refuses a call, in memory of `alloc`. The
+/// number of the image follows `RunningDamaged`, and that of the check follows `NotAnImage`.
 ///
 /// # Errors
 /// `AllocError` if memory is refused.

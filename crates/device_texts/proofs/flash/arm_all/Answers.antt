@@ -4,7 +4,7 @@ use Rattle.flash_model.specs.Memory.{chip_of, with_armed}
 use Rattle.device_texts.proofs.ArmedLaws.{armed-more}
 use Rattle.device_texts.proofs.flash.arm_all.Goals as goal
 
--- One write more is armed: none was taken yet.
+-- One more write is armed, since the flash took none yet.
 pub loop-cut-preserved : goal.loop-cut-preserved
 loop-cut-preserved g c =
     let before = c.loop-cut.invariant in

@@ -7,14 +7,14 @@ use Rattle.sector_map.specs.Map.{sectors_of}
 use Rattle.device_texts.specs.FlashOf.{flash_of}
 use Rattle.device_texts.proofs.flash.flash_of.Goals as goal
 
--- The bytes are those of whole sectors.
+-- The bytes fill whole sectors.
 pub from_bytes-requires-clause-whole : goal.from_bytes-requires-clause-whole
 from_bytes-requires-clause-whole g c =
     let map = c.args.map.now in
     let whole : vec_len c.args.bytes ≡ sectors_of map * map.sector_size = c.args.bytes.ok.0 ∙ c.requires.whole in
     rw whole (mul-mod_left (sectors_of map) map.sector_size)
 
--- They are as many sectors as the map has.
+-- The number of sectors is that of the map.
 pub returns-clause-chip : goal.returns-clause-chip
 returns-clause-chip g c =
     let map = c.args.map.now in

@@ -3,7 +3,7 @@ use Rattle.std.proofs.lemmas.Result.{IfOk-weaker}
 use Rattle.device_texts.specs.AnswerText.{refused_group_text}
 use Rattle.device_texts.proofs.refusals.refused_group_text.Goals as goal
 
--- The parts are those that the text has.
+-- The parts are those of the text.
 pub returns : goal.returns
 returns c =
     IfOk-weaker c.format.result _

@@ -3,7 +3,7 @@ use Rattle.std.proofs.lemmas.Result.{IfOk-weaker}
 use Rattle.device_texts.specs.ReplyText.{reply_text}
 use Rattle.device_texts.proofs.replies.reply_text.Goals as goal
 
--- The parts are those that the reply's text has.
+-- The parts are those of the reply's text.
 pub returns-in-Booted : goal.returns-in-Booted
 returns-in-Booted c =
     let decision = c.decision_text-decision.ensures in

@@ -7,7 +7,7 @@ use Rattle.device_texts.proofs.TextLaws.{flat_map-range_more}
 use Rattle.device_texts.proofs.replies.write_members.Goals as goal
 use Rattle.device_texts.proofs.replies.write_members.Goals.{then-is_member+in_ok-write, else-is_member}
 
--- the images before n and n, by whether n is in the set
+-- The images up to n, if n is in the set.
 member_more : (set n : ℕ) → is_member set n ≡ true
     → flat_map (member_text set) (range_with_len 0 n) ++ 32 ∷ decimal n
     ≡ flat_map (member_text set) (range_with_len 0 (n + 1))
@@ -20,7 +20,7 @@ member_none set n is = sym (flat_map-range_more (member_text set) n
     ∙ ap (λ some. flat_map (member_text set) (range_with_len 0 n) ++ (if some then 32 ∷ decimal n else [])) is
     ∙ append-nil _)
 
--- One image more, where it is in the set.
+-- If the image is in the set, it is written too.
 pub loop-image-preserved : goal.loop-image-preserved
 loop-image-preserved g c =
     let member = c.is_member.ensures in
@@ -33,7 +33,7 @@ loop-image-preserved g c =
           (c.loop-image.invariant plain))
     ]
 
--- They were all images.
+-- All images are written.
 pub returns : goal.returns
 unfolding set_text
 returns g c = λ plain _.

@@ -6,7 +6,7 @@ use Rattle.std.specs.Io.KnownBytes.{Appends}
 use Rattle.device_texts.proofs.writing.write_all.Goals as goal
 use Rattle.device_texts.proofs.writing.write_all.Goals.{in-Ok, in-Err}
 
--- the first n bytes, and then the first m of the others, are the first n + m
+-- The first n bytes and then the first m of the others are the first n + m bytes.
 Appends-take_more : (before mid after : Option (List ℕ)) (bytes : List ℕ) (n m k : ℕ) → k ≡ n + m → Appends before mid (take n bytes)
     → Appends mid after (take m (take (length bytes - n) (drop n bytes))) → Appends before after (take k bytes)
 Appends-take_more before mid after bytes n m k e first second =
