@@ -1,10 +1,9 @@
-//! The program.
+//! The `bootswap` program: all commands, on the system's files and standard streams.
 //!
 //! - Allocates: the arguments.
 //!
-//! Which of the images that a device is asked to boot may run together, decided from a table; what
-//! images say of themselves; what manifests say to a device; and a device itself, on a file, that
-//! boots, takes uploads and survives power cuts.
+//! It decides from a table which requested images run together, checks and makes images and
+//! manifests, and runs a device on a file that boots, takes uploads and survives power cuts.
 #![tactic(auto)]
 
 use boot_cli::{cli, note_reading};
@@ -22,8 +21,8 @@ fn main(rt: HostRuntime) -> ExitCode {
     ExitCode::from(status)
 }
 
-/// Does what the words ask for, and returns the exit status. It isn't inlined: what it holds may
-/// stand on the stack only once there is memory for that.
+/// Runs the command that the arguments ask for, and returns the exit status. It isn't inlined: its
+/// locals may be on the stack only after memory for the stack was reserved.
 #[inline(never)]
 fn run(rt: HostRuntime) -> u8 {
     let alloc = rt.alloc();
@@ -42,7 +41,7 @@ fn run(rt: HostRuntime) -> u8 {
     cli(alloc, words.as_slice(), &mut host, &mut out, &mut err)
 }
 
-/// Says why the words can't be had, and returns the exit status.
+/// Reports that the arguments could not be read, and returns the exit status.
 #[inline(never)]
 fn refuse(rt: HostRuntime, error: &io::Error) -> u8 {
     let mut err = Output::new(rt, rt.stderr(), STANDARD_ERROR);

@@ -1,8 +1,8 @@
-//! The core of `bootswap` as a program, which is quicker to prove than the whole.
+//! The `bootswap_core` program: only `provision` and `run`, so that it is quick to prove.
 //!
 //! - Allocates: the arguments.
 //!
-//! A device on a file, that boots, takes uploads and survives power cuts.
+//! It makes and runs a device on a file that boots, takes uploads and survives power cuts.
 #![tactic(auto)]
 
 use device_commands::{core_cli, refuse_words, words_of};
@@ -19,8 +19,8 @@ fn main(rt: HostRuntime) -> ExitCode {
     ExitCode::from(status)
 }
 
-/// Does what the words ask for, and returns the exit status. It isn't inlined: what it holds may
-/// stand on the stack only once there is memory for that.
+/// Runs the command that the arguments ask for, and returns the exit status. It isn't inlined: its
+/// locals may be on the stack only after memory for the stack was reserved.
 #[inline(never)]
 fn run(rt: HostRuntime) -> u8 {
     let alloc = rt.alloc();
@@ -34,7 +34,7 @@ fn run(rt: HostRuntime) -> u8 {
     core_cli(alloc, words.as_slice(), &mut host, &mut out, &mut err)
 }
 
-/// Says why the words can't be had, and returns the exit status.
+/// Reports that the arguments could not be read, and returns the exit status.
 #[inline(never)]
 fn refuse(rt: HostRuntime, error: &io::Error) -> u8 {
     let mut err = Output::new(rt, rt.stderr(), STANDARD_ERROR);

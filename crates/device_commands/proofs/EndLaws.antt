@@ -1,4 +1,4 @@
--- What was answered, by what was read in turn and written.
+-- The answers of `provision` and `run`, from what was read in turn and what was written.
 use Rattle.std.proofs.Common.{◌≡◌, ℕ, List, [], ◌∷◌, Option, Result, Ok, Err, IfErr, IfOk, ap, arith, inl, refl, subst}
 use Rattle.std.specs.Borrow.{Bor}
 use Rattle.host.specs.declared.answer.Answer.{Answer}
@@ -23,7 +23,7 @@ use Rattle.host.specs.Status.{status_of_answer}
 use Rattle.host.proofs.InputLaws.{GiveEach-one, GiveEach-read}
 use Rattle.inputs.proofs.ScriptLaws.{StaysKnown-itself, StaysKnown-read}
 
--- what comes of making a flash isn't that the power failed
+-- The result of making a flash is never that the power failed.
 not_cut : (made : Provisioned) (old new : Option (List ℕ)) → AnswersMade Cut made old new → ⊥
 not_cut made.Done old new answered =
     let same : 3 ≡ 0 = ap status_of_answer answered.0 in omega (arith, same)
@@ -39,7 +39,7 @@ AnswersProvision-made Refused device names input file held old new makes = inl m
 AnswersProvision-made Cut device names input file held old new makes =
     absurd (not_cut makes.outcome old new makes.answered)
 
--- a device file was read, and then its images
+-- `provision` read a device file and then its images.
 pub AnswersProvision-read : (answer : Answer) (device : Source) (names : List (List ℕ))
     (input mid_input : Option (List ℕ)) (file mid_file : FileBytes)
     (held old mid new : Option (List ℕ)) (of_device : DeviceFile) (bytes : List ℕ) (made : Provisioned)
@@ -63,7 +63,7 @@ AnswersProvision-read answer device names input mid_input file mid_file held old
       answered = subst (λ o. AnswersMade answer made o new) same answered;
     })
 
--- a flash that is refused isn't made
+-- A number for each kind of result, which tells a refused flash from a done one.
 abbrev made_number : Provisioned → ℕ
 made_number made.Done = 0
 made_number (made.Refused fault) = 1
@@ -71,7 +71,7 @@ made_number (made.Refused fault) = 1
 not_done : (fault : Fault) → made.Refused fault ≡ made.Done → ⊥
 not_done fault same = let numbers : 1 ≡ 0 = ap made_number same in omega (arith, numbers)
 
--- where it ended before the file was replaced, all files were kept
+-- If `provision` ended before it replaced the file, all files were kept.
 pub KeepsFiles-told : (result : Result Answer Refusal) (outcome : Provisioned) (files new_files : FileBytes)
     (old new : Option (List ℕ)) → IfOk result (λ answer. AnswersMade answer outcome old new)
     → (outcome ≡ made.Done → IfErr result (λ refusal. refusal ≡ no.CannotWrite))
@@ -99,7 +99,7 @@ AnswersRun-runs Done device flash script input file old new runs = runs
 AnswersRun-runs Refused device flash script input file old new runs = inl runs
 AnswersRun-runs Cut device flash script input file old new runs = runs
 
--- a device file was read, then its flash, and then a script with the files that it names
+-- `run` read a device file, then its flash, and then a script with the files that it names.
 pub AnswersRun-read : (answer : Answer) (device : Source) (flash : Bor (List ℕ)) (script : Source)
     (input second_input third_input fourth_input : Option (List ℕ))
     (file second_file third_file fourth_file : FileBytes)

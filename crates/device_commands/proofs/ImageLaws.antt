@@ -1,4 +1,4 @@
--- Image files, read one after the other onto the bytes of a new flash.
+-- Image files that are read in turn and put onto the bytes of a new flash.
 use Rattle.std.proofs.Common.{◌≡◌, ◌⊎◌, ℕ, zero, suc, ◌+◌, ◌*◌, ◌<◌, ◌≤◌, List, [], ◌∷◌, ◌++◌, Option, Some, length, get_or, take, inl, inr, refl, ap, sym, ◌∙◌, subst, ⊎_elim, append_assoc, length-append, replicate, unwrap_or, arith, IfSome}
 use Rattle.std.specs.List.{AllZip, slice_get}
 use Rattle.std.specs.Borrow.{Bor}
@@ -20,7 +20,7 @@ use Rattle.host.specs.Inputs.{GiveEach, names_of}
 use Rattle.device_commands.specs.ProvisionEnd.{new_flash, with_files}
 use Rattle.host.proofs.InputLaws.{GiveEach-read, KeepsFiles-itself, KeepsFiles-twice}
 
--- a slot lies in the flash
+-- A primary slot lies in the flash.
 pub slot_within : (map : SectorMap) (image : ℕ) → IsMap map → image < map.images
     → start_of map (Slot image Primary) + length_of map (Slot image Primary) ≤ sectors_of map * map.sector_size
 slot_within map image fits there =
@@ -28,7 +28,7 @@ slot_within map image fits there =
     let below : first + slot_sectors map image ≤ sectors_of map = omega (arith, before_within map image fits there) in
     grind (arith, mul_le (first + slot_sectors map image) (sectors_of map) map.sector_size below)
 
--- one file more is the last that is put
+-- One more file is put last, in the next slot.
 with_files-push : (map : SectorMap) (first : ℕ) (files : List (List ℕ)) (file bytes : List ℕ)
     → with_files map first (files ++ file ∷ []) bytes
     ≡ replaced (start_of map (Slot (first + length files) Primary)) file (with_files map first files bytes)
@@ -41,7 +41,7 @@ with_files-push map first (next ∷ files) file bytes =
     with_files-push map (first + 1) files file put
     ∙ ap (λ n. replaced (start_of map (Slot n Primary)) file (with_files map (first + 1) files put)) count
 
--- an element of a list with one more is one of the list, or the last
+-- An element of a list that is longer by one is the last, or one of the list.
 slice_get-push : {X : Type 0} (xs : List X) (last x : X) (i : ℕ) → slice_get (xs ++ last ∷ []) i ≡ Some x
     → (slice_get xs i ≡ Some x) ⊎ ((i ≡ length xs) × (x ≡ last))
 slice_get-push [] last x zero is = inr (refl, sym (ap (λ o. unwrap_or o last) is))
@@ -52,8 +52,7 @@ slice_get-push (y ∷ xs) last x (suc i) is = ⊎_elim
     (λ (new : (i ≡ length xs) × (x ≡ last)). inr (ap (λ n. suc n) new.0, new.1))
     (slice_get-push xs last x i is)
 
--- The first so many files were read, from a host that is at this state now, and put over a new
--- flash.
+-- The first `count` files were read and put onto a new flash. The host is now at this state.
 pub record AreRead (map : SectorMap) (names : List (Bor (List ℕ))) (count : ℕ)
     (old_input : Option (List ℕ)) (old_file : FileBytes) (input : Option (List ℕ)) (file : FileBytes)
     (bytes : List ℕ) : Type 0 where
@@ -69,7 +68,7 @@ pub record AreRead (map : SectorMap) (names : List (Bor (List ℕ))) (count : �
   pub whole : IsFlashOf map bytes
   pub kept : KeepsFiles old_file file
 
--- none was read
+-- No file was read.
 pub AreRead-none : (map : SectorMap) (names : List (Bor (List ℕ))) (input : Option (List ℕ))
     (file : FileBytes) (bytes : List ℕ) → bytes ≡ new_flash map [] → IsFlashOf map bytes
     → AreRead map names 0 input file input file bytes
@@ -85,7 +84,7 @@ AreRead-none map names input file bytes put whole = record {
   kept = KeepsFiles-itself file;
 }
 
--- the word at the next place names a source more
+-- The next argument names the next source.
 named_more : (names : List (Bor (List ℕ))) (count : ℕ) (sources : List Source) (source : Source)
     → count < length names → IfSome (slice_get names count) (λ name. IsNamed name.now source)
     → AllZip IsNamed (names_of (take count names)) sources
@@ -98,7 +97,7 @@ named_more (name ∷ names) count sources source within named before =
     (get_or_default (name ∷ names) count name next within) before
     (subst (λ some. IfSome some (λ word. IsNamed word.now source)) found named)
 
--- one more was read, and put at the front of its slot
+-- One more file was read and put at the front of its slot.
 pub AreRead-more : (map : SectorMap) (names : List (Bor (List ℕ))) (count : ℕ)
     (old_input : Option (List ℕ)) (old_file : FileBytes) (input : Option (List ℕ)) (file : FileBytes)
     (new_input : Option (List ℕ)) (new_file : FileBytes) (bytes new_bytes : List ℕ)

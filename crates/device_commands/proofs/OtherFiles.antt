@@ -1,4 +1,4 @@
--- Files that are read, and one that is replaced and is none of them.
+-- Files that a command reads, apart from the one that it replaces.
 use Rattle.std.proofs.Common.{◌≢◌, ℕ, List, Bool, IsTrue, codes, subst}
 use Rattle.std.specs.Borrow.{Bor}
 use Rattle.std.proofs.KnownBytes.{Keeps-trans}
@@ -8,18 +8,18 @@ use Rattle.host.specs.Doings.{IsApartFrom, KeepsApart}
 use Rattle.host.specs.Input.{FileBytes, IsNamed, KeepsFiles}
 use Rattle.device_commands.specs.ProvisionEnd.{AreOthers, KeepsWords}
 
--- what a word names isn't another file, where its source isn't
+-- A file that an argument names is another file if its source is.
 pub apart_word : (apart : List ℕ → List ℕ → Bool) (flash word : List ℕ) (source : Source) → IsNamed word source
     → IsApartFrom apart flash source → word ≢ codes "-" → IsTrue (apart flash word)
 apart_word apart flash word StandardInput named other differs = absurd (differs named)
 apart_word apart flash word (File name) named other differs =
     subst (λ one. IsTrue (apart flash one)) named.1 other.1
 
--- files that words name stay where all files were kept ..
+-- If all files were kept, those that arguments name were.
 pub KeepsWords-kept : (words : List (Bor (List ℕ))) (old new : FileBytes) → KeepsFiles old new → KeepsWords words old new
 KeepsWords-kept words old new kept = λ place word at differs. kept word.now
 
--- .. or then one was replaced that is none of them
+-- If then a file apart from those was replaced, those that arguments name were still kept.
 pub KeepsWords-apart : (words : List (Bor (List ℕ))) (apart : List ℕ → Bool) (old mid new : FileBytes)
     → KeepsFiles old mid → AreOthers apart words → KeepsApart apart mid new → KeepsWords words old new
 KeepsWords-apart words apart old mid new kept others after = λ place word at differs.

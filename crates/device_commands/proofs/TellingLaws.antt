@@ -1,5 +1,5 @@
--- Replies that are told one by one: what all of them come to, and what stands where one could not
--- be told.
+-- Replies that are written one by one: what all of them give, and what was written if one could not
+-- be.
 use Rattle.std.proofs.Common.{◌≡◌, ℕ, ◌+◌, ◌-◌, Bool, false, List, [], ◌∷◌, ◌++◌, Option, Some, Result, Ok, Err, IfErr, IfOk, ap, append-nil, arith, get_or, length, length-append, map, refl, subst, sym, take, ◌∙◌}
 use Rattle.std.specs.Io.KnownBytes.{Appends}
 use Rattle.std.proofs.KnownBytes.{Appends-nil, Appends-trans}
@@ -36,7 +36,7 @@ use Rattle.device_commands.specs.Telling.{BreaksEvent, BreaksText, PlaysRun, Pla
 use Rattle.inputs.specs.Loading.{LoadsAll}
 use Rattle.inputs.proofs.ScriptLaws.{AreTaken, LoadsFirst-none, LoadsFirst-taken}
 
--- the last reply says what a run comes to
+-- The last reply gives the answer of a run.
 answer_of-push : (replies : List Reply) (reply : Reply) → answer_of (replies ++ reply ∷ []) ≡ answer_after (Some reply)
 answer_of-push replies reply =
     let all = replies ++ reply ∷ [] in
@@ -45,12 +45,12 @@ answer_of-push replies reply =
     ap answer_after (slice_get-get_or all (length all - 1) reply (omega (arith, count))
     ∙ ap Some (ap (λ k. get_or all k reply) last ∙ get_or-append_seam replies reply [] reply))
 
--- there are as many replies as came
+-- The number of replies is that of the events.
 replied : (events : List DeviceEvent) (replies : List Reply) (came : List (Event (List ℕ)))
     → map came_by events ≡ came → length replies ≡ length events → length replies ≡ length came
 replied events replies came come each = each ∙ sym (length-map events came_by) ∙ ap length come
 
--- an event more
+-- One more event has its reply.
 RepliesToAll-more : (setup here : Setup) (old mid new : DeviceView) (came : List (Event (List ℕ)))
     (one : Event (List ℕ)) (replies : List Reply) → RepliesToAll setup old mid came replies → here ≡ setup
     → (step : RepliesTo here mid new one)
@@ -67,7 +67,7 @@ RepliesToAll-more setup here old mid new came one replies so_far same step =
       due = steps_more IsCutAsDue setup old mid new so_far.events replies step.event step.reply so_far.due steps step.due;
     }
 
--- before the first event
+-- There was no event yet.
 pub TellsAll-none : (setup : Setup) (here : DeviceView) (written : Option (List ℕ))
     → here.flash.faults ≡ 0 → TellsAll Done false setup here here [] written written
 TellsAll-none setup here written sound = record {
@@ -78,7 +78,7 @@ TellsAll-none setup here written sound = record {
   written = Appends-nil written;
 }
 
--- an event more, whose reply was told
+-- The reply to one more event was written.
 pub TellsAll-more : (setup here : Setup) (old mid new : DeviceView) (came : List (Event (List ℕ)))
     (one : Event (List ℕ)) (number : ℕ) (answer next : Answer) (failed fails : Bool)
     (before between after : Option (List ℕ))
@@ -110,7 +110,7 @@ TellsAll-more setup here old mid new came one number answer next failed fails be
           (subst (λ k. Appends between after (reply_text k step.reply)) place told.written));
     }
 
--- an event more, whose reply was not told
+-- The reply to one more event was not written.
 pub TellsSome-more : (refusal : Refusal) (setup here : Setup) (old mid new : DeviceView)
     (came : List (Event (List ℕ))) (one : Event (List ℕ)) (number : ℕ) (answer : Answer) (failed : Bool)
     (before between after : Option (List ℕ))
@@ -136,12 +136,12 @@ TellsSome-more refusal setup here old mid new came one number answer failed befo
       output = λ file. absurd (broken.output file);
     }
 
--- a refusal with another status isn't that of the flash file
+-- A refusal with another status isn't that of the flash file.
 pub not_of_file : (refusal : Refusal) → status_of_refusal refusal ≡ 1 → refusal ≡ FlashFile → ⊥
 not_of_file refusal one file =
     let same : 1 ≡ 4 = sym one ∙ ap status_of_refusal file in omega (arith, same)
 
--- all was told so far, and the next line could not be read, or the flash file failed
+-- All replies so far were written. Then the next line could not be read, or the flash file failed.
 pub TellsSome-all : (refusal : Refusal) (setup : Setup) (old new : DeviceView) (came : List (Event (List ℕ)))
     (answer : Answer) (failed : Bool) (before after : Option (List ℕ))
     → TellsAll answer failed setup old new came before after → TellsSome refusal setup old new came before after
@@ -155,7 +155,7 @@ TellsSome-all refusal setup old new came answer failed before after told = recor
   output = λ file. refl;
 }
 
--- a run that broke off at some line
+-- A run broke off at some line.
 pub BreaksText-some : (refusal : Refusal) (setup : Setup) (old new : DeviceView) (text rest : List ℕ)
     (line_order : LineOrder) (taken : ℕ) (buffered : List BufferedInput) (files : FileBytes) (came : List (Event (List ℕ)))
     (before after : Option (List ℕ)) → AreTaken text rest line_order taken buffered files came
@@ -169,7 +169,7 @@ BreaksText-some refusal setup old new text rest line_order taken buffered files 
   whole = λ file. absurd (other file);
 }
 
--- .. or came to its end, and the flash file failed
+-- A run reached the end of its script, and the flash file failed.
 pub BreaksText-all : (setup : Setup) (old new : DeviceView) (text : List ℕ) (buffered : List BufferedInput) (files : FileBytes)
     (came : List (Event (List ℕ))) (answer : Answer) (failed : Bool) (before after : Option (List ℕ))
     → LoadsAll text buffered files came → TellsAll answer failed setup old new came before after
@@ -182,7 +182,7 @@ BreaksText-all setup old new text buffered files came answer failed before after
   whole = λ file. refl;
 }
 
--- a device that was just made over a flash, and all was told
+-- All replies of a new device were written.
 PlaysText-told : (device : DeviceFile) (bytes : List ℕ) (cuts : List Armed) (text : List ℕ)
     (buffered : List BufferedInput) (files : FileBytes) (old new : DeviceView) (answer : Answer)
     (before after : Option (List ℕ)) → IsMadeOf device.map bytes cuts old
@@ -205,7 +205,7 @@ PlaysText-told device bytes cuts text buffered files old new answer before after
       };
     }
 
--- .. or there was no memory for the flash
+-- There was no memory for the flash of a new device.
 pub TellsFirst-none : (device : DeviceFile) (bytes : List ℕ) (cuts : List Armed) (text : List ℕ)
     (buffered : List BufferedInput) (files : FileBytes) (written : Option (List ℕ))
     → TellsFirst NoMemory device bytes cuts text buffered files written written
@@ -226,7 +226,7 @@ TellsFirst-none device bytes cuts text buffered files written =
       };
     }
 
--- what a run of a device that was just made comes to: it was answered, or ended without an answer
+-- A run of a new device was answered, or ended without an answer.
 pub PlaysRun-made : (device : DeviceFile) (bytes : List ℕ) (cuts : List Armed) (text : List ℕ)
     (buffered : List BufferedInput) (files : FileBytes) (old new : DeviceView) (before after : Option (List ℕ))
     → IsMadeOf device.map bytes cuts old → (result : Result Answer Refusal)

@@ -1,4 +1,4 @@
--- What the exit status says of the words.
+-- What the exit status says about the arguments.
 use Rattle.std.proofs.Common.{◌≡◌, ◌≢◌, ◌⊎◌, ◌∙◌, ℕ, Bool, List, Option, Some, None, Result, Ok, Err, ap, arith, false, if◌then◌else◌, inl, inr, option_map, refl, sym, true}
 use Rattle.clap.specs.Words.{Text, kind_of}
 use Rattle.clap.specs.declared.error.kind.ErrorKind.{ErrorKind}
@@ -22,29 +22,29 @@ use Rattle.host.proofs.InputLaws.{KeepsFiles-itself}
 use Rattle.device_commands.specs.CoreEnd.{AnswersCore}
 use Rattle.device_commands.specs.WordsEnd.{AskNothing, EndsByCut, EndsCore, EndsWith}
 
--- the status of a refusal: 4 if the file of the flash failed, else 1
+-- The status of a refusal is 4 if the file of the flash failed, else 1.
 refusal_status : (refusal : Refusal) → (status_of_refusal refusal ≡ 1) ⊎ (status_of_refusal refusal ≡ 4)
 refusal_status no.FlashFile = inr refl
 refusal_status _ = inl refl
 
--- it is that of no fault in the words, and of no run that ends by a power cut
+-- The status of a refusal is neither that of a usage fault nor that of a power cut.
 not_refused : (refusal : Refusal) (status : ℕ) → status_of_refusal refusal ≡ status → status ≢ 1 → status ≢ 4 → ⊥
 not_refused refusal status same not_1 not_4 =
     elim (refusal_status refusal) [ inl one ↦ not_1 (sym same ∙ one) | inr four ↦ not_4 (sym same ∙ four) ]
 
--- the status of no command is that of a fault in the words
+-- The status of a command is never that of a usage fault.
 no_usage : (outcome : Result Answer Refusal) → status_of outcome ≢ 2
 no_usage (Ok Done) two = absurd (omega (arith, two))
 no_usage (Ok Refused) two = absurd (omega (arith, two))
 no_usage (Ok Cut) two = absurd (omega (arith, two))
 no_usage (Err refusal) two = not_refused refusal 2 two (λ one. omega (arith, one)) (λ four. omega (arith, four))
 
--- No command ends with the status of a fault in the words.
+-- No command ends with the status of a usage fault.
 pub never_usage : (outcome : Result Answer Refusal) (status : ℕ) → Ends outcome status → status ≢ 2
 never_usage outcome status (inl same) two = no_usage outcome (sym same ∙ two)
 never_usage outcome status (inr one) two = absurd (omega (arith, one, two))
 
--- the status of a run that ends by a power cut is that of no other answer
+-- Only a run that ends by a power cut has status 3.
 cut_status : (outcome : Result Answer Refusal) → status_of outcome ≡ 3 → outcome ≡ Ok Cut
 cut_status (Ok Done) three = absurd (omega (arith, three))
 cut_status (Ok Refused) three = absurd (omega (arith, three))
@@ -52,12 +52,12 @@ cut_status (Ok Cut) three = refl
 cut_status (Err refusal) three =
     absurd (not_refused refusal 3 three (λ one. omega (arith, one)) (λ four. omega (arith, four)))
 
--- A command that ends by 3 was answered so.
+-- A command that ends with 3 was answered by a power cut.
 pub only_cut : (outcome : Result Answer Refusal) (status : ℕ) → Ends outcome status → status ≡ 3 → outcome ≡ Ok Cut
 only_cut outcome status (inl same) three = cut_status outcome (sym same ∙ three)
 only_cut outcome status (inr one) three = absurd (omega (arith, one, three))
 
--- The misuse of standard input is no request for help.
+-- A wrong use of standard input isn't a request for help.
 pub misuse_helps_none : (is_written is_twice : Bool) (kind : ErrorKind)
     → (if is_written then Some InvalidValue else (if is_twice then Some ArgumentConflict else None)) ≡ Some kind
     → is_help kind ≡ true → ⊥
@@ -67,11 +67,11 @@ misuse_helps_none false true kind same helps =
     let tests : Some false ≡ Some (is_help kind) = ap (option_map is_help) same in absurd (cc (tests, helps))
 misuse_helps_none false false kind same helps = absurd (cc same)
 
--- the status after help, and after a fault in the words
+-- The status is 0 after help, and 2 after a usage fault.
 abbrev pub status_by : Bool → ℕ
 status_by helps = if helps then 0 else 2
 
--- The status after an answer that was written says whether it is help.
+-- The status of an answer that was written says whether the answer is help.
 pub status_helps : (helps : Bool) → status_by helps ≡ 0 → helps ≡ true
 status_helps true zero = refl
 status_helps false zero = absurd (omega (arith, zero))
@@ -84,14 +84,14 @@ pub status_uncut : (helps : Bool) → status_by helps ≢ 3
 status_uncut true three = absurd (omega (arith, three))
 status_uncut false three = absurd (omega (arith, three))
 
--- where a fault is written, and no help, it is a fault in the words
+-- If a fault was written, and no help, the arguments have a fault.
 wrong_status : {T : Type 0} (words : List Text) (Asks : T → Type 0) (kind : ErrorKind) (helps : Bool) (status : ℕ)
     → is_help kind ≡ helps → (is_help kind ≡ true → AskHelp words) → status ≡ status_by helps
     → AskNothing words Asks → (status ≡ 2) ⊎ (status ≡ 1)
 wrong_status words Asks kind true status same helped ends nothing = absurd (nothing.no_help (helped same))
 wrong_status words Asks kind false status same helped ends nothing = inl ends
 
--- where memory ran out or a write failed, nothing is said of the words
+-- Status 1, after memory ran out or a write failed, says nothing about the arguments.
 ends_with_1 : {T : Type 0} (words : List Text) (Asks : T → Type 0) (IsFault : ErrorKind → Type 0)
     (IsDone IsCut : T → Type 0) (status : ℕ) (file : FileBytes) → status ≡ 1
     → EndsWith words Asks IsFault IsDone IsCut status file file
@@ -103,7 +103,7 @@ ends_with_1 words Asks IsFault IsDone IsCut status file one = record {
   kept = λ nothing. KeepsFiles-itself file;
 }
 
--- Words that give no order end by what is answered to them, if help is no fault.
+-- Arguments that give no order end by the answer to them, if help isn't a fault.
 pub EndsWith-error : {T : Type 0} (words : List Text) (Asks : T → Type 0) (IsFault : ErrorKind → Type 0)
     (IsDone IsCut : T → Type 0) (error : OrderError) (status : ℕ) (file : FileBytes)
     → ((kind : ErrorKind) → is_help kind ≡ true → IsFault kind → AskHelp words)
@@ -126,7 +126,7 @@ EndsWith-error words Asks IsFault IsDone IsCut (Usage answer) status file helped
       kept = λ nothing. KeepsFiles-itself file;
     }
 
--- Where they give an order, it is answered.
+-- Arguments that give an order end by its answer.
 pub EndsWith-order : {T : Type 0} (words : List Text) (Asks : T → Type 0) (IsFault : ErrorKind → Type 0)
     (IsDone IsCut : T → Type 0) (asked : T) (status : ℕ) (file after : FileBytes)
     → Asks asked → (status ≡ 0 → IsDone asked) → status ≢ 2 → (status ≡ 3 → IsCut asked)
@@ -139,26 +139,26 @@ EndsWith-order words Asks IsFault IsDone IsCut asked status file after asks done
   kept = λ nothing. absurd (nothing.no_order asked asks);
 }
 
--- A fault in words that may ask for an order to a device is no help.
+-- A fault in arguments that may ask for an order to a device isn't help.
 helped : (words : List Text) (kind : ErrorKind) → is_help kind ≡ true → IsDeviceFault words kind → AskHelp words
 helped words kind helps (of_clap among) = record { kind = kind; among = among; helps = helps }
 helped words kind helps (misuse order taken asks is_misuse) =
     absurd (misuse_helps_none (writes_to_standard_input (Device order)) _ kind is_misuse helps)
 
--- What is answered to words that give the core no order says how they end ..
+-- Arguments that give the core no order end by the answer to them.
 pub EndsCore-error : (words : List Text) (error : OrderError) (status : ℕ) (input : Option (List ℕ)) (file : FileBytes)
     (old new : Option (List ℕ)) → IsDeviceRefusal words error → EndsWords error status
     → EndsCore words status input file file old new
 EndsCore-error words error status input file old new refusal ends =
     EndsWith-error words _ (IsDeviceFault words) _ _ error status file (helped words) refusal ends
 
--- .. where they give an order of others, nothing is done ..
+-- An order that the core doesn't have changes nothing.
 pub EndsCore-other : (words : List Text) (status : ℕ) (input : Option (List ℕ)) (file : FileBytes)
     (old new : Option (List ℕ)) → Ends (Err no.NotOfCore) status → EndsCore words status input file file old new
 EndsCore-other words status input file old new ends =
     ends_with_1 words _ _ _ _ status file (elim ends [ inl same ↦ same | inr same ↦ same ])
 
--- .. and where they give one of the core, it is answered.
+-- An order of the core is answered.
 pub EndsCore-order : (words : List Text) (order : DeviceOrder) (status : ℕ) (input : Option (List ℕ))
     (file after : FileBytes) (old new : Option (List ℕ)) → GiveOrder words (Device order) → is_explained words ≡ false
     → (status ≡ 0 → AnswersCore Done order input file after old new) → status ≢ 2

@@ -10,7 +10,7 @@ use Rattle.host.specs.Inputs.{names_of}
 use Rattle.device_commands.specs.ProvisionEnd.{AnswersProvision}
 use Rattle.device_commands.specs.RunEnd.{AnswersRun}
 
--- What the answer to an order means, by its command, and what the files hold then.
+-- The answer to an order of this command, and what the files hold after it.
 abbrev pub AnswersCore : Answer → DeviceOrder → Option (List ℕ) → FileBytes → FileBytes
     → Option (List ℕ) → Option (List ℕ) → Type 0
 AnswersCore answer (Provision device flash images) input file then old new =

@@ -25,7 +25,8 @@ use Rattle.host.specs.Input.{FileBytes, IsKnownAs, IsNamed}
 use Rattle.host.specs.Inputs.{GiveEach}
 use Rattle.device_texts.specs.ReplyText.{refused_fault_text}
 
--- The bytes of a flash with these files at the fronts of primary slots, from that of this image on.
+-- The bytes of a flash after these files are put at the fronts of primary slots: the first file in
+-- the slot of this image, the others in those of the next images.
 abbrev pub with_files : SectorMap → ℕ → List (List ℕ) → List ℕ → List ℕ
 with_files map image [] bytes = bytes
 with_files map image (file ∷ files) bytes =
@@ -35,21 +36,21 @@ with_files map image (file ∷ files) bytes =
 abbrev pub new_flash : SectorMap → List (List ℕ) → List ℕ
 new_flash map files = with_files map 0 files (replicate (sectors_of map * map.sector_size) 0xff)
 
--- There is a file for each image, and each fits its slot.
+-- There is one file for each image, and each fits its slot.
 pub record FitSlots (map : SectorMap) (files : List (List ℕ)) : Type 0 where
   pub count : length files ≡ map.images
   pub each : (i : ℕ) (file : List ℕ) → slice_get files i ≡ Some file
       → length file ≤ length_of map (Slot i Primary)
 
--- The result of provisioning the flash of these bytes, and what its file is known to hold then: the
--- flash is a device's and the file has its bytes, or it is refused for this reason.
+-- The result of provisioning the flash of these bytes, and what its file is known to hold after it.
+-- Either the flash is a device's and the file holds it, or it is refused for this reason.
 abbrev pub EndsMade : Provisioned → SectorMap → List ℕ → Option (List ℕ) → Type 0
 EndsMade made.Done map bytes held =
     (new : Chip) × IsProvisioned map (flash_of map bytes) new × IsKnownAs held new.bytes
 EndsMade (made.Refused fault) map bytes held =
     (new : Chip) × RefusesMaking map (flash_of map bytes) new fault
 
--- Each of these arguments that names a file names one that is apart from another.
+-- Each file that these arguments name is apart from another.
 abbrev pub AreOthers : (List ℕ → Bool) → List (Bor (List ℕ)) → Type 0
 AreOthers apart words = (place : ℕ) (word : Bor (List ℕ)) → slice_get words place ≡ Some word
     → word.now ≢ codes "-" → IsTrue (apart word.now)
@@ -59,18 +60,18 @@ abbrev pub KeepsWords : List (Bor (List ℕ)) → FileBytes → FileBytes → Ty
 KeepsWords words old new = (place : ℕ) (word : Bor (List ℕ)) → slice_get words place ≡ Some word
     → word.now ≢ codes "-" → Keeps (old word.now) (new word.now)
 
--- The text of a flash that is provisioned.
+-- The answer of `provision` that is done.
 abbrev pub done_text : List ℕ
 done_text = codes "done" ++ 10 ∷ []
 
--- The answer for this result, and what a writer took.
+-- The answer for this result, and the text that a writer took.
 abbrev pub AnswersMade : Answer → Provisioned → Option (List ℕ) → Option (List ℕ) → Type 0
 AnswersMade answer made.Done old new = (answer ≡ Done) × Appends old new done_text
 AnswersMade answer (made.Refused fault) old new =
     (answer ≡ Refused) × Appends old new (refused_fault_text fault)
 
--- `provision` ended before the file of the flash was replaced: with any result but `Done`, and but
--- an answer that could not be written.
+-- `provision` ended before it replaced the file of the flash. So the result is neither `Done` nor
+-- that the answer could not be written.
 abbrev pub EndsBefore : Result Answer Refusal → Type 0
 EndsBefore (Ok Done) = ⊥
 EndsBefore (Ok Refused) = Unit {0}
@@ -78,16 +79,16 @@ EndsBefore (Ok Cut) = Unit {0}
 EndsBefore (Err no.CannotWrite) = ⊥
 EndsBefore (Err refusal) = Unit {0}
 
--- The files of images were read, they fit their slots, and these are the bytes of their flash.
+-- The files of images were read, and they fit their slots. These are the bytes of their flash.
 abbrev pub ReadsImages : SectorMap → List (List ℕ) → Option (List ℕ) → FileBytes → List ℕ → Type 0
 ReadsImages map names input files bytes =
     (sources : List Source) × (contents : List (List ℕ)) × AllZip IsNamed names sources
     × GiveEach sources input files contents × FitSlots map contents
     × (bytes ≡ new_flash map contents)
 
--- `provision` read the bytes of a device file and of the images that these arguments name. It
--- provisioned their flash, which its file holds then, or found why that is refused, and wrote which
--- ..
+-- `provision` read a device file and the images that these arguments name, and made their flash. It
+-- provisioned the flash, which its file holds then, or found why the flash is refused. It wrote
+-- which.
 pub record MakesDevice (answer : Answer) (device : Source) (names : List (List ℕ))
     (input : Option (List ℕ)) (files : FileBytes) (held old new : Option (List ℕ)) : Type 0 where
   pub device_bytes : List ℕ
@@ -102,7 +103,8 @@ pub record MakesDevice (answer : Answer) (device : Source) (names : List (List �
   pub made : EndsMade outcome of_device.map (new_flash of_device.map contents) held
   pub answered : AnswersMade answer outcome old new
 
--- .. or wrote why the sizes of the device file make no map. Then the images don't matter.
+-- The answer of `provision`: it made a device, or wrote why the sizes of the device file make no
+-- map. In the second case the images don't matter.
 abbrev pub AnswersProvision : Answer → Source → List (List ℕ) → Option (List ℕ) → FileBytes
     → Option (List ℕ) → Option (List ℕ) → Option (List ℕ) → Type 0
 AnswersProvision Done device names input files held old new =

@@ -24,17 +24,17 @@ use Rattle.host.specs.Inputs.{GiveEach}
 use Rattle.device_texts.specs.ReplyText.{replies_text}
 use Rattle.inputs.specs.Script.{IsScript, known_after_each}
 
--- A device that was just made, over a flash with these bytes that is armed with exactly these cuts.
--- It isn't booted, and no upload is open.
+-- A new device over a flash with these bytes that is armed with exactly these cuts. It isn't
+-- booted, and no upload is open.
 pub record IsMadeOf (map : SectorMap) (bytes : List ℕ) (cuts : List Armed) (here : DeviceView)
     : Type 0 where
   pub flash : here.flash ≡ armed_chip map bytes cuts
   pub down : here.up ≡ false
   pub closed : AllClosed here.sessions
 
--- These are the replies to the events, one to each, of a device of this file. Its flash has these
--- bytes and is armed with these cuts. From each state that the device holds, the replies are a run
--- of the machine of whole images, to a state that it holds then.
+-- A device of this file gave these replies to the events, one to each. Its flash had these bytes
+-- and was armed with these cuts. From each state that the device holds at the start, the replies
+-- are a run of the machine of whole images, to a state that the device holds at the end.
 pub record IsPlayed (device : DeviceFile) (bytes : List ℕ) (cuts : List Armed)
     (events : List DeviceEvent) (replies : List Reply) : Type 0 where
   pub old : DeviceView
@@ -43,7 +43,7 @@ pub record IsPlayed (device : DeviceFile) (bytes : List ℕ) (cuts : List Armed)
   pub runs : RunsTo (setup_of device) old new events replies
   pub each : length replies ≡ length events
 
--- The answer of a run, by its last reply.
+-- The answer of a run whose last reply is this.
 abbrev pub answer_after : Option Reply → Answer
 answer_after None = Done
 answer_after (Some reply.Done) = Done
@@ -56,7 +56,7 @@ answer_after (Some reply.Cut) = Cut
 abbrev pub answer_of : List Reply → Answer
 answer_of replies = answer_after (slice_get replies (length replies - 1))
 
--- The event that comes to a device, with the bytes that it borrows.
+-- The event of a device, with the bytes that it borrows.
 abbrev pub came_by : DeviceEvent → Event (List ℕ)
 came_by lent = event_map (λ bytes. bytes.now) lent
 
@@ -73,9 +73,9 @@ pub record Plays (answer : Answer) (device : DeviceFile) (bytes : List ℕ) (cut
   pub answered : answer ≡ answer_of replies
   pub written : Appends old new (replies_text 1 replies)
 
--- `run` read the bytes of a device file, of its flash and of a script with the files that it names,
--- and wrote the replies of the device to the events of the script, with exactly the writes of its
--- flash cut that the script names ..
+-- `run` read a device file, its flash and a script with the files that it names. It wrote the
+-- replies of the device to the events of the script. Exactly the writes of the flash that the
+-- script names were cut.
 pub record RunsDevice (answer : Answer) (sources : List Source) (input : Option (List ℕ))
     (files : FileBytes) (old new : Option (List ℕ)) : Type 0 where
   pub device_bytes : List ℕ
@@ -91,7 +91,8 @@ pub record RunsDevice (answer : Answer) (sources : List Source) (input : Option 
       cuts came
   pub plays : Plays answer of_device bytes cuts came old new
 
--- .. or why the sizes of the device file make no map. Then nothing else matters.
+-- The answer of `run`: it ran the device, or wrote why the sizes of the device file make no map. In
+-- the second case the other files don't matter.
 abbrev pub AnswersRun : Answer → Source → Source → Source → Option (List ℕ) → FileBytes
     → Option (List ℕ) → Option (List ℕ) → Type 0
 AnswersRun Done device flash script input files old new =

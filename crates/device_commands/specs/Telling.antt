@@ -1,4 +1,4 @@
--- The result of writing the replies of a device one by one: for the private contracts of `run`.
+-- The result of writing the replies of a device one by one, for the private contracts of `run`.
 use Rattle.std.specs.Prelude.{◌≡◌, ℕ, ◌+◌, ◌≤◌, Bool, false, List, [], ◌++◌, length, Option, Some, Result, IfErr, IfOk, map, take}
 use Rattle.std.specs.Io.KnownBytes.{Appends}
 use Rattle.common.specs.Lines.{lines_of}
@@ -38,21 +38,21 @@ pub record RepliesTo (setup : Setup) (old new : DeviceView) (came : Event (List 
   -- The reply is Cut exactly if the flash took an armed write, or had a fault.
   pub due : IsCutAsDue old.flash reply new.flash
 
--- A device replied to its event of this number, and a writer took the reply, which gives the
--- answer.
+-- A device replied to its event of this number, and a writer took the reply. The answer is that of
+-- this reply.
 pub record TellsEvent (answer : Answer) (number : ℕ) (setup : Setup) (old new : DeviceView)
     (came : Event (List ℕ)) (before after : Option (List ℕ)) : Type 0 where
   pub step : RepliesTo setup old new came
   pub written : Appends before after (reply_text number step.reply)
   pub answered : answer ≡ answer_after (Some step.reply)
 
--- A device replied to its event, and the reply could not be written, or not completely.
+-- A device replied to its event, and the reply was written in part or not at all.
 pub record BreaksEvent (refusal : Refusal) (number : ℕ) (setup : Setup) (old new : DeviceView)
     (came : Event (List ℕ)) (before after : Option (List ℕ)) : Type 0 where
   pub step : RepliesTo setup old new came
   pub broken : BreaksOff refusal (reply_text number step.reply) before after
 
--- A device replied so to events, to each once.
+-- A device gave these replies to events, one to each.
 pub record RepliesToAll (setup : Setup) (old new : DeviceView) (came : List (Event (List ℕ)))
     (replies : List Reply) : Type 0 where
   pub events : List DeviceEvent
@@ -63,7 +63,7 @@ pub record RepliesToAll (setup : Setup) (old new : DeviceView) (came : List (Eve
   pub due : DueEach setup old events replies new
 
 -- A device replied to all events, and a writer took the replies. The last of them gives the answer.
--- A write of the flash file has failed, or none has.
+-- `failed` is false only if no write of the flash file failed.
 pub record TellsAll (answer : Answer) (failed : Bool) (setup : Setup) (old new : DeviceView)
     (came : List (Event (List ℕ))) (before after : Option (List ℕ)) : Type 0 where
   pub replies : List Reply
@@ -73,8 +73,8 @@ pub record TellsAll (answer : Answer) (failed : Bool) (setup : Setup) (old new :
   pub answered : answer ≡ answer_of replies
   pub written : Appends before after (replies_text 1 replies)
 
--- A device replied to these events, and a writer took all replies but the last one at most, of
--- which it took a prefix.
+-- A device replied to these events. A writer took all replies, or all but the last and a prefix of
+-- it.
 pub record TellsSome (refusal : Refusal) (setup : Setup) (old new : DeviceView)
     (came : List (Event (List ℕ))) (before after : Option (List ℕ)) : Type 0 where
   pub told : List Reply
@@ -87,7 +87,7 @@ pub record TellsSome (refusal : Refusal) (setup : Setup) (old new : DeviceView)
   -- If the flash file failed, each reply was written.
   pub output : refusal ≡ FlashFile → untold ≡ []
 
--- All events of a text came, and a device replied to them, as it was written. No write of the flash
+-- A device replied to all events of a text, and a writer took the replies. No write of the flash
 -- file failed.
 pub record TellsText (answer : Answer) (setup : Setup) (old new : DeviceView)
     (text : List ℕ) (buffered : List BufferedInput) (files : FileBytes)
@@ -96,8 +96,9 @@ pub record TellsText (answer : Answer) (setup : Setup) (old new : DeviceView)
   pub comes : LoadsAll text buffered files came
   pub tells : TellsAll answer false setup old new came before after
 
--- The events of the first lines of a text came, and not all replies to them could be written, or
--- the next line could not be read. Or all events came, and the flash file failed.
+-- A run of a text broke off. A device replied to the events of the first lines. Then a reply could
+-- not be written, or the next line could not be read; or all lines were run, and the flash file
+-- failed.
 pub record BreaksText (refusal : Refusal) (setup : Setup) (old new : DeviceView)
     (text : List ℕ) (buffered : List BufferedInput) (files : FileBytes)
     (before after : Option (List ℕ)) : Type 0 where
@@ -117,8 +118,7 @@ pub record PlaysText (answer : Answer) (device : DeviceFile) (bytes : List ℕ)
   pub plays : Plays answer device bytes cuts came old new
 
 -- What a writer took of a run of a text that ended without an answer, on a device of this file,
--- whose flash has these bytes and is armed with these cuts. The flash has a fault only after a
--- failed write of its file.
+-- whose flash has these bytes and is armed with these cuts.
 pub record TellsFirst (refusal : Refusal) (device : DeviceFile) (bytes : List ℕ)
     (cuts : List Armed) (text : List ℕ) (buffered : List BufferedInput) (files : FileBytes)
     (before after : Option (List ℕ)) : Type 0 where

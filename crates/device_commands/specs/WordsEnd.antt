@@ -1,4 +1,4 @@
--- How a program ends, by its arguments: the core, and any with orders of its own.
+-- How a program ends for its arguments: the core, and any with more orders.
 use Rattle.std.specs.Prelude.{◌≡◌, ◌⊎◌, ℕ, List, Option, false}
 use Rattle.clap.specs.Words.{Text}
 use Rattle.clap.specs.declared.error.kind.ErrorKind.{ErrorKind}
@@ -14,55 +14,54 @@ use Rattle.host.specs.declared.answer.Answer.TheVariants.{Cut, Done}
 use Rattle.host.specs.Input.{FileBytes, KeepsFiles}
 use Rattle.device_commands.specs.CoreEnd.{AnswersCore}
 
--- The arguments ask for an order of which this holds.
+-- The arguments ask for an order that has this property.
 pub record AskSome {T : Type 0} (Asks Holds : T → Type 0) : Type 0 where
   pub asked : T
   pub asks : Asks asked
   pub holds : Holds asked
 
--- They ask for nothing: neither for help or the version nor for an order.
+-- The arguments ask for nothing: neither for help or the version nor for an order.
 pub record AskNothing {T : Type 0} (words : List Text) (Asks : T → Type 0) : Type 0 where
   pub no_help : AskHelp words → ⊥
   pub no_order : (asked : T) → Asks asked → ⊥
 
--- They have a fault: an answer to them that is neither help nor the version.
+-- The arguments have a fault: the answer to them is neither help nor the version.
 pub record HaveFault (IsFault : ErrorKind → Type 0) : Type 0 where
   pub kind : ErrorKind
   pub fault : IsFault kind
   pub no_help : is_help kind ≡ false
 
--- What the exit status says about the arguments, which may ask for such an order, have such a fault,
--- and whose order may be done or end by a power cut.
+-- What the exit status says about the arguments. They may ask for such an order or have such a
+-- fault, and their order may be done or end by a power cut.
 pub record EndsWith {T : Type 0} (words : List Text) (Asks : T → Type 0)
     (IsFault : ErrorKind → Type 0) (IsDone IsCut : T → Type 0) (status : ℕ)
     (file then : FileBytes) : Type 0 where
-  -- 0 comes only if they ask for help or the version, or if the answer to their order is complete
+  -- The status is 0 only if they ask for help or the version, or their order is done.
   pub done : status ≡ 0 → AskHelp words ⊎ AskSome Asks IsDone
-  -- 2 comes only after a fault in them
+  -- The status is 2 only after a fault in them.
   pub usage : status ≡ 2 → HaveFault IsFault
-  -- 3 comes only if they ask for a run, and its last reply is that the power failed
+  -- The status is 3 only if they ask for a run whose last reply is that the power failed.
   pub cut : status ≡ 3 → AskSome Asks IsCut
-  -- if they ask for none of this it is 2; or 1, if the order is none of the program's, a write
-  -- failed or memory ran out ..
+  -- If they ask for nothing, the status is 2; or it is 1, if a write failed or memory ran out, or
+  -- the order is none of the program's.
   pub wrong : AskNothing words Asks → (status ≡ 2) ⊎ (status ≡ 1)
-  -- .. and no file is changed
+  -- If they ask for nothing, no file is changed.
   pub kept : AskNothing words Asks → KeepsFiles file then
 
--- An answer was written that says that the power failed, and it is kept.
+-- An answer was written that says that the power failed, and the output keeps it.
 pub record IsCutAnswer (Answers : Answer → Option (List ℕ) → Type 0) (new : Option (List ℕ))
     : Type 0 where
   pub written : Option (List ℕ)
   pub answered : Answers Cut written
   pub kept : Keeps written new
 
--- The answer to an order is that of a run whose last reply says that the power failed, and its
--- output is kept.
+-- The order was a run whose last reply is that the power failed, and the output keeps its answer.
 abbrev pub EndsByCut : DeviceOrder → Option (List ℕ) → FileBytes → FileBytes
     → Option (List ℕ) → Option (List ℕ) → Type 0
 EndsByCut order input file then old new =
     IsCutAnswer (λ answer written. AnswersCore answer order input file then old written) new
 
--- What the exit status of the core says about the arguments: their order is one to a device, and
+-- What the exit status of the core says about the arguments. Their order is one to a device that
 -- isn't to be explained.
 abbrev pub EndsCore : List Text → ℕ → Option (List ℕ) → FileBytes → FileBytes
     → Option (List ℕ) → Option (List ℕ) → Type 0

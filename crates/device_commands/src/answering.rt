@@ -1,4 +1,4 @@
-//! Answers to arguments that give no order.
+//! Prints help and usage faults: the answers to arguments that give no order.
 
 ghost use Rattle.std.specs.Prelude.{◌≡◌, ◌⊎◌, IfOk, MatchResult};
 ghost use Rattle.clap.specs.Words.{kind_of};
@@ -13,23 +13,27 @@ use std::io::Write;
 use std::rt::Env;
 use std::{env, io};
 
-/// The arguments ask for help or the version, which is printed.
+/// The exit status after help or the version was printed.
 const HELPED: u8 = 0;
 
-/// The program doesn't know the arguments.
+/// The exit status after a fault in the arguments.
 const USAGE: u8 = 2;
 
-/// The answer could not be written.
+/// The exit status if the answer could not be written.
 const NOT_WRITTEN: u8 = 1;
 
-/// The arguments, the program's own name first.
+/// Returns the arguments, the program's own name first, in memory of `rt`.
+///
+/// # Errors
+/// `OutOfMemory` if memory is refused, another kind if the arguments can't be read as text.
 pub fn words_of(rt: &(impl Env + AllocGlobal)) -> io::Result<Vec<String>> {
     Ok(env::args(rt)?.collect(rt.alloc())?)
 }
 
-/// Prints the answer to arguments that give no order, and returns the exit status: help and the
-/// version go to `out`, with 0, a fault in the arguments to `err`, with 2. If memory ran out, it is
-/// refused, with 1.
+/// Prints the answer to arguments that give no order, and returns the exit status.
+///
+/// Help and the version go to `out`, with status 0. A fault in the arguments goes to `err`, with
+/// status 2. The status is 1 if memory ran out or the answer could not be written.
 pub fn answer_words<S: AsStr, O: Write, E: Write>(
     alloc: Global,
     words: &[S],
@@ -51,7 +55,7 @@ pub fn answer_words<S: AsStr, O: Write, E: Write>(
     }
 }
 
-/// Whether the answer of `clap` is help or the version.
+/// Whether this answer of `clap` is help or the version.
 fn is_help(answer: &clap::Error) -> bool
     ensures { result ≡ is_help (kind_of answer.now) }
 {
@@ -61,8 +65,9 @@ fn is_help(answer: &clap::Error) -> bool
     )
 }
 
-/// Reports that the arguments could not be read, and returns the exit status: 1 if memory ran out,
-/// 2 if they aren't text. The text to print is in memory of `alloc`.
+/// Reports that the arguments could not be read, and returns the exit status: 1 if memory ran out
+/// or the report could not be written, 2 if the arguments aren't text. The report is in memory of
+/// `alloc`.
 pub fn refuse_words<E: Write>(alloc: Global, error: &io::Error, err: &mut E) -> u8
     ensures { (result ≡ 2) ⊎ (result ≡ 1) }
 {
@@ -72,7 +77,7 @@ pub fn refuse_words<E: Write>(alloc: Global, error: &io::Error, err: &mut E) -> 
     }
 }
 
-/// Writes the fault in the arguments, or that memory ran out, and returns the exit status.
+/// Writes a fault in the arguments, or that memory ran out, and returns the exit status.
 fn write_fault<E: Write>(error: &OrderError, err: &mut E) -> io::Result<u8>
     ensures { IfOk result (λ status. status ≡ status_of_fault error.now) }
 {
@@ -85,7 +90,7 @@ fn write_fault<E: Write>(error: &OrderError, err: &mut E) -> io::Result<u8>
     }
 }
 
-/// The exit status after this text, if it was written.
+/// The exit status after this write: the one that it returned, or 1 if it failed.
 fn status_of_written(written: io::Result<u8>) -> u8
     ensures { MatchResult written (λ status. result ≡ status) (λ _. result ≡ 1) }
 {

@@ -1,13 +1,13 @@
-//! The file that the flash of a run is written to.
+//! Writes the flash of a run to the host's file.
 
 use host::Host;
 use inputs::FlashFile;
 use std::io;
 
-/// The file of a flash that a host opened last.
+/// The flash file that a host opened last.
 #[derive(Drop)]
 pub struct HostFile<'a, H> {
-    /// The host of the file.
+    /// The host that opened the file.
     pub host: &'a H,
 }
 

@@ -1,8 +1,7 @@
-//! The core of the program: the commands `provision` and `run`, which make and run devices on
-//! files.
+//! The commands `provision` and `run`, which make and run a device on files.
 //!
 //! - Promises: `run` writes the replies of a device to its script. The flash of `provision` is made
-//!   of exactly the named images. The exit status says what became of the arguments.
+//!   of exactly the named images. The exit status says how the arguments' order ended.
 //! - Main calls: `core_cli`, `run_core_order`, `run_device_order`, `answer_words`
 //! - Allocates: a flash in memory, events.
 //! - Callers: `bootswap_core`, `boot_cli`, `bootswap`

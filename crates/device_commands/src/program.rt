@@ -1,4 +1,4 @@
-//! The core of the program: the commands `provision` and `run`.
+//! Runs the command that the arguments ask for: `provision` or `run`.
 ghost use Rattle.std.specs.Prelude.{◌≡◌, ◌≢◌, IfOk, map};
 ghost use Rattle.device_commands.specs.CoreEnd.{AnswersCore};
 ghost use Rattle.device_commands.specs.WordsEnd.{EndsByCut, EndsCore};
@@ -39,8 +39,8 @@ pub fn core_cli<S: AsStr, H: Host, O: Write, E: Write>(
     }
 }
 
-/// Runs a command, and returns its exit status. It is 0 only if the complete answer is written, and
-/// says that the command is done.
+/// Runs a command, and returns its exit status. It is 0 only if the command is done and its
+/// complete answer is written.
 pub fn run_core_order<H: Host, O: Write, E: Write>(
     alloc: Global,
     order: &DeviceOrder<'_>,
@@ -58,7 +58,8 @@ pub fn run_core_order<H: Host, O: Write, E: Write>(
     finish(&outcome, out, err)
 }
 
-/// Runs a command. `notes` is called after each reply of a run.
+/// Runs a command on the files of `host`, and writes its answer to `out`. `notes` is called after
+/// each reply of a run.
 ///
 /// # Errors
 /// The errors of the command.
@@ -96,7 +97,7 @@ pub fn run_device_order<H: Host, O: Write, N: RunNotes>(
     }
 }
 
-/// The access that a run opens its flash for.
+/// How a run opens its flash: for durable writes if `durable` is set.
 fn access_of(durable: bool) -> Access {
     if durable {
         Access::WriteDurably

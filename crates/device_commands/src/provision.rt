@@ -22,25 +22,27 @@ use std::sync::ledger::{Blank, Ledger};
 /// The result of provisioning a flash.
 #[derive(Clone, Copy)]
 pub enum Provisioned {
-    /// The flash is a device's, and its file holds it.
+    /// The flash is a device's, and its file holds the flash.
     Done,
     /// The flash can't be a device's, for this reason. No file was written.
     Refused(Fault),
 }
 
-/// The name of the file of a flash.
+/// The name of a flash file.
 #[derive(Clone, Copy)]
 pub struct FlashName<'a> {
-    /// As the arguments give it.
+    /// The name as the arguments give it.
     pub name: &'a str,
 }
 
-/// Reads a device file and images from `host`, makes a flash with each image at the front of its
-/// primary slot, provisions it, and then makes or replaces its file. Writes to `out` that it is
-/// done, or why it is refused. All bytes are in memory of `alloc`.
+/// Makes the flash of a device with an image at the front of each primary slot, provisions it, and
+/// makes or replaces its file. Writes to `out` that it is done, or why it is refused.
 ///
-/// Everything is checked before the file is written. The file can't be one of the inputs, which
-/// never change. The file changes only if the answer is `Done` or can't be written. But a block
+/// The device file and the images are read from `host`. All bytes are in memory of `alloc`.
+///
+/// Everything is checked before the file is written. The flash file can't be one of the inputs,
+/// which never change. It changes only if the answer is `Done` or can't be written. But a block
+/// device may hold a part of the flash after a failed write.
 /// device may hold a part of the flash after a failed write.
 pub fn run_provision<H: Host, O: Write>(
     alloc: Global,
@@ -71,7 +73,7 @@ pub fn run_provision<H: Host, O: Write>(
 }
 
 /// Reads images, and returns the bytes of a flash with each at the front of its primary slot. All
-/// else is erased.
+/// other bytes are erased.
 pub fn read_images<H: Host>(
     alloc: Global,
     map: &SectorMap,
@@ -109,7 +111,7 @@ fn erased(alloc: Global, map: &SectorMap) -> Result<Vec<u8>, AllocError>
     vec![in alloc; 0xff; map.bytes_in_all() as usize]
 }
 
-/// The input that the argument at this place names.
+/// The input that the argument at this index names.
 fn source_at<'a>(words: &[&'a str], place: u8) -> Source<'a>
     requires { place < length words.now }
     ensures { IfSome (slice_get words.now place) (λ word. IsNamed word.now result) }
@@ -117,7 +119,7 @@ fn source_at<'a>(words: &[&'a str], place: u8) -> Source<'a>
     Source::named(words[usize::from(place)])
 }
 
-/// Writes the bytes of a file over those from `at` on.
+/// Replaces the bytes from `at` on by those of a file.
 fn put(bytes: &mut Vec<u8>, at: u32, file: &[u8])
     requires { at + length file.now ≤ length bytes.old.items }
     ensures { bytes.new.items ≡ replaced at file.now bytes.old.items }
@@ -200,7 +202,7 @@ fn replace<H: Host>(alloc: Global, name: &str, bytes: &[u8], host: &mut H) -> Re
     }
 }
 
-/// Writes to `out` the result of provisioning a flash. Does not allocate for `Done`.
+/// Writes the result of provisioning a flash to `out`. Doesn't allocate for `Done`.
 fn write_outcome<O: Write>(alloc: Global, made: Provisioned, out: &mut O) -> Result<Answer, Refusal>
     ensures written { IfOk result (λ answer.
         AnswersMade answer made (O.contents out.old) (O.contents out.new)) }

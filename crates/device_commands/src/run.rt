@@ -40,12 +40,12 @@ pub struct RunFiles<'a> {
     pub script: Source<'a>,
 }
 
-/// A device and the script that is run on it, once all files were checked.
+/// A device and the script to run on it, after all files were checked.
 #[derive(Drop)]
 struct Run<'d, 't> {
     /// The device.
     device: &'d DeviceFile,
-    /// The bytes of its flash, which the file of the flash holds.
+    /// The bytes of its flash, as its file holds them.
     bytes: Vec<u8>,
     /// The writes that the script cuts.
     cuts: Vec<CutWrite>,
@@ -186,7 +186,7 @@ fn run_events<L: Ledger, M: Ledger, F: FlashFile + Drop, H: Host, O: Write, N: R
             let event = sources.load_event(&mut used, lines.number, event)?;
             number += 1;
             answer = run_event(alloc, device, number, event, out, notes)?;
-            // Checked after each event: until it is true, each cut was armed.
+            // Checked after each event: while no write has failed, only an armed write is cut.
             has_failed |= device.flash().has_failed();
         }
     }

@@ -2,7 +2,7 @@ use Rattle.std.proofs.Common.{map}
 use Rattle.device_commands.proofs.WordsLaws.{EndsCore-error}
 use Rattle.device_commands.proofs.program.core_cli.Goals as goal
 
--- What is answered to words that give no order says how they end.
+-- Arguments that give no order end by the answer to them.
 pub returns-in-Err : goal.returns-in-Err
 returns-in-Err g c =
     EndsCore-error (map g.S.AsStr.text c.args.words.now) c.in-Err.error c.answer_words.result

@@ -2,7 +2,7 @@ use Rattle.device_commands.proofs.program.run_core_order.Goals as goal
 use Rattle.device_commands.proofs.KeptLaws.{AnswersCore-kept}
 use Rattle.device_commands.proofs.WordsLaws.{never_usage, only_cut}
 
--- The status is 0 only after `Done`, and what stands then was written before the flush.
+-- The status is 0 only after `Done`, and the answer was written before the flush.
 pub returns-clause-done : goal.returns-clause-done
 returns-clause-done g c = λ zero.
     let done = c.finish.ensures.status zero in
@@ -22,6 +22,6 @@ returns-clause-cut g c = λ three.
       kept = c.finish.ensures.kept;
     }
 
--- No command ends as a fault in the words does.
+-- No command ends as a usage fault does.
 pub returns-clause-other : goal.returns-clause-other
 returns-clause-other g c = never_usage c.run_device_order-outcome.result c.finish.result c.finish.ensures.ends

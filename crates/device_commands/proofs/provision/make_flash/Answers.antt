@@ -3,7 +3,7 @@ use Rattle.flash_model.specs.Memory.{chip_of}
 use Rattle.boot_core.specs.Provisioned.{RefusesMaking}
 use Rattle.device_commands.proofs.provision.make_flash.Goals as goal
 
--- The flash that was refused is the one of the bytes.
+-- The refused flash is the one of the bytes.
 pub returns-in-Err-clause-made : goal.returns-in-Err-clause-made
 returns-in-Err-clause-made g c =
     let map = c.args.map.now in

@@ -18,7 +18,7 @@ loop-image-init g c =
     let whole = ap (λ all. length all) c.in-Ok.ensures ∙ length-replicate (sectors_of map * map.sector_size) 0xff in
     record { read = AreRead-none map c.args.images.now _ _ _ c.in-Ok.ensures whole; opened = refl }
 
--- The slot lies in the flash, and the file isn't longer.
+-- The slot lies in the flash, and the file fits the slot.
 pub put-requires : goal.put-requires
 put-requires g c =
     let map = c.args.map.now in
@@ -37,7 +37,7 @@ put-requires g c =
       c.loop-image.invariant.read.whole,
     )
 
--- One file more was read and put.
+-- One more file was read and put.
 pub loop-image-preserved : goal.loop-image-preserved
 loop-image-preserved g c =
     let map = c.args.map.now in
@@ -56,7 +56,7 @@ loop-image-preserved g c =
       opened = c.in_ok-file.ensures.opened ∙ c.loop-image.invariant.opened;
     }
 
--- All were read.
+-- All files were read.
 pub returns-clause-read : goal.returns-clause-read
 returns-clause-read g c =
     let read = c.loop-image.invariant.read in
@@ -71,14 +71,14 @@ returns-clause-read g c =
       read.put,
     )
 
--- Nothing was read where the number of images is wrong, or there is no memory for the flash.
+-- If the number of images is wrong, or there is no memory for the flash, nothing was read.
 pub returns-then-images-from-clause-kept : goal.returns-then-images-from-clause-kept
 returns-then-images-from-clause-kept g c = KeepsFiles-itself _
 
 pub returns-in_default-clause-kept : goal.returns-in_default-clause-kept
 returns-in_default-clause-kept g c = KeepsFiles-itself _
 
--- A file that could not be read changes nothing, and nor does one that is too long.
+-- A file that could not be read, or is too long, changes no file.
 pub returns-in_err-file-clause-kept : goal.returns-in_err-file-clause-kept
 returns-in_err-file-clause-kept g c = KeepsFiles-twice _ _ _ c.loop-image.invariant.read.kept c.in_err-file.ensures.files
 

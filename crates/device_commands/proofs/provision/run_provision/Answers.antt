@@ -4,8 +4,7 @@ use Rattle.device_commands.proofs.OtherFiles.{KeepsWords-apart, KeepsWords-kept}
 use Rattle.host.proofs.InputLaws.{KeepsFiles-twice, KeepsSource-apart, KeepsSource-kept}
 use Rattle.device_commands.proofs.provision.run_provision.Goals as goal
 
--- The device file and the images were read in turn, and what came of making their flash was
--- written.
+-- The device file and the images were read in turn, and the result for their flash was written.
 pub returns-clause-answers : goal.returns-clause-answers
 returns-clause-answers g c =
     let read = rw c.in-Some.is at c.in_ok-device.ensures.read in
@@ -15,7 +14,7 @@ returns-clause-answers g c =
     c.in_ok-bytes.ensures.read c.in_ok-made.ensures.made read.1 answered)
     c.write_outcome.ensures.written
 
--- Where the file of the flash wasn't replaced all files were kept.
+-- If the file of the flash wasn't replaced, all files were kept.
 pub returns-in_err-bytes-clause-kept : goal.returns-in_err-bytes-clause-kept
 returns-in_err-bytes-clause-kept g c = λ ends. (KeepsFiles-twice _ _ _ c.in_ok-device.ensures.files c.in_err-bytes.ensures.kept)
 
@@ -32,7 +31,7 @@ returns-clause-kept g c = λ ends.
     (KeepsFiles-told c.write_outcome.result c.in_ok-made.field-0 _ _ _ _ c.write_outcome.ensures.written
     c.write_outcome.ensures.late c.in_ok-made.ensures.refused ends)
 
--- What was read stays: nothing was written yet ..
+-- If nothing was written, the inputs are kept.
 pub returns-in_err-device-clause-device : goal.returns-in_err-device-clause-device
 returns-in_err-device-clause-device g c = KeepsSource-kept c.args.device _ _ c.in_err-device.ensures.files
 
@@ -57,7 +56,7 @@ returns-in_err-refuse_inputs-clause-device g c = KeepsSource-kept c.args.device 
 pub returns-in_err-refuse_inputs-clause-images : goal.returns-in_err-refuse_inputs-clause-images
 returns-in_err-refuse_inputs-clause-images g c = KeepsWords-kept c.args.images.now _ _ (KeepsFiles-twice _ _ _ c.in_ok-device.ensures.files c.in_ok-bytes.ensures.kept)
 
--- .. or a file that is none of those that were read.
+-- If a file apart from the inputs was replaced, the inputs are kept.
 pub returns-in_err-made-clause-device : goal.returns-in_err-made-clause-device
 returns-in_err-made-clause-device g c = KeepsSource-apart c.args.device c.args.flash.now (g.H.Host.apart c.read_images.new.host) _ _ _
     (KeepsFiles-twice _ _ _ c.in_ok-device.ensures.files c.in_ok-bytes.ensures.kept)

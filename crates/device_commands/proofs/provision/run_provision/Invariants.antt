@@ -1,5 +1,5 @@
 use Rattle.device_commands.proofs.provision.run_provision.Given as goal
 
--- the token that the flash is made with
+-- The token of the flash.
 abbrev pub ghosts-make_flash : goal.ghosts-make_flash
 ghosts-make_flash g a = record { name = a.blank.name; parts = a.blank.parts }

@@ -18,7 +18,7 @@ returns-in_default g c = record {
       c.args.run.text.now c.args.sources.now.buffered.now (g.H.Host.file c.args.sources.now.host.now) _;
 }
 
--- The device was made over the flash of the bytes and the cuts.
+-- The device was made over a flash of these bytes that is armed with these cuts.
 pub returns : goal.returns
 returns g c =
     let cuts = armed_in c.args.run.cuts.items in

@@ -7,13 +7,13 @@ use Rattle.device_commands.proofs.EndLaws.{AnswersRun-read}
 use Rattle.inputs.proofs.ScriptLaws.{IsScript-loaded}
 use Rattle.device_commands.proofs.run.run_device.Goals as goal
 
--- The device is one of a file.
+-- The device is one of a device file.
 pub play-played-requires-clause-device : goal.play-played-requires-clause-device
 play-played-requires-clause-device g c =
     let read = rw c.in-Some.is at c.in_ok-device.ensures.read in
     IsOfFile-read read.0.0 c.in-Some.device read.0.2
 
--- All three were read in turn, the events of the script came, and the replies were written.
+-- All three inputs were read in turn, the script's events were run, and the replies were written.
 pub returns-in-Ok-clause-answers : goal.returns-in-Ok-clause-answers
 returns-in-Ok-clause-answers g c =
     let read = rw c.in-Some.is at c.in_ok-device.ensures.read in

@@ -2,7 +2,7 @@ use Rattle.std.proofs.Common.{rules}
 use Rattle.common.proofs.Results.{IfErr-passed}
 use Rattle.device_commands.proofs.run.run_event.Goals as goal
 
--- The reply could not be written, or not completely ..
+-- The reply was written in part or not at all.
 pub returns-in_err-write_reply-clause-begun : goal.returns-in_err-write_reply-clause-begun
 returns-in_err-write_reply-clause-begun g c = IfErr-passed _ _ _ c.from_residual.ensures.1 (record {
   step = record {
@@ -15,7 +15,7 @@ returns-in_err-write_reply-clause-begun g c = IfErr-passed _ _ _ c.from_residual
   broken = c.in_err-write_reply.ensures.begun;
 })
 
--- .. or it was written.
+-- The reply was written.
 pub returns-clause-told : goal.returns-clause-told
 returns-clause-told g c = record {
   step = record {

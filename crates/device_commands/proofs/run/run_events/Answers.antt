@@ -24,7 +24,7 @@ loop-lines-init g c =
       told = TellsAll-none _ _ _ c.requires.sound;
     }
 
--- The next line is none that can be done ..
+-- The next line isn't a valid line.
 pub returns-in_err-event-clause-some : goal.returns-in_err-event-clause-some
 returns-in_err-event-clause-some g c =
     let before = c.loop-lines.invariant in
@@ -34,7 +34,7 @@ returns-in_err-event-clause-some g c =
     (TellsSome-all _ c.args.device.now.setup _ _ before.came c.loop-lines.answer c.loop-lines.has_failed _ _ before.told)
     (not_of_file _ c.in_err-event.ensures.refused))
 
--- .. or its file can't be read any more ..
+-- The file of the next line can't be read any more.
 pub returns-in_err-event-2-clause-some : goal.returns-in_err-event-2-clause-some
 returns-in_err-event-2-clause-some g c =
     let before = c.loop-lines.invariant in
@@ -44,7 +44,7 @@ returns-in_err-event-2-clause-some g c =
     (TellsSome-all _ c.args.device.now.setup _ _ before.came c.loop-lines.answer c.loop-lines.has_failed _ _ before.told)
     (not_of_file _ c.in_err-event-2.ensures.refused))
 
--- .. or the reply to its event could not be told, or not to its end.
+-- The reply to the next event was written in part or not at all.
 pub returns-in_err-answer-clause-some : goal.returns-in_err-answer-clause-some
 returns-in_err-answer-clause-some g c =
     let before = c.loop-lines.invariant in
@@ -62,7 +62,7 @@ returns-in_err-answer-clause-some g c =
     c.in_err-answer.ensures.begun)
     c.in_err-answer.ensures.begun.broken.output)
 
--- The reply to one event more was told.
+-- The reply to one more event was written.
 pub loop-lines-preserved-in-Event : goal.loop-lines-preserved-in-Event
 loop-lines-preserved-in-Event g c =
     let before = c.loop-lines.invariant in
@@ -88,7 +88,7 @@ loop-lines-preserved-in-Event g c =
           ));
     }
 
--- A line was passed that cuts a write.
+-- The line names a cut, and was passed over.
 pub loop-lines-preserved : goal.loop-lines-preserved
 loop-lines-preserved g c =
     let before = c.loop-lines.invariant in
@@ -106,7 +106,7 @@ loop-lines-preserved g c =
       told = before.told;
     }
 
--- All was told, and the flash file failed ..
+-- All replies were written, and the flash file failed.
 pub returns-then-has_failed-clause-some : goal.returns-then-has_failed-clause-some
 returns-then-has_failed-clause-some g c =
     let before = c.loop-lines.invariant in
@@ -117,7 +117,7 @@ returns-then-has_failed-clause-some g c =
     (eqb-true _ _ (sym c.loop-lines-test.ensures)) before.are)
     before.told
 
--- .. or not.
+-- All replies were written, and the flash file didn't fail.
 pub returns-clause-all : goal.returns-clause-all
 returns-clause-all g c =
     let before = c.loop-lines.invariant in

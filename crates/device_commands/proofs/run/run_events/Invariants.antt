@@ -4,8 +4,8 @@ use Rattle.device_commands.specs.Telling.{TellsAll}
 use Rattle.inputs.proofs.ScriptLaws.{AreTaken}
 use Rattle.device_commands.proofs.run.run_events.Given as goal
 
--- the device is what it was made as, with power; what the lines so far bring came, and the replies
--- to it were told; and no more events came than there are bytes before what is left
+-- The device has the setup that it was made with, and power. The events of the lines so far were
+-- run, and the replies to them were written. There were at most as many events as bytes were read.
 abbrev pub invariant-loop-lines : goal.invariant-loop-lines
 invariant-loop-lines g l = record {
   setup : l.device.setup ≡ l.fn.device.setup;

@@ -8,12 +8,12 @@ use Rattle.host.specs.declared.error.Refusal.TheVariants.{CannotWrite, NoMemory}
 use Rattle.device_commands.proofs.TellingLaws.{not_of_file}
 use Rattle.device_commands.proofs.run.write_reply.Goals as goal
 
--- what a call promises where it fails
+-- What a call promises if it fails.
 of_err : {T E P : Type 0} (result : Result T E) → true ≡ is_err result → OnErr result P → P
 of_err (Ok value) is holds = absurd cc
 of_err (Err error) is holds = holds
 
--- .. and where it doesn't
+-- What a call promises if it succeeds.
 of_ok : {T E P : Type 0} (result : Result T E) → false ≡ is_err result → OnOk result P → P
 of_ok (Ok value) is holds = holds
 of_ok (Err error) is holds = absurd cc
@@ -22,7 +22,7 @@ of_ok (Err error) is holds = absurd cc
 pub returns-in_default-clause-begun : goal.returns-in_default-clause-begun
 returns-in_default-clause-begun g c = record { count = 0; begun = Appends-nil _; output = not_of_file NoMemory refl }
 
--- The writer took a beginning of it.
+-- The writer took a prefix of the text.
 pub returns-then-is_err-clause-begun : goal.returns-then-is_err-clause-begun
 returns-then-is_err-clause-begun g c =
     let failed = of_err c.write_all.result c.if-is_err.ensures.value c.write_all.ensures.err in
@@ -34,7 +34,7 @@ returns-then-is_err-clause-begun g c =
       output = not_of_file CannotWrite refl;
     }
 
--- The writer took all of it, and could not be flushed.
+-- The writer took the complete text, and could not be flushed.
 pub returns-clause-begun : goal.returns-clause-begun
 returns-clause-begun g c =
     let written = of_ok c.write_all.result c.if-is_err.ensures.value c.write_all.ensures.ok in
