@@ -1,4 +1,4 @@
--- The answer to an order, by what its command did. A flush after it changes nothing.
+-- The exit status and the answer of an order. A flush after the answer changes nothing.
 use Rattle.std.proofs.Common.{◌≡◌, ℕ, List, Ok, Option, Result}
 use Rattle.std.specs.Prelude.{IfOk}
 use Rattle.std.specs.Io.KnownBytes.{Keeps}
@@ -47,8 +47,8 @@ AnswersOrder-kept (order.Device asked) input file then old mid new answered kept
 AnswersOrder-kept (order.Read asked) input file then old mid new answered kept =
     AnswersReading-kept asked input file old mid new answered kept
 
--- A command that answered ends with status 0 only after `Done`, with the output that was written
--- before the flush ..
+-- A command with an answer ends with status 0 only after `Done`. The output keeps what was written
+-- before the flush.
 pub done_after : (asked : Order) (outcome : Result Answer Refusal) (status : ℕ) (input : Option (List ℕ))
     (file then : FileBytes) (old mid new : Option (List ℕ))
     → IfOk outcome (λ answer. AnswersOrder answer asked input file then old mid)
@@ -58,7 +58,7 @@ done_after asked outcome status input file then old mid new answers is_done kept
     let done = is_done zero in
     let answered = rw done at answers in AnswersOrder-kept asked input file then old mid new answered kept
 
--- .. and with status 3 only after `Cut`.
+-- A command with an answer ends with status 3 only after `Cut`.
 pub cut_after : (asked : Order) (outcome : Result Answer Refusal) (status : ℕ) (input : Option (List ℕ))
     (file then : FileBytes) (old mid new : Option (List ℕ))
     → IfOk outcome (λ answer. AnswersOrder answer asked input file then old mid)

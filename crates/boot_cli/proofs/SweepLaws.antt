@@ -1,4 +1,4 @@
--- What a sweep came to, by what was read in turn, and the files that it keeps.
+-- The result of a sweep from what it read in turn, and the files that it keeps.
 use Rattle.std.proofs.Common.{◌≡◌, ◌⊎◌, ◌≤◌, ℕ, Bool, List, [], ◌∷◌, None, Option, Some, arith, inl, inr, length, subst, sym}
 use Rattle.common.specs.Lines.{lines_of}
 use Rattle.script.specs.LineText.{IsLineText}
@@ -31,7 +31,7 @@ AnswersSweep-swept Done device script input file old new low sweeps = sweeps
 AnswersSweep-swept Refused device script input file old new low sweeps = inl sweeps
 AnswersSweep-swept Cut device script input file old new low sweeps = absurd (omega (arith, low))
 
--- a device file was read, and then a script with the files that it names
+-- The sweep read a device file, and then a script with the files that it names.
 pub AnswersSweep-read : (answer : Answer) (device script : Source) (input second_input third_input : Option (List ℕ))
     (file second_file third_file : FileBytes) (old new : Option (List ℕ)) (text : List ℕ)
     (came : List (Event (List ℕ))) (of_device : DeviceFile)
@@ -56,7 +56,7 @@ AnswersSweep-read answer device script input second_input third_input file secon
           (StaysKnown-read script second second_input third_input second_file third_file stays script_kept);
     })
 
--- The files that a sweep reads stay where all files were kept ..
+-- If all files were kept, the inputs of a sweep were.
 pub inputs_kept : (device script : Source) (images : List (Bor (List ℕ))) (IsNamed : List ℕ → Type 0)
     (picture : Option (Bor (List ℕ))) (old new : FileBytes) → KeepsFiles old new
     → KeepsRead device script images IsNamed picture old new
@@ -68,7 +68,7 @@ inputs_kept device script images IsNamed picture old new kept = record {
   all_kept = λ none. kept;
 }
 
--- .. or then that of the picture was replaced, which is none of them ..
+-- If then the picture was replaced, which is apart from the inputs, they were still kept.
 pub inputs_besides : (device script : Source) (images : List (Bor (List ℕ))) (text : List ℕ)
     (picture : Option (Bor (List ℕ))) (apart : List ℕ → List ℕ → Bool) (old mid new : FileBytes) → KeepsFiles old mid
     → IfSome picture (λ name. IsNoInput apart name.now device script images text)
@@ -96,14 +96,14 @@ held_read : (held : Option (List ℕ)) (text name : List ℕ) → IsKnownAs held
 held_read None text name same named = absurd named
 held_read (Some known) text name same named = subst (λ one. IsNamedBy one name) (sym same) named
 
--- a file that the script is known to name is one that the text names that was read
+-- A file that the script is known to name is one that the text names that was read.
 named_read : (script : Source) (text name : List ℕ) (input : Option (List ℕ)) (old mid : FileBytes)
     → KeepsFiles old mid → Gives script input mid text → IsNamedIn script old name → IsNamedBy text name
 named_read StandardInput text name input old mid kept given named = absurd named
 named_read (File script) text name input old mid kept given named =
     held_read (old script.now) text name (IsKnownAs-kept (old script.now) (mid script.now) text (kept script.now) given) named
 
--- .. also where all files were kept before that, among them the script, which has this text.
+-- The inputs were also kept if all files were kept before, and the script was read in that time.
 pub inputs_later : (device script : Source) (images : List (Bor (List ℕ))) (text : List ℕ)
     (picture : Option (Bor (List ℕ))) (input : Option (List ℕ)) (old read mid new : FileBytes)
     → KeepsFiles old read → Gives script input read text → KeepsFiles old mid
@@ -119,14 +119,14 @@ inputs_later device script images text picture input old read mid new before giv
   all_kept = λ none. KeepsFiles-twice old mid new kept (later.all_kept none);
 }
 
--- What a line says names no file that isn't apart, since it says one thing alone.
+-- A line says only one thing. So if each file of that is apart, each file that the line names is.
 line_apart : (apart : List ℕ → List ℕ → Bool) (picture line name : List ℕ) (says : Said) → IsLineText line says
     → ((other : List ℕ) → SaysFile other says → IsOther apart picture other) → LineNames name line
     → IsOther apart picture name
 line_apart apart picture line name says is others names =
     others name (subst (SaysFile name) (one_line line names.0 says names.1 is) names.2)
 
--- The files that a text names are apart, or named by what is left of it ..
+-- Each file that a text names is apart, or the rest of the text names it.
 abbrev pub AreApartBefore : (List ℕ → List ℕ → Bool) → List ℕ → List ℕ → List ℕ → Type 0
 AreApartBefore apart picture text rest = (name : List ℕ) → IsNamedBy text name
     → IsOther apart picture name ⊎ IsNamedBy rest name
@@ -147,7 +147,7 @@ apart_on apart picture old new line next others name (inr named) =
     apart_or apart picture name next.text (lines_of new.rest.now) (said line) next.says others
     (subst (SomeNames name) next.parts named)
 
--- .. also behind the next line, where the file that it names is apart ..
+-- This also holds after the next line, if the file that it names is apart.
 pub apart_more : (apart : List ℕ → List ℕ → Bool) (picture text : List ℕ) (old new : Lines) (line : Line)
     → IsNextLine old new line
     → ((other : List ℕ) → SaysFile other (said line) → IsOther apart picture other)
@@ -160,7 +160,7 @@ apart_now : (apart : List ℕ → List ℕ → Bool) (picture name : List ℕ)
 apart_now apart picture name (inl is) = is
 apart_now apart picture name (inr named) = absurd named
 
--- .. and all of them are apart where nothing is left.
+-- After the last line, each file that the text names is apart.
 pub apart_all : (apart : List ℕ → List ℕ → Bool) (picture text rest : List ℕ) → length rest ≡ 0
     → AreApartBefore apart picture text rest
     → (name : List ℕ) → IsNamedBy text name → IsOther apart picture name

@@ -1,4 +1,4 @@
--- What the exit status says of the words.
+-- What the exit status says about the arguments.
 use Rattle.std.proofs.Common.{◌≡◌, ◌≢◌, ℕ, List, Option, ap, false, inl, inr, refl, true}
 use Rattle.clap.specs.Words.{Text}
 use Rattle.clap.specs.declared.error.kind.ErrorKind.{ErrorKind}
@@ -14,7 +14,7 @@ use Rattle.device_commands.proofs.WordsLaws.{EndsWith-error, EndsWith-order, mis
 use Rattle.boot_cli.specs.OrderEnd.{AnswersOrder}
 use Rattle.boot_cli.specs.WordsEnd.{AskFor, EndsByCut, EndsProgram}
 
--- a fault that the program itself finds is no request for help
+-- A fault that the program itself finds isn't a request for help.
 no_order_helps_none : (kind other : ErrorKind) → is_help other ≡ false → kind ≡ other → is_help kind ≡ true → ⊥
 no_order_helps_none kind other no_help same helps = absurd (cc (ap is_help same, no_help, helps))
 
@@ -25,14 +25,14 @@ helped words kind helps (no_order taken none (inr same)) = absurd (no_order_help
 helped words kind helps (misuse order taken asks is_misuse) =
     absurd (misuse_helps_none (writes_to_standard_input order) _ kind is_misuse helps)
 
--- What is answered to words that give no order says how they end ..
+-- Arguments that give no order end by the answer to them.
 pub EndsProgram-error : (words : List Text) (error : OrderError) (status : ℕ) (input : Option (List ℕ)) (file : FileBytes)
     (old new : Option (List ℕ)) → IsRefusal words error → EndsWords error status
     → EndsProgram words status input file file old new
 EndsProgram-error words error status input file old new refusal ends =
     EndsWith-error words _ (IsFault words) _ _ error status file (helped words) refusal ends
 
--- .. and where they ask for an order, it is answered.
+-- Arguments that ask for an order end by its answer.
 pub EndsProgram-order : (words : List Text) (asked : Order) (status : ℕ) (input : Option (List ℕ))
     (file after : FileBytes) (old new : Option (List ℕ)) → AskFor words asked
     → (status ≡ 0 → AnswersOrder Done asked input file after old new) → status ≢ 2

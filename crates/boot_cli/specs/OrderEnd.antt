@@ -14,8 +14,7 @@ use Rattle.inspecting.specs.ReadingEnd.{AnswersReading}
 use Rattle.device_commands.specs.CoreEnd.{AnswersCore}
 use Rattle.boot_cli.specs.SweepEnd.{AnswersSweep, KeepsInputs}
 
--- This is the answer to an order, by the command that it asks for, and `then` are the contents of
--- the files afterwards.
+-- The answer to an order of this command. The files hold `then` after it.
 abbrev pub AnswersOrder : Answer → Order → Option (List ℕ) → FileBytes → FileBytes
     → Option (List ℕ) → Option (List ℕ) → Type 0
 AnswersOrder answer (order.MakeDevice device) input file then old new =
@@ -40,7 +39,7 @@ AnswersOrder answer (order.Device asked) input file then old new =
 AnswersOrder answer (order.Read asked) input file then old new =
     AnswersReading answer asked input file old new
 
--- `sweep` keeps what it reads, whatever its answer. This says nothing of other orders.
+-- `sweep` keeps what it reads, whatever its answer. Other orders promise nothing here.
 abbrev pub KeepsSwept : Order → FileBytes → FileBytes → Type 0
 KeepsSwept (order.Sweep device script images choices) file then =
     (one other : Source) × AreNamed device.now script.now one other

@@ -1,4 +1,4 @@
--- What a sweep comes to, and what it leaves of files.
+-- The result of `sweep`: what it read, and which files it keeps.
 use Rattle.std.specs.Prelude.{◌≡◌, ◌≢◌, ◌⊎◌, ℕ, Bool, IsSomeAnd, IsTrue, List, [], ◌∷◌, None, Option, Some, codes}
 use Rattle.std.specs.Io.KnownBytes.{Keeps}
 use Rattle.std.specs.Borrow.{Bor}
@@ -21,8 +21,8 @@ use Rattle.device_texts.specs.DeviceFile.{IsDeviceFile}
 use Rattle.device_commands.specs.ProvisionEnd.{AreOthers, KeepsWords}
 use Rattle.inputs.specs.Script.{IsScript, known_after_each}
 
--- `sweep` read the bytes of a device file, and of a script that cuts no write, with the files that
--- it names. What is printed of the runs is no part of this ..
+-- `sweep` read a device file, and a script that cuts no write, with the files that it names. This
+-- says nothing of what is printed about the runs.
 pub record SweepsDevice (device script : Source) (input : Option (List ℕ)) (files : FileBytes)
     : Type 0 where
   pub device_bytes : List ℕ
@@ -34,7 +34,8 @@ pub record SweepsDevice (device script : Source) (input : Option (List ℕ)) (fi
   pub says : IsScript text
       (known_after_each (device ∷ script ∷ []) (record { input = input; files = files })) [] came
 
--- .. or wrote why the sizes of the device file make no map, and then nothing else counts.
+-- The answer of `sweep`: it ran the script, or wrote why the sizes of the device file make no map.
+-- In the second case the script doesn't matter.
 abbrev pub AnswersSweep : Answer → Source → Source → Option (List ℕ) → FileBytes
     → Option (List ℕ) → Option (List ℕ) → Type 0
 AnswersSweep Done device script input files old new = SweepsDevice device script input files
@@ -42,36 +43,36 @@ AnswersSweep Refused device script input files old new =
     SweepsDevice device script input files ⊎ RefusesMap device input files old new
 AnswersSweep Cut device script input files old new = ⊥
 
--- What a line of a script says names this file, of which all comes or a part. `-` names none.
+-- What a line of a script says names this file, to use it or a part of it. The name `-` is no file.
 abbrev pub SaysFile : List ℕ → Said → Type 0
 SaysFile name (said.Event (event.Accept file)) = (file.name ≡ name) × (name ≢ codes "-")
 SaysFile name (said.Event (event.Piece image file)) = (file.name ≡ name) × (name ≢ codes "-")
 SaysFile name other = ⊥
 
--- A line says that.
+-- A line names this file.
 abbrev pub LineNames : List ℕ → List ℕ → Type 0
 LineNames name line = (says : Said) × IsLineText line says × SaysFile name says
 
--- One of these lines says that ..
+-- One of these lines names this file.
 abbrev pub SomeNames : List ℕ → List (List ℕ) → Type 0
 SomeNames name [] = ⊥
 SomeNames name (line ∷ lines) = LineNames name line ⊎ SomeNames name lines
 
--- .. or a line of this text.
+-- A line of this text names this file.
 abbrev pub IsNamedBy : List ℕ → List ℕ → Type 0
 IsNamedBy text name = SomeNames name (lines_of text)
 
--- A line of a script says that, where the script is a file that is known to hold its text.
+-- A line of a script names this file. The script is a file that is known to hold its text.
 abbrev pub IsNamedIn : Source → FileBytes → List ℕ → Type 0
 IsNamedIn StandardInput files name = ⊥
 IsNamedIn (File script) files name = IsSomeAnd (files script.now) (λ text. IsNamedBy text name)
 
--- Of two names it was said that they are of different files.
+-- The host said that these are names of different files.
 abbrev pub IsOther : (List ℕ → List ℕ → Bool) → List ℕ → List ℕ → Type 0
 IsOther apart name other = IsTrue (apart name other)
 
--- The file of this name isn't the device file, the script, an image of a sweep, nor one that a line
--- of the script's text names, by whatever name these are read.
+-- The file of this name is apart from every input: from the device file, the script, each image,
+-- and each file that the script's text names.
 pub record IsNoInput (apart : List ℕ → List ℕ → Bool) (name : List ℕ) (device script : Source)
     (images : List (Bor (List ℕ))) (text : List ℕ) : Type 0 where
   pub not_device : IsApartFrom apart name device
@@ -79,15 +80,14 @@ pub record IsNoInput (apart : List ℕ → List ℕ → Bool) (name : List ℕ) 
   pub no_image : AreOthers (apart name) images
   pub not_named : (other : List ℕ) → IsNamedBy text other → IsOther apart name other
 
--- Each file keeps what it is known to hold, but for that of the picture, where one is asked for.
+-- Each file keeps what it is known to hold, except the file of the picture, if there is one.
 abbrev pub KeepsBesides : Option (Bor (List ℕ)) → (List ℕ → List ℕ → Bool)
     → FileBytes → FileBytes → Type 0
 KeepsBesides None apart old new = KeepsFiles old new
 KeepsBesides (Some picture) apart old new = KeepsApart (apart picture.now) old new
 
--- What a sweep leaves of files, whatever comes of it: the device file, the script, each image and
--- each file that is named so keep what they are known to hold, and where no picture is asked for
--- each file does.
+-- The device file, the script, each image and each named file keep what they are known to hold.
+-- Without a picture, every file does.
 pub record KeepsRead (device script : Source) (images : List (Bor (List ℕ)))
     (IsNamed : List ℕ → Type 0) (picture : Option (Bor (List ℕ))) (old new : FileBytes)
     : Type 0 where
@@ -97,7 +97,7 @@ pub record KeepsRead (device script : Source) (images : List (Bor (List ℕ)))
   pub named_kept : (name : List ℕ) → IsNamed name → Keeps (old name) (new name)
   pub all_kept : picture ≡ None → KeepsFiles old new
 
--- The same, of the files that the script names.
+-- A sweep keeps its inputs, among them the files that the script names.
 abbrev pub KeepsInputs : Source → Source → List (Bor (List ℕ)) → Option (Bor (List ℕ))
     → FileBytes → FileBytes → Type 0
 KeepsInputs device script images picture old new =

@@ -1,4 +1,4 @@
--- How the program ends after its words.
+-- How the program ends for its arguments.
 use Rattle.std.specs.Prelude.{◌≡◌, ℕ, ◌<◌, ◌≤◌, List, Option, codes, length}
 use Rattle.clap.specs.Words.{Text}
 use Rattle.command_line.specs.OrderFaults.{IsFault}
@@ -11,25 +11,24 @@ use Rattle.host.specs.Input.{FileBytes}
 use Rattle.device_commands.specs.WordsEnd.{EndsWith, IsCutAnswer}
 use Rattle.boot_cli.specs.OrderEnd.{AnswersOrder}
 
--- The order is the choice over standard input.
+-- The order is `choose` on standard input.
 abbrev pub IsInputChoice : Order → Type 0
 IsInputChoice (order.Read (read.Choose table)) = table.now ≡ codes "-"
 IsInputChoice _ = ⊥
 
--- The words ask for this order: they give it, or there is none after the program's own name, and it
--- is the choice over standard input.
+-- The arguments ask for this order: they give it, or there are none after the program's own name
+-- and the order is `choose` on standard input.
 pub data AskFor (words : List Text) (order : Order) : Type 0 where
   by_words : 1 < length words → GiveOrder words order → AskFor words order
   by_none : length words ≤ 1 → IsInputChoice order → AskFor words order
 
--- The answer to an order is that of a run whose last reply says that the power failed, and the
--- output keeps what was written of it.
+-- The order was a run whose last reply is that the power failed, and the output keeps its answer.
 abbrev pub EndsByCut : Order → Option (List ℕ) → FileBytes → FileBytes
     → Option (List ℕ) → Option (List ℕ) → Type 0
 EndsByCut asked input file then old new =
     IsCutAnswer (λ answer written. AnswersOrder answer asked input file then old written) new
 
--- What the exit status says of the words.
+-- What the exit status says about the arguments.
 abbrev pub EndsProgram : List Text → ℕ → Option (List ℕ) → FileBytes → FileBytes
     → Option (List ℕ) → Option (List ℕ) → Type 0
 EndsProgram words status input file then old new =

@@ -1,4 +1,4 @@
-//! Which command an order asks for.
+//! Runs the command that an order names.
 ghost use Rattle.std.specs.Prelude.{IfOk};
 ghost use Rattle.boot_cli.specs.OrderEnd.{AnswersOrder, KeepsSwept};
 
@@ -15,11 +15,11 @@ use inspecting::run_inspection;
 use std::alloc::Global;
 use std::io::Write;
 
-/// Runs the command of an order. Its answer goes to `out`; what it reports meanwhile, such as the
-/// progress of a sweep, goes to `err`.
+/// Runs the command of an order on the files of `host`. Its answer goes to `out`. The progress of a
+/// sweep goes to `err`.
 ///
 /// # Errors
-/// Those of the command.
+/// The errors of the command.
 pub fn run_command<H: Host, O: Write, E: Write>(
     alloc: Global,
     order: &Order<'_>,

@@ -1,4 +1,4 @@
-//! An order whose answer is explained.
+//! Runs an order whose answer `--explain` explains.
 ghost use Rattle.std.specs.Prelude.{◌≡◌, ◌≢◌, IfOk};
 ghost use Rattle.boot_cli.specs.OrderEnd.{AnswersOrder};
 ghost use Rattle.boot_cli.specs.WordsEnd.{EndsByCut};
@@ -13,7 +13,7 @@ use host::{Answer, Host, Refusal, finish};
 use std::alloc::Global;
 use std::io::Write;
 
-/// An order, and where its answer and the notes on it go.
+/// An order to explain, and the writers of its answer and its notes.
 #[derive(Drop)]
 struct Asked<'w, 'o, 'e, O, E> {
     alloc: Global,
@@ -22,10 +22,10 @@ struct Asked<'w, 'o, 'e, O, E> {
     err: &'e mut E,
 }
 
-/// An order that was explained.
+/// The result of an order that was explained.
 #[derive(Drop)]
 pub struct Explained<'o, O> {
-    /// Where its answer went.
+    /// The writer of the answer.
     pub out: &'o mut O,
     /// The exit status.
     pub status: u8,
@@ -34,8 +34,9 @@ pub struct Explained<'o, O> {
 /// Runs the command of an order as `run_order` does, and writes to `err` why its answer is as it
 /// is.
 ///
-/// A host that remembers what is read owns the host below it. So `host` is moved into one, and back
-/// when the command has ended. Nothing sees it meanwhile, since nothing unwinds.
+/// A host that remembers what is read owns the host below it. So `host` is moved into one, and
+/// moved back after the command has ended. No other code can see the moved host, since nothing
+/// unwinds.
 pub fn run_explained<'o, H: Host, O: Write, E: Write>(
     alloc: Global,
     order: Order<'_>,
@@ -61,8 +62,8 @@ pub fn run_explained<'o, H: Host, O: Write, E: Write>(
     replace_with(host, asked, run_remembering)
 }
 
-/// Runs the command of an order over a host that remembers what is read from `host`, writes the
-/// notes, and gives `host` back.
+/// Runs the command of an order over a host that remembers what is read from `host`. Writes the
+/// notes, and returns `host`.
 fn run_remembering<'o, H: Host, O: Write, E: Write>(
     host: H,
     asked: Asked<'_, 'o, '_, O, E>,

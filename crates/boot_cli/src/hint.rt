@@ -1,15 +1,15 @@
-//! The line that says that `--explain` says more.
+//! Points to `--explain` after an error line.
 
 use host::{Answer, FlashFault, Host, Refusal, SourceFault, SourceRefusal};
 use std::alloc::Global;
 use std::io::Write;
 
-/// The line.
+/// The line that points to `--explain`.
 const HINT: &str = "note: --explain says more\n";
 
 /// Writes to `err` that `--explain` says more, after the error line of a command that ended with
-/// `outcome`. It is written only if `--explain` has notes on the refusal, and if somebody reads
-/// standard error at a terminal.
+/// `outcome`. The line is written only if `--explain` has notes on the refusal, and standard error
+/// is a terminal.
 pub fn hint_at_notes<H: Host, E: Write>(
     alloc: Global,
     outcome: &Result<Answer, Refusal>,
@@ -51,8 +51,8 @@ fn has_notes<H: Host>(alloc: Global, refusal: &Refusal, host: &H) -> bool {
     }
 }
 
-/// Whether a file can't be replaced because another program uses it. For this the system reports no
-/// error that a note could show.
+/// Whether a file can't be replaced because another program uses it. The system reports no error
+/// for this, so `--explain` has no note.
 fn is_in_use<H: Host>(alloc: Global, refused: &SourceRefusal, host: &H) -> bool {
     matches!(
         host.check_replaceable(alloc, &refused.name),

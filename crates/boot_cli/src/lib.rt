@@ -1,16 +1,16 @@
-//! All commands: those of the core, and those that read, make files, sweep and explain.
+//! Runs the order that the arguments give, and returns the exit status.
 //!
-//! - Promises: The exit status says what became of the arguments: 0 that their order is done for
-//!   the contents of the named files, or of `sweep` that it ran. Arguments that give no order end
-//!   with 2, and change no file.
+//! - Promises: The exit status is 0 only if help was asked for, or the order is done for the
+//!   contents of the named files. For `sweep` this says only what it read, and which files it kept.
+//!   Arguments that give no order change no file, and end with 2, or with 1 if memory ran out or a
+//!   write failed.
 //! - Main calls: `cli`, `order`, `run_order`
 //! - Allocates: a flash in memory, events.
 //! - Callers: `bootswap`, and tests.
 //!
-//! The commands that only read are in `inspecting`, those that make files in `creating`, and
-//! `provision` and `run` in `device_commands`; here is `sweep`, and which of all these an order
-//! asks for. The program passes it the arguments, the system's files, its standard input and
-//! outputs, and a test passes others.
+//! `sweep` and the choice of the command are here. The read-only commands are in `inspecting`,
+//! those that make files in `creating`, and `provision` and `run` in `device_commands`. The program
+//! passes the arguments, the system's files and the standard streams; a test passes others.
 #![tactic(auto)]
 
 mod commands;

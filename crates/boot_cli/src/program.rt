@@ -1,4 +1,4 @@
-//! The program: runs the order that the arguments give, and returns the exit status.
+//! Runs the order that the arguments give, and returns the exit status.
 ghost use Rattle.std.specs.Prelude.{◌≡◌, ◌≢◌, map};
 ghost use Rattle.boot_cli.specs.OrderEnd.{AnswersOrder, KeepsSwept};
 ghost use Rattle.boot_cli.specs.WordsEnd.{EndsByCut, EndsProgram};
@@ -15,13 +15,13 @@ use std::alloc::Global;
 use std::convert::AsStr;
 use std::io::Write;
 
-/// Does what the arguments `words` ask for, and returns the exit status: 0 done, 1 refused, 2
-/// usage, 3 the power failed last, 4 the flash file failed.
+/// Runs the order that the arguments `words` give, and returns the exit status: 0 done, 1 refused,
+/// 2 wrong usage, 3 the power failed last, 4 the flash file failed.
 ///
-/// The first argument is the program's own name. Without another one, the choice is made over
-/// standard input. Everything is in memory of `alloc`. Input comes from `host`, which holds the
-/// flash file. Answers go to `out`, error lines and notes to `err`, and both are flushed. After a
-/// failed write nothing more is written, and the status is 1.
+/// The first argument is the program's own name. Without further arguments `choose` runs on
+/// standard input. All memory is of `alloc`. Input comes from `host`, which also holds the flash
+/// file. Answers go to `out`, error lines and notes to `err`, and both are flushed. After a failed
+/// write nothing more is written, and the status is 1.
 pub fn cli<S: AsStr, H: Host, O: Write, E: Write>(
     alloc: Global,
     words: &[S],
@@ -41,9 +41,9 @@ pub fn cli<S: AsStr, H: Host, O: Write, E: Write>(
     }
 }
 
-/// Runs the command of an order to its exit status. The status is 0 only if the complete answer is
-/// written and is a yes. If `may_hint` is set, a terminal is told after an error line that
-/// `--explain` says more.
+/// Runs the command of an order, and returns its exit status. The status is 0 only if the complete
+/// answer is written and is a yes. If `may_hint` is set, a line that points to `--explain` may
+/// follow an error line at a terminal.
 pub fn run_order<H: Host, O: Write, E: Write>(
     alloc: Global,
     order: Order<'_>,

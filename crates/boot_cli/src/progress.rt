@@ -1,10 +1,10 @@
-//! The progress of a sweep, on standard error while it runs.
+//! Prints the progress of a sweep on standard error while it runs.
 
 use host::Host;
 use std::io::Write;
 use sweep::{Step, Watch};
 
-/// Writes the progress of a sweep to standard error, if somebody watches.
+/// Writes the progress of a sweep to standard error, if that is a terminal.
 #[derive(Drop)]
 pub struct Progress<'a, H, E> {
     /// The clock.
@@ -28,7 +28,7 @@ impl<'a, H: Host, E: Write> Progress<'a, H, E> {
         }
     }
 
-    /// Removes the line. Nothing depends on it, so a failed write changes nothing.
+    /// Removes the progress line. A failed write changes nothing.
     pub fn clear(&mut self) {
         if self.told.is_some() {
             let _ = self.err.write_all(b"\r\x1b[K");
@@ -36,7 +36,7 @@ impl<'a, H: Host, E: Write> Progress<'a, H, E> {
         }
     }
 
-    /// Writes the step of the sweep over the last line. Nothing depends on it either.
+    /// Writes the step of the sweep over the last line. A failed write changes nothing.
     fn tell(&mut self, step: Step, now: u64) {
         let _ = match step {
             Step::Counting { event, events } => {
@@ -78,7 +78,7 @@ impl<H: Host, E: Write> Watch for Progress<'_, H, E> {
     }
 }
 
-/// The seconds that the rest takes, if `done` of `all` runs took `went` seconds.
+/// The estimated seconds of the other runs, if `done` of `all` runs took `went` seconds.
 fn seconds_left(done: u32, all: u32, went: u64) -> u64 {
     let left = u64::from(all.saturating_sub(done));
     went.saturating_mul(left) / u64::from(done.max(1))

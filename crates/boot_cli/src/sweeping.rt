@@ -1,4 +1,5 @@
-//! `bootswap sweep`: runs a script again and again, each time with another write of the flash cut.
+//! `bootswap sweep`: runs a script once for each write of the flash, with a power cut at that
+//! write.
 ghost use Rattle.std.specs.Prelude.{◌≡◌, ◌≤◌, IfErr, IfOk, IfSome, List, ℕ, OnOk};
 ghost use Rattle.device_texts.specs.DeviceFile.{IsOfFile};
 ghost use Rattle.device_texts.specs.FlashOf.{IsFlashOf};
@@ -24,21 +25,21 @@ use std::marker::Brand;
 use std::sync::ledger::{Blank, Ledger};
 use sweep::{Found, Plan, Scenario, found_text, picture_of, sweep};
 
-/// The arguments of a sweep: the files that it reads, and what it tries and makes.
+/// The arguments of a sweep: the files that it reads, what it tries, and what it makes.
 #[derive(Clone, Copy)]
 pub struct Named<'a, 'w> {
     /// The device file.
     pub device: Source<'a>,
     /// The script.
     pub script: Source<'a>,
-    /// The names of the images that run first, as the arguments have them.
+    /// The images that run first, as the arguments name them.
     pub images: &'w [&'a str],
-    /// What is tried and made.
+    /// The writes to try, and the picture to make.
     pub choices: SweepChoices<'a>,
 }
 
 impl<'a, 'w> Named<'a, 'w> {
-    /// What these arguments name.
+    /// The sweep of these arguments.
     pub fn of(
         device: &'a str,
         script: &'a str,
@@ -61,20 +62,22 @@ impl<'a, 'w> Named<'a, 'w> {
 /// A script that was read.
 #[derive(Clone, Copy)]
 struct Script<'t, 'e> {
-    /// Its text.
+    /// The text of the script.
     text: &'t [u8],
-    /// What comes to the device by it.
+    /// The events of its lines.
     events: &'e [Event<Vec<u8>>],
 }
 
-/// Reads a device file, a script and images from `host`, makes a flash in memory a device's, runs
-/// the script on it with the writes cut that `named` asks for, and writes to `out` what came of it.
-/// Everything is in memory of `alloc`. If somebody watches, the progress is written to `err`.
+/// Runs a script on a device with power cuts, and writes to `out` how the runs ended.
 ///
-/// All files are checked before anything is run. The picture is made or replaced after all runs, if
-/// one is asked for; whether it can be is checked before them. No other file changes. The device
-/// file, the script, the files that its lines name and the images keep their bytes on every path:
-/// none of them may be the picture.
+/// The device file, the script and the images are read from `host`. The flash is made and
+/// provisioned in memory of `alloc`. `named` says which writes are cut. At a terminal, the progress
+/// is written to `err`.
+///
+/// All files are checked before the first run, and also that the picture can be made, if `named`
+/// has one. The picture is made or replaced after all runs. No other file changes. The device file,
+/// the script, the files that its lines name and the images keep their bytes on every path: none of
+/// them may be the picture.
 pub fn run_sweep<H: Host, O: Write, E: Write>(
     alloc: Global,
     named: Named<'_, '_>,
@@ -111,8 +114,8 @@ fn reads_standard_input(named: &Named<'_, '_>) -> bool {
             .any(|image| Source::named(image).is_standard_input())
 }
 
-/// Refuses a picture whose file is one of those that are read, with this text as the script, and
-/// one that can't be made.
+/// Refuses a picture that can't be made, or whose file is an input. `text` is the text of the
+/// script.
 fn refuse_inputs<H: Host>(
     alloc: Global,
     host: &H,
@@ -135,7 +138,7 @@ fn refuse_inputs<H: Host>(
     check_picture(alloc, host, picture)
 }
 
-/// Refuses a picture whose file is one that a line of a script's text names.
+/// Refuses a picture whose file a line of this script text names.
 fn refuse_named<H: Host>(alloc: Global, host: &H, picture: &str, text: &[u8]) -> Result<(), Refusal>
     ensures { OnOk result ((name : List ℕ) → IsNamedBy text.now name
         → IsOther (H.apart host.now) picture.now name) }
@@ -148,7 +151,7 @@ fn refuse_named<H: Host>(alloc: Global, host: &H, picture: &str, text: &[u8]) ->
     Ok(())
 }
 
-/// Refuses a picture whose file is the one that this line names, if it names one.
+/// Refuses a picture whose file this line names.
 fn refuse_line<H: Host>(
     alloc: Global,
     host: &H,
@@ -166,7 +169,7 @@ fn refuse_line<H: Host>(
     }
 }
 
-/// Refuses a picture whose file is what is read here, by whatever name.
+/// Refuses a picture whose file is this input, by any name.
 fn refuse_input<H: Host>(
     alloc: Global,
     host: &H,
@@ -182,7 +185,7 @@ fn refuse_input<H: Host>(
     }
 }
 
-/// Reads the images, makes a flash with them a device's, and sweeps a script on it.
+/// Reads the images, provisions a flash with them, and sweeps a script on it.
 fn sweep_images<H: Host, O: Write, E: Write>(
     alloc: Global,
     device: &DeviceFile,
@@ -219,7 +222,7 @@ fn sweep_images<H: Host, O: Write, E: Write>(
     }
 }
 
-/// Provisions the flash of these bytes in memory, and returns its new bytes, or why it is refused.
+/// Provisions a flash of these bytes in memory. Returns its new bytes, or why it is refused.
 fn provision_in_memory<L: Ledger>(
     alloc: Global,
     blank: Blank,
@@ -239,7 +242,7 @@ fn provision_in_memory<L: Ledger>(
     Ok(Ok(Vec::from_slice(alloc, flash.bytes())?))
 }
 
-/// Sweeps a scenario, makes the picture if one is asked for, and writes the findings to `out`.
+/// Sweeps a scenario, makes the picture if `choices` has one, and writes the findings to `out`.
 fn tell_sweep<H: Host, O: Write, E: Write>(
     alloc: Global,
     scenario: &Scenario<'_>,
@@ -268,7 +271,7 @@ fn tell_sweep<H: Host, O: Write, E: Write>(
     }
 }
 
-/// What is tried, by the arguments.
+/// The plan of a sweep with these choices.
 fn plan_of(choices: &SweepChoices<'_>) -> Plan {
     Plan {
         is_twice: choices.is_twice,
@@ -277,7 +280,7 @@ fn plan_of(choices: &SweepChoices<'_>) -> Plan {
     }
 }
 
-/// What a sweep comes to.
+/// The answer of a sweep whose runs all ended well, or not.
 fn answer_of(is_good: bool) -> Answer
     ensures { status_of_answer result ≤ 1 }
 {
@@ -288,7 +291,7 @@ fn answer_of(is_good: bool) -> Answer
     }
 }
 
-/// Makes the picture of a sweep, if one is asked for.
+/// Makes the picture of a sweep, if it has a name.
 fn make_picture<H: Host>(
     alloc: Global,
     scenario: &Scenario<'_>,
@@ -320,7 +323,7 @@ fn replace<H: Host>(alloc: Global, name: &str, bytes: &[u8], host: &mut H) -> Re
     }
 }
 
-/// Refuses a picture that can't be made and can't replace a file, before anything is run.
+/// Refuses a picture that can neither be made nor replace a file, before the first run.
 fn check_picture<H: Host>(alloc: Global, host: &H, picture: &str) -> Result<(), Refusal> {
     match host.check_replaceable(alloc, picture) {
         Ok(()) => Ok(()),
@@ -328,7 +331,7 @@ fn check_picture<H: Host>(alloc: Global, host: &H, picture: &str) -> Result<(), 
     }
 }
 
-/// The refusal of a sweep whose picture can't be made and can't replace a file.
+/// The refusal of a picture that can neither be made nor replace a file.
 fn picture_refusal(alloc: Global, name: &str, fault: FlashFault) -> Refusal {
     match fault {
         FlashFault::NoMemory => Refusal::NoMemory,

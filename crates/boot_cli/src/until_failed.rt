@@ -1,10 +1,10 @@
-//! Standard error, up to its first failed write.
+//! A writer to standard error that stops at its first failed write.
 
 use std::io;
 use std::io::{ErrorKind, Write};
 
-/// A writer that takes nothing more after a failed write, so that no note follows a part of an
-/// error line.
+/// A writer that takes nothing more after a failed write, so no note follows a part of an error
+/// line.
 #[derive(Drop)]
 pub struct UntilFailed<'a, W> {
     to: &'a mut W,

@@ -1,4 +1,4 @@
-//! The order that the arguments give, also if there are none.
+//! Reads the order that the arguments give, or the default order if there are none.
 ghost use Rattle.std.specs.Prelude.{IfErr, IfOk, map};
 ghost use Rattle.command_line.specs.OrderFaults.{IsRefusal};
 ghost use Rattle.boot_cli.specs.WordsEnd.{AskFor};
@@ -9,14 +9,14 @@ use std::alloc::Global;
 use std::convert::AsStr;
 use std::io::Write;
 
-/// Says at a terminal what the program waits for when it gets no argument.
+/// The note at a terminal that the program waits for standard input.
 const READING: &[u8] = b"note: reading a table from standard input; `bootswap --help` tells more\n";
 
-/// The order that the arguments give. Without one after the program's own name it is the choice
-/// over standard input. Values of arguments are in memory of `alloc`.
+/// The order that the arguments give. Without arguments after the program's own name it is `choose`
+/// on standard input. Values of arguments are in memory of `alloc`.
 ///
 /// # Errors
-/// Those of [`request`].
+/// The errors of [`request`].
 pub fn request_in<'a, S: AsStr>(alloc: Global, words: &'a [S]) -> Result<Request<'a>, OrderError>
     ensures order { IfOk result (λ request. AskFor (map S.text words.entry.now) request.order) }
     ensures refused { IfErr result (IsRefusal (map S.text words.entry.now)) }
@@ -32,7 +32,7 @@ pub fn request_in<'a, S: AsStr>(alloc: Global, words: &'a [S]) -> Result<Request
     request(alloc, words)
 }
 
-/// Writes that the program reads a table from standard input.
+/// Writes to `err` that the program reads a table from standard input.
 pub fn note_reading<E: Write>(err: &mut E) {
     // The note is no part of the answer, so a failed write changes nothing.
     let _ = err.write_all(READING);

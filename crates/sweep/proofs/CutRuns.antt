@@ -1,4 +1,4 @@
--- Runs of a device, with the cuts of its flash.
+-- Runs of a device whose flash may cut writes.
 use Rattle.std.proofs.Common.{◌≡◌, List, [], ◌∷◌, ◌++◌, refl}
 use Rattle.machine.specs.Holding.{DeviceView}
 use Rattle.machine.specs.Intake.{Setup}
@@ -12,7 +12,7 @@ use Rattle.boot_core.specs.Device.{Whole}
 use Rattle.boot_core.proofs.CutEvents.{cut_by_due, steps_join}
 use Rattle.sweep.specs.Scenario.{RunsCut, StepsCut}
 
--- What a device does is one, on a flash that has no faults.
+-- A step of a device over a flash without faults is a step with its cuts.
 pub step_cut : {happened : DeviceEvent} {old new : Whole} {reply : Reply} → Steps happened old new reply
     → old.here.flash.faults ≡ 0 → new.here.flash.faults ≡ 0
     → StepsCut old.setup old.here new.here happened reply
@@ -21,11 +21,11 @@ step_cut {happened} {old} {new} {reply} taken sound still = record {
   cut = cut_by_due old.here.flash new.here.flash reply sound still taken.due;
 }
 
--- no event yet
+-- A run of no event.
 pub runs_none : (setup : Setup) (here : DeviceView) → RunsCut setup here here [] []
 runs_none setup here = record { runs = machine.runs_none setup here; cuts = refl }
 
--- a run goes on by a run
+-- A run that another continues.
 pub runs_join : (setup : Setup) (old mid new : DeviceView) (events more : List DeviceEvent)
     (replies answered : List Reply) → RunsCut setup old mid events replies → RunsCut setup mid new more answered
     → RunsCut setup old new (events ++ more) (replies ++ answered)
@@ -37,7 +37,7 @@ runs_join setup old mid new events more replies answered first then = record {
   cuts = steps_join IsCutByWrite setup old mid new events more replies answered first.cuts then.cuts;
 }
 
--- a run of one step
+-- A run of one step.
 pub runs_one : (setup : Setup) (old new : DeviceView) (happened : DeviceEvent) (reply : Reply)
     → StepsCut setup old new happened reply → RunsCut setup old new (happened ∷ []) (reply ∷ [])
 runs_one setup old new happened reply one = record {
@@ -45,7 +45,7 @@ runs_one setup old new happened reply one = record {
   cuts = (new, one.steps, one.cut, refl);
 }
 
--- one step more
+-- A run of one more step.
 pub runs_more : (setup : Setup) (old mid new : DeviceView) (events : List DeviceEvent) (replies : List Reply)
     (happened : DeviceEvent) (reply : Reply) → RunsCut setup old mid events replies
     → StepsCut setup mid new happened reply → RunsCut setup old new (events ++ happened ∷ []) (replies ++ reply ∷ [])

@@ -1,4 +1,4 @@
--- A run of a scenario, one event more at a time.
+-- Runs of a scenario that grow by one event.
 use Rattle.std.proofs.Common.{◌≡◌, ℕ, zero, suc, ◌+◌, ◌<◌, List, [], ◌∷◌, ◌++◌, ap, append-nil, append_assoc, arith, get_or, length, length-append, map, refl, replicate, subst, sym, take, ◌∙◌}
 use Rattle.std.specs.Prelude.{Vec}
 use Rattle.std.specs.List.{AllZip, range_with_len}
@@ -42,7 +42,7 @@ reboots_more setup same old mid new reply before is steps =
 
 -- ---- one event
 
--- an event without a cut
+-- The event wasn't interrupted.
 pub event_uncut : (setup : Setup) (old new : DeviceView) (happened : DeviceEvent) (reply : Reply)
     → StepsCut setup old new happened reply → RunsEvent setup old new happened
 event_uncut setup old new happened reply steps = record {
@@ -51,7 +51,7 @@ event_uncut setup old new happened reply steps = record {
   runs = runs_one setup old new happened reply steps;
 }
 
--- an event with boots after it
+-- The event was followed by boots.
 pub event_and_reboots : (setup same : Setup) (old mid new : DeviceView) (happened : DeviceEvent) (reply : Reply)
     → StepsCut setup old mid happened reply → same ≡ setup → Reboots same mid new → RunsEvent setup old new happened
 event_and_reboots setup same old mid new happened reply steps is reboots = record {
@@ -115,7 +115,7 @@ events_of_one setup old new happened given is one = record {
   runs = one.runs;
 }
 
--- one event more of those that hold their bytes
+-- The events so far have one more.
 held_in-more : {A : Type 0} (all : List (Event (Vec ℕ A))) (i : ℕ) (read : Event (Vec ℕ A)) → i < length all
     → read ≡ get_or all i read
     → take (i + 1) (held_in all) ≡ take i (held_in all) ++ event_map (λ bytes. bytes.items) read ∷ []
@@ -139,7 +139,7 @@ events_more setup same old mid new all i read happened before below is lent stay
 
 -- ---- cuts
 
--- a write more is armed for a cut
+-- One more write is armed for its cut.
 pub armed_for-more : (all : List TornWrite) (i : ℕ) (cut : TornWrite) (writes : List CutWrite) (one : CutWrite) → i < length all
     → cut ≡ get_or all i cut → AreArmedFor (take i all) (armed_in writes) → one.write ≡ cut.write
     → IsTorn cut.tear one.torn → AreArmedFor (take (i + 1) all) (armed_in (writes ++ one ∷ []))

@@ -1,4 +1,4 @@
-//! The writes that are cut in a run, and the bytes that the cuts leave.
+//! The power cuts of a run, and the bytes that they leave.
 
 ghost use Rattle.std.specs.Prelude.{IfOk};
 ghost use Rattle.device_texts.specs.FlashOf.{armed_in};
@@ -10,7 +10,7 @@ use std::alloc::{AllocError, Global};
 use std::fmt;
 use trailer::MAGIC;
 
-/// What a cut leaves in its range.
+/// What a power cut leaves of the range of a write.
 #[derive(Clone, Copy)]
 pub enum Tear {
     /// The old bytes.
@@ -27,7 +27,7 @@ pub enum Tear {
     Half,
 }
 
-/// All of them, in the order in which a sweep tries them.
+/// All ways to tear a write, in the order in which a sweep tries them.
 pub const TEARS: [Tear; 6] = [
     Tear::Keep,
     Tear::Done,
@@ -41,7 +41,7 @@ impl Tear {
     /// The form in which a flash in memory is armed with it. The pattern is in memory of `alloc`.
     ///
     /// # Errors
-    /// `AllocError` if that memory is refused.
+    /// `AllocError` if memory is refused.
     pub fn torn(self, alloc: Global) -> Result<Torn, AllocError>
         ensures { IfOk result (IsTorn self) }
     {
@@ -55,7 +55,7 @@ impl Tear {
         }
     }
 
-    /// Its name in a line `cut` of a script, after the number of the write. No script has a line
+    /// Its name in a `cut` line of a script, after the number of the write. Scripts have no line
     /// for `Half`.
     pub fn name(self) -> &'static str {
         match self {
@@ -69,27 +69,26 @@ impl Tear {
     }
 }
 
-/// Copies of these bytes.
+/// The torn write that leaves copies of these bytes.
 fn copies_of(alloc: Global, bytes: &[u8]) -> Result<Torn, AllocError>
     ensures { IfOk result (IsCopies bytes.now) }
 {
     Ok(Torn::Bytes(Vec::from_slice(alloc, bytes)?))
 }
 
-/// A write that is cut.
+/// A write that a power cut tears.
 #[derive(Clone, Copy)]
 pub struct TornWrite {
-    /// Its number since the first event, counted from 1.
+    /// The number of the write, from 1 for the first after the run began.
     pub write: u32,
-    /// What the cut leaves.
+    /// What the power cut leaves.
     pub tear: Tear,
 }
 
-/// The same writes, in the form in which a flash in memory is armed with them. What they leave is in
-/// memory of `alloc`.
+/// The form in which a flash in memory is armed with these cuts, in memory of `alloc`.
 ///
 /// # Errors
-/// `AllocError` if that memory is refused.
+/// `AllocError` if memory is refused.
 pub fn cut_writes(alloc: Global, cuts: &[TornWrite]) -> Result<Vec<CutWrite>, AllocError>
     ensures { IfOk result (λ writes. AreArmedFor cuts.now (armed_in writes.items)) }
 {
@@ -102,12 +101,12 @@ pub fn cut_writes(alloc: Global, cuts: &[TornWrite]) -> Result<Vec<CutWrite>, Al
     Ok(writes)
 }
 
-/// The writes that are cut in a run.
+/// The power cuts of a run.
 #[derive(Clone, Copy)]
 pub enum Cuts {
-    /// This one.
+    /// One power cut.
     One(TornWrite),
-    /// Two, of which the second is a write of the boot after the first.
+    /// Two power cuts. The second is in the boot after the first.
     Two(TornWrite, TornWrite),
 }
 
@@ -124,7 +123,7 @@ impl fmt::Display for Cuts {
     }
 }
 
-/// Writes a cut as a line of a script has it.
+/// Writes a cut as a `cut` line of a script.
 fn write_cut<W: fmt::Write>(f: &mut fmt::Formatter<W>, cut: TornWrite) -> fmt::Result {
     let TornWrite { write, tear } = cut;
     let name = tear.name();

@@ -1,4 +1,4 @@
-//! A device of a device file.
+//! Makes the device of a run, from a device file and a flash.
 
 ghost use Rattle.std.specs.Prelude.{◌≡◌, false};
 ghost use Rattle.sector_map.specs.Map.{IsLaidOut};
@@ -9,8 +9,8 @@ use boot_core::Device;
 use device_texts::DeviceFile;
 use flash_model::Flash;
 
-/// A device of this file over this flash, on which its map is laid out. It isn't booted, and no
-/// upload is open.
+/// The device of this device file, over this flash, on which the device's map is laid out. It isn't
+/// booted, and no upload is open.
 pub fn device_over<F: Flash>(flash: F, device: &DeviceFile) -> Device<F>
     requires device { IsOfFile device.now }
     requires laid_out { IsLaidOut device.now.map (F.chip flash) }

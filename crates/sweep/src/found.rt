@@ -7,23 +7,23 @@ use common::limits::MOST_IMAGES;
 use std::alloc::AllocError;
 use version_order::Version;
 
-/// The outcomes of the boots after the cuts of one write.
+/// The outcomes of the boots after power cuts at one write.
 #[derive(Clone, Copy)]
 pub enum Mark {
-    /// No run cut it.
+    /// No run had a power cut at the write.
     NotTried,
     /// All boots had this outcome.
     All(BootOutcome),
-    /// The outcome depended on what the cut left.
+    /// The outcome depended on what the power cut left.
     Several,
 }
 
 /// A number of runs.
 #[derive(Clone, Copy)]
 pub struct Tally {
-    /// How many.
+    /// The number of runs.
     pub runs: u64,
-    /// The cuts of the first of them. `None` if that is the run without a cut.
+    /// The cuts of the first of these runs. `None` if it is the run without a power cut.
     pub first: Option<Cuts>,
 }
 
@@ -39,24 +39,24 @@ pub struct SetTally {
 /// The findings of a sweep.
 #[derive(Drop)]
 pub struct Found {
-    /// For each event the number of writes up to its end, without a cut.
+    /// For each event the number of writes up to its end, without a power cut.
     pub writes: Vec<u32>,
     /// The mark of each write.
     pub marks: Vec<Mark>,
     /// The sets that ran at the end of a run, in the order in which they were found. The first is
-    /// that of the run without a cut.
+    /// that of the run without a power cut.
     pub sets: Vec<SetTally>,
     /// All runs.
     pub all: Tally,
-    /// The runs that ended neither like the run without a cut, nor like one in which power fails
-    /// next to the event of the first cut, or which leaves out that event.
+    /// The runs that ended neither like the run without a power cut, nor like one without the event
+    /// of the first cut, nor like one in which power fails in place of that event or after it.
     pub others: Tally,
     /// The runs in which a boot was refused.
     pub refused: Tally,
 }
 
 impl Mark {
-    /// The mark with the outcome of the boot after one more cut.
+    /// The mark after one more power cut at its write, with the outcome of the boot after it.
     fn and(self, outcome: BootOutcome) -> Self {
         match self {
             Mark::NotTried => Mark::All(outcome),
@@ -73,7 +73,7 @@ impl Mark {
 }
 
 impl Tally {
-    /// No runs.
+    /// The tally of no runs.
     pub fn none() -> Self {
         Tally {
             runs: 0,
@@ -91,13 +91,14 @@ impl Tally {
 }
 
 impl Found {
-    /// Whether no boot was refused, and each run ended like the run without a cut, or like one in
-    /// which power fails next to the event of the first cut, or which leaves out that event.
+    /// Whether no boot was refused, and each run ended as expected: like the run without a power
+    /// cut, like one without the event of the first cut, or like one in which power fails in place
+    /// of that event or after it.
     pub fn is_good(&self) -> bool {
         self.others.runs == 0 && self.refused.runs == 0
     }
 
-    /// The number of writes before this event, which is counted from 0.
+    /// The number of writes before this event. Events are counted from 0.
     pub(crate) fn writes_before(&self, event: usize) -> u32 {
         match event.checked_sub(1) {
             Some(last) => self.writes.get(last).copied().unwrap_or(0),
@@ -105,7 +106,7 @@ impl Found {
         }
     }
 
-    /// The marks of the writes of this event, which is counted from 0.
+    /// The marks of the writes of this event. Events are counted from 0.
     pub(crate) fn marks_of(&self, event: usize) -> Option<&[Mark]> {
         let before = self.writes_before(event);
         let end = self.writes.get(event).copied().unwrap_or(before);
@@ -145,7 +146,7 @@ impl Found {
         }
     }
 
-    /// Notes the outcome of the boot after the cut of this write.
+    /// Notes the outcome of the boot after a power cut at this write.
     pub(crate) fn mark(&mut self, write: u32, outcome: BootOutcome) {
         let Some(mark) = self.marks.get_mut((write as usize).wrapping_sub(1)) else {
             return;
@@ -154,7 +155,7 @@ impl Found {
     }
 }
 
-/// Whether two sets are of the same images.
+/// Whether two sets have the same versions.
 pub(crate) fn is_same(
     one: &Option<ArrayVec<Version, MOST_IMAGES>>,
     other: &Option<ArrayVec<Version, MOST_IMAGES>>,

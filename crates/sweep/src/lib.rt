@@ -1,14 +1,14 @@
 //! Runs a script once for each write of the flash and each way to tear it, and counts the results.
 //!
-//! - Promises: Each run of a sweep is a run of the machine over whole images, with exactly the
-//!   writes cut that are asked for. The versions that are reported to run at its end are those in
+//! - Promises: Each run of a sweep is a run of the machine over whole images, in which the flash
+//!   tears exactly the given writes. The versions that are reported to run at its end are those in
 //!   the primary slots.
 //! - Main calls: `run_scenario`
 //! - Allocates: a copy of the flash for each run, a few numbers for each write and event, the text
 //!   of the answer.
 //! - Callers: any program that has provisioned a flash in memory.
 //!
-//! What is counted of the runs, printed and drawn is tested.
+//! Tests check what is counted, printed and drawn.
 #![tactic(auto)]
 
 mod cuts;

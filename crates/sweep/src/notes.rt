@@ -1,4 +1,4 @@
-//! Notes on a run of a sweep.
+//! What a sweep notes during a run.
 
 use arrayvec::ArrayVec;
 use common::limits::MOST_IMAGES;
@@ -10,7 +10,7 @@ use version_order::Version;
 /// The outcome of a boot.
 #[derive(Clone, Copy, PartialEq, Eq)]
 pub enum BootOutcome {
-    /// It took nothing.
+    /// It took no request.
     Plain,
     /// It took a set on trial.
     Trial,
@@ -20,18 +20,18 @@ pub enum BootOutcome {
     Reverted,
     /// It tried the set on trial again.
     TrialAgain,
-    /// It decided nothing: it was refused, or cut.
+    /// It decided nothing: it was refused or interrupted.
     Refused,
 }
 
-/// The outcome of the first write that was cut.
+/// The outcome of the first power cut of a run.
 #[derive(Clone, Copy)]
 pub struct CutNote {
-    /// The event in which it was cut, from 0.
+    /// The event during which the power failed, from 0.
     pub event: usize,
-    /// The outcome of the first boot that wasn't cut.
+    /// The outcome of the first boot that wasn't interrupted.
     pub outcome: BootOutcome,
-    /// The number of writes after it, up to the end of that boot.
+    /// The number of writes after the cut, up to the end of that boot.
     pub writes: u64,
 }
 
@@ -40,9 +40,9 @@ pub struct CutNote {
 pub struct ScenarioEnd {
     /// The running versions, image by image. `None` if an image is damaged.
     pub versions: Option<ArrayVec<Version, MOST_IMAGES>>,
-    /// The outcome of the first write that was cut. `None` if no write was.
+    /// The outcome of the first power cut. `None` if there was none.
     pub cut: Option<CutNote>,
-    /// Whether a boot that wasn't cut was refused.
+    /// Whether a boot was refused that wasn't interrupted.
     pub is_refused: bool,
 }
 
@@ -51,20 +51,20 @@ pub struct ScenarioEnd {
 pub struct Notes {
     /// The number of events so far.
     pub events: usize,
-    /// The outcome of the first write that was cut.
+    /// The outcome of the first power cut, if there was one.
     pub cut: Option<CutNote>,
-    /// Whether a boot that wasn't cut was refused.
+    /// Whether a boot was refused that wasn't interrupted.
     pub is_refused: bool,
 }
 
 impl Notes {
-    /// Notes the outcome of a boot of the script, or of one after a cut.
+    /// Notes the outcome of a boot of the script, or of one after a power cut.
     pub fn note_boot(&mut self, reply: &Reply) {
         self.is_refused |= boot_outcome(reply) == BootOutcome::Refused;
     }
 
-    /// Notes the outcome of a write that was cut: that of the first boot that wasn't cut, and the
-    /// number of writes up to its end.
+    /// Notes the outcome of a power cut: the reply of the first boot that wasn't interrupted, and
+    /// the number of writes up to its end. Only the first cut of a run is noted.
     pub fn note_cut(&mut self, reply: &Reply, writes: u64) {
         if self.cut.is_none() {
             self.cut = Some(CutNote {

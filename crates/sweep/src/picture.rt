@@ -1,4 +1,4 @@
-//! The picture of a sweep: a row for each event, with a square for each write of it.
+//! Draws a sweep: a row for each event, with a square for each write.
 
 use crate::found::{Found, Mark};
 use crate::notes::BootOutcome;
@@ -7,11 +7,13 @@ use crate::text::write_event;
 use common::event::Event;
 use std::alloc::{AllocError, Global};
 
-/// Where the squares begin from the left, the width of a square and the height of a row, in pixels.
+/// The left edge of the squares, in pixels.
 const LEFT: u64 = 150;
 
+/// The width of a square, in pixels.
 const SQUARE: u64 = 8;
 
+/// The height of a row, in pixels.
 const ROW: u64 = 22;
 
 /// The marks, in the order of the legend.
@@ -26,10 +28,10 @@ const MARKS: [Mark; 8] = [
     Mark::NotTried,
 ];
 
-/// A sweep as a picture in SVG, in memory of `alloc`.
+/// The SVG picture of a sweep, in memory of `alloc`.
 ///
 /// # Errors
-/// `AllocError` if that memory is refused.
+/// `AllocError` if memory is refused.
 pub fn picture_of(
     alloc: Global,
     scenario: &Scenario<'_>,
@@ -51,7 +53,7 @@ pub fn picture_of(
     Ok(text)
 }
 
-/// The width of the picture: that of the event with the most writes, and of the words.
+/// The width of the picture: the row with the most writes has to fit, and so do the texts.
 fn width_of(writes: &[u32]) -> u64 {
     let mut before = 0;
     let mut most = 0;
@@ -89,7 +91,7 @@ fn draw_events(
     Ok(())
 }
 
-/// Draws a square for each write of an event. `before` writes were made before the event.
+/// Draws a square for each write of an event, after the `before` writes of earlier events.
 fn draw_writes(text: &mut String, marks: &[Mark], before: u32, top: u64) -> Result<(), AllocError> {
     let mut left = LEFT;
     let mut write = u64::from(before);
@@ -103,7 +105,7 @@ fn draw_writes(text: &mut String, marks: &[Mark], before: u32, top: u64) -> Resu
     Ok(())
 }
 
-/// Begins a square.
+/// Draws the start of a square.
 fn draw_square(text: &mut String, mark: Mark, left: u64, top: u64) -> Result<(), AllocError> {
     let color = color_of(mark);
     write!(
@@ -127,7 +129,7 @@ fn draw_legend(text: &mut String, row: u64) -> Result<(), AllocError> {
     Ok(())
 }
 
-/// The outcome of the next boot, in words.
+/// What a square of this mark says about the next boot.
 fn name_of(mark: Mark) -> &'static str {
     match mark {
         Mark::NotTried => "not tried",

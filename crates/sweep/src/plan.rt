@@ -1,29 +1,29 @@
-//! What a sweep tries, and who watches it.
+//! What a sweep tries, and how its progress is watched.
 
-/// Which writes a sweep cuts.
+/// The power cuts that a sweep tries.
 #[derive(Clone, Copy)]
 pub struct Plan {
-    /// Whether, after each cut, each write of the next boot is cut too.
+    /// Whether, after each cut, the power also fails at each write of the next boot.
     pub is_twice: bool,
-    /// The number of runs with random cuts. `None` cuts each write in each way.
+    /// The number of runs with random cuts. If `None`, the sweep tears each write in each way.
     pub sample: Option<u32>,
-    /// The seed of the random numbers. Two sweeps with the same seed make the same cuts.
+    /// The seed of the random numbers. Sweeps with the same seed make the same cuts.
     pub seed: u32,
 }
 
 /// A step of a sweep.
 #[derive(Clone, Copy)]
 pub enum Step {
-    /// The sweep runs the script for the first time, without a cut, and counts the writes.
+    /// The first run, without a power cut, which counts the writes.
     Counting {
         /// The number of the event, from 1.
         event: usize,
         /// The number of events.
         events: usize,
     },
-    /// The sweep runs the script again without a cut, to see what runs at its end.
+    /// Another run without a power cut, which finds what runs at its end.
     Uncut,
-    /// The sweep makes the runs with cuts.
+    /// The runs with power cuts.
     Cutting {
         /// The number of finished parts. A part is all runs of one write, or one run of a sample.
         done: u32,
@@ -34,8 +34,8 @@ pub enum Step {
     },
 }
 
-/// Something that watches a sweep.
+/// Watches the progress of a sweep.
 pub trait Watch {
-    /// Called at the start of a step, and after each run with cuts.
+    /// Sees the start of a step, and the end of each run with power cuts.
     fn see(&mut self, step: Step);
 }

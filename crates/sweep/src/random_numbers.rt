@@ -1,18 +1,18 @@
-//! Random numbers for a sweep that tries a sample. One seed gives the same numbers in each run.
+//! Random numbers for a sample of a sweep. The same seed gives the same numbers.
 
-/// A xorshift generator of 32 bits, by Marsaglia.
+/// Marsaglia's xorshift generator of 32 bits.
 #[derive(Drop)]
 pub struct Random {
     state: u32,
 }
 
 impl Random {
-    /// A generator that begins with this seed, which is not 0.
+    /// A generator with this seed, which must not be 0.
     pub fn new(seed: u32) -> Self {
         Random { state: seed }
     }
 
-    /// Any number but 0.
+    /// The next number, which is never 0.
     pub fn number(&mut self) -> u32 {
         self.state ^= self.state.wrapping_shl(13);
         self.state ^= self.state.wrapping_shr(17);

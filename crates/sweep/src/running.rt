@@ -1,4 +1,4 @@
-//! The versions that run at the end of a run.
+//! Reads which versions run at the end of a run.
 
 ghost use Rattle.std.specs.Prelude.{◌≡◌, option_map, true};
 ghost use Rattle.sector_map.specs.Map.{IsLaidOut};
@@ -11,7 +11,8 @@ use flash_model::Flash;
 use sector_map::{SectorMap, Side};
 use version_order::Version;
 
-/// The versions that run on a flash with power, image by image. `None` if an image is damaged.
+/// The versions in the primary slots of a flash with power, image by image. `None` if an image is
+/// damaged.
 pub(crate) fn running_versions<F: Flash>(
     flash: &mut F,
     map: &SectorMap,

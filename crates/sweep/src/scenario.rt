@@ -1,4 +1,4 @@
-//! A scenario: a device, and the events that it takes.
+//! The input of a run: a device and its events.
 
 ghost use Rattle.device_texts.specs.DeviceFile.{IsOfFile};
 ghost use Rattle.device_texts.specs.FlashOf.{IsFlashOf};
@@ -6,18 +6,18 @@ ghost use Rattle.device_texts.specs.FlashOf.{IsFlashOf};
 use common::event::Event;
 use device_texts::DeviceFile;
 
-/// A device, and the events that it takes.
+/// A device and the events that it takes.
 #[derive(Clone, Copy)]
 pub struct Scenario<'a> {
     /// The device, which isn't booted before the first event.
     pub device: &'a DeviceFile,
-    /// The bytes of its flash before the first event, exactly those of its map.
+    /// The bytes of its flash before the first event: those of all sectors of its map.
     pub bytes: &'a [u8],
-    /// The first events, in order,
+    /// The first events, in order.
     pub events: &'a [Event<Vec<u8>>],
-    /// the events that are inserted after them,
+    /// The events after `events`, which a sweep inserts.
     pub between: &'a [Event<Vec<u8>>],
-    /// and the last events.
+    /// The last events.
     pub more: &'a [Event<Vec<u8>>],
     ghost of_file: { IsOfFile device.now },
     ghost whole: { IsFlashOf device.now.map bytes.now },

@@ -1,4 +1,4 @@
-//! One run of a scenario, with some writes of the flash cut.
+//! Runs a scenario once, with given power cuts.
 
 ghost use Rattle.std.specs.Prelude.{◌≡◌, IfOk, true};
 ghost use Rattle.sweep.specs.Scenario.{IsScenarioRun, Reboots, RunsEvent, RunsEvents, StepsCut, all_of, held_in};
@@ -17,8 +17,8 @@ use std::alloc::{AllocError, Global};
 use std::marker::Brand;
 use std::sync::ledger::{Blank, Ledger};
 
-/// Runs a scenario with these writes cut. After each cut the device boots until a boot isn't cut.
-/// The copy of its flash is in memory of `alloc`.
+/// Runs a scenario with these power cuts. After each cut the device boots until a boot isn't
+/// interrupted. The copy of its flash is in memory of `alloc`.
 ///
 /// # Errors
 /// `AllocError` if memory is refused.
@@ -32,7 +32,7 @@ pub fn run_scenario(
     run_on_flash::<Brand>(alloc, Blank::new(2), scenario, cuts)
 }
 
-/// The same, with the token of the ledger that the flash counts by.
+/// Runs a scenario on a flash that counts by the ledger of this token.
 fn run_on_flash<L: Ledger>(
     alloc: Global,
     blank: Blank,
@@ -58,8 +58,8 @@ fn run_on_flash<L: Ledger>(
     })
 }
 
-/// Passes all events of a scenario to a device whose flash has power, in order. After each event in
-/// which a write is cut the device boots until a boot isn't cut, at most `most` times.
+/// Passes all events of a scenario in order to a device whose flash has power. After each
+/// interrupted event the device boots until a boot isn't interrupted, at most `most` times.
 fn run_all_events<L: Ledger>(
     alloc: Global,
     device: &mut Device<MemFlash<L>>,
@@ -79,8 +79,8 @@ fn run_all_events<L: Ledger>(
     Ok(notes)
 }
 
-/// Passes events to a device whose flash has power, in order. After each event in which a write is
-/// cut the device boots until a boot isn't cut, at most `most` times.
+/// Passes events in order to a device whose flash has power. After each interrupted event the
+/// device boots until a boot isn't interrupted, at most `most` times.
 fn run_events<L: Ledger>(
     alloc: Global,
     device: &mut Device<MemFlash<L>>,
@@ -101,7 +101,7 @@ fn run_events<L: Ledger>(
     Ok(())
 }
 
-/// Passes an event to a device whose flash has power, and boots after it if a write is cut.
+/// Passes an event to a device whose flash has power, and boots the device if power fails in it.
 fn run_event<L: Ledger>(
     alloc: Global,
     device: &mut Device<MemFlash<L>>,
@@ -129,8 +129,8 @@ fn run_event<L: Ledger>(
     notes.end_event(&reply)
 }
 
-/// Boots a device whose flash has power until a boot isn't cut, at most `most` times, but at least
-/// once. Returns the reply of the last boot.
+/// Boots a device whose flash has power until a boot isn't interrupted, at most `most` times but at
+/// least once. Returns the reply of the last boot.
 fn boot_again<L: Ledger>(alloc: Global, device: &mut Device<MemFlash<L>>, most: usize) -> Reply
     requires { device.old.here.flash.is_on ≡ true }
     ensures setup { device.new.setup ≡ device.old.setup }
@@ -146,8 +146,8 @@ fn boot_again<L: Ledger>(alloc: Global, device: &mut Device<MemFlash<L>>, most: 
     reply_to(alloc, device, &Event::Boot)
 }
 
-/// The reply of a device whose flash has power to an event: `Cut` exactly if the flash took a write
-/// in it that is to be cut.
+/// The reply of a device whose flash has power to an event. It is `Cut` exactly if the flash took
+/// an armed write in the event.
 fn reply_to<L: Ledger>(
     alloc: Global,
     device: &mut Device<MemFlash<L>>,
@@ -158,7 +158,7 @@ fn reply_to<L: Ledger>(
     ensures on { device.new.here.flash.is_on ≡ true }
     ensures steps { StepsCut device.old.setup device.old.here device.new.here event.now result }
 {
-    // A flash in memory has no faults, before the step and after it.
+    // A flash in memory has no faults, neither before nor after the step.
     let _before = device.flash();
     let reply = step(alloc, device, event);
     let _after = device.flash();

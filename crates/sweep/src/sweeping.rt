@@ -1,4 +1,4 @@
-//! All runs of a sweep.
+//! Makes all runs of a sweep.
 
 ghost use Rattle.std.specs.Prelude.{◌≡◌, true};
 
@@ -21,17 +21,17 @@ use std::marker::Brand;
 use std::sync::ledger::{Blank, Ledger};
 use version_order::Version;
 
-/// The versions that run at the end of a scenario in which power fails next to an event, and not in
-/// it. `None` if an image is damaged.
+/// The versions that run at the end of a scenario if one event is left out, or the power fails in
+/// place of it or after it. `None` if an image is damaged.
 #[derive(Drop)]
 struct EndsBeside {
-    /// The event, from 0.
+    /// The number of the event, from 0.
     event: usize,
-    /// Without the event.
+    /// The end without the event.
     left_out: Option<ArrayVec<Version, MOST_IMAGES>>,
-    /// With a power failure instead of the event.
+    /// The end with a power failure in place of the event.
     before: Option<ArrayVec<Version, MOST_IMAGES>>,
-    /// With a power failure after the event.
+    /// The end with a power failure after the event.
     after: Option<ArrayVec<Version, MOST_IMAGES>>,
 }
 
@@ -42,22 +42,22 @@ struct Runs<'s, 'w, W> {
     scenario: &'s Scenario<'s>,
     watch: &'w mut W,
     found: Found,
-    /// The ends next to the event in which the last write was cut.
+    /// The ends beside the event of the last cut.
     beside: Option<EndsBeside>,
-    /// How many parts are done.
+    /// The number of finished parts.
     done: u32,
-    /// How many parts there are.
+    /// The number of parts.
     all: u32,
 }
 
-/// Runs a scenario once without a cut, and then once with each write cut in each way, or as `plan`
-/// says. `watch` sees each event of the first run, and each run after it.
+/// Runs a scenario once without a power cut, and then once for each write and each way to tear it,
+/// or as `plan` says. `watch` sees each event of the first run, and each run after it.
 ///
-/// The sweep fails if the device has no memory for a manifest. Memory of `alloc` holds two copies
-/// of the flash at a time, and a few numbers for each write and each event.
+/// Memory of `alloc` holds two copies of the flash at a time, and a few numbers for each write and
+/// each event.
 ///
 /// # Errors
-/// `AllocError` if memory is refused.
+/// `AllocError` if memory is refused, also if the device has none for a manifest.
 pub fn sweep<W: Watch>(
     alloc: Global,
     scenario: &Scenario<'_>,
@@ -91,7 +91,8 @@ pub fn sweep<W: Watch>(
     Ok(runs.into_found())
 }
 
-/// For each event the number of writes up to its end. No write is cut.
+/// Runs the scenario without a power cut. Returns for each event the number of writes up to its
+/// end.
 fn count_writes<L: Ledger, W: Watch>(
     alloc: Global,
     blank: Blank,
@@ -134,19 +135,19 @@ fn count_through<L: Ledger, W: Watch>(
 }
 
 impl<W: Watch> Runs<'_, '_, W> {
-    /// Runs the scenario without a cut.
+    /// Runs the scenario without a power cut.
     fn run_uncut(&mut self) -> Result<(), AllocError> {
         self.watch.see(Step::Uncut);
         let end = run_scenario(self.alloc, self.scenario, &[])?;
         self.found.count_run(None, end)
     }
 
-    /// The number of writes of the scenario.
+    /// The number of writes in the run without a power cut.
     fn writes(&self) -> u32 {
         self.found.marks.len().min(u32::MAX as usize) as u32
     }
 
-    /// Cuts each write in each way.
+    /// Tears each write in each way.
     fn cut_each(&mut self, is_twice: bool) -> Result<(), AllocError> {
         for done in 0..self.writes() {
             self.done = done;
@@ -158,7 +159,8 @@ impl<W: Watch> Runs<'_, '_, W> {
         Ok(())
     }
 
-    /// Makes a run with this cut. If `is_twice`, also cuts each write of the boot after it.
+    /// Makes a run with this power cut. If `is_twice`, also makes one for each write of the boot
+    /// after it.
     fn cut_one(&mut self, first: TornWrite, is_twice: bool) -> Result<(), AllocError> {
         let writes = self.try_cuts(Cuts::One(first))?;
         if is_twice {
@@ -170,7 +172,7 @@ impl<W: Watch> Runs<'_, '_, W> {
         Ok(())
     }
 
-    /// Cuts this write in each way, after a first cut.
+    /// Tears this write in each way, after a first power cut.
     fn cut_second(&mut self, first: TornWrite, write: u32) -> Result<(), AllocError> {
         for tear in &TEARS {
             let second = TornWrite { write, tear: *tear };
@@ -179,7 +181,7 @@ impl<W: Watch> Runs<'_, '_, W> {
         Ok(())
     }
 
-    /// Makes a sample of runs, in which writes and ways to cut them are drawn at random.
+    /// Makes a sample of runs, with random writes and random ways to tear them.
     fn cut_sample(&mut self, plan: Plan) -> Result<(), AllocError> {
         let count = self.writes();
         // The generator takes any number but 0.
@@ -199,8 +201,8 @@ impl<W: Watch> Runs<'_, '_, W> {
         Ok(())
     }
 
-    /// Runs the scenario with these cuts, and counts the outcome. Returns the number of writes
-    /// after the first cut, up to the end of the boot that wasn't cut.
+    /// Runs the scenario with these power cuts, and counts the outcome. Returns the number of
+    /// writes after the first cut, up to the end of the first boot that wasn't interrupted.
     fn try_cuts(&mut self, cuts: Cuts) -> Result<u32, AllocError> {
         let (ended, first) = match cuts {
             Cuts::One(first) => (run_scenario(self.alloc, self.scenario, &[first]), first),
@@ -227,8 +229,8 @@ impl<W: Watch> Runs<'_, '_, W> {
         Ok(writes)
     }
 
-    /// Whether a run ended neither like the run without a cut, nor like one in which power fails
-    /// next to the event of the first cut, or which leaves out that event.
+    /// Whether a run ended neither like the run without a power cut, nor like one without the event
+    /// of the first cut, nor like one in which power fails in place of that event or after it.
     fn is_other(&mut self, cut: &CutNote, end: &ScenarioEnd) -> Result<bool, AllocError> {
         if let Some(uncut) = self.found.sets.first() {
             if is_same(&uncut.versions, &end.versions) {
@@ -246,7 +248,7 @@ impl<W: Watch> Runs<'_, '_, W> {
         Ok(answer)
     }
 
-    /// What the sweep found.
+    /// The findings of the runs.
     fn into_found(self) -> Found {
         let Runs {
             alloc,
@@ -261,7 +263,7 @@ impl<W: Watch> Runs<'_, '_, W> {
     }
 }
 
-/// A random cut of one of the `count` writes after the first `before`. `None` if there are none.
+/// A random cut at one of the `count` writes after the first `before`. `None` if `count` is 0.
 fn drawn(random: &mut Random, before: u32, count: u32) -> Option<TornWrite> {
     if count == 0 {
         return None;
@@ -274,13 +276,13 @@ fn drawn(random: &mut Random, before: u32, count: u32) -> Option<TornWrite> {
     })
 }
 
-/// The way to tear a write that a number stands for.
+/// The way to tear a write that a random number selects.
 fn tear_at(number: u32) -> Tear {
     TEARS[(number % TEARS.len() as u32) as usize]
 }
 
 impl EndsBeside {
-    /// Whether this end is one of them.
+    /// Whether a run that ended like this is one of them.
     fn has(&self, end: &ScenarioEnd) -> bool {
         is_same(&self.left_out, &end.versions)
             || is_same(&self.before, &end.versions)
@@ -288,8 +290,8 @@ impl EndsBeside {
     }
 }
 
-/// Runs a scenario without the event of this number, from 0, and with a power failure before and
-/// after it.
+/// Runs a scenario without the event of this number, with a power failure in place of it, and with
+/// one after it. Events are counted from 0.
 fn run_beside(
     alloc: Global,
     scenario: &Scenario<'_>,
@@ -298,7 +300,7 @@ fn run_beside(
     let events = scenario.events;
     let (before, _) = events.split_at(event.min(events.len()));
     let (through, more) = events.split_at(event.saturating_add(1).min(events.len()));
-    // If power fails between two events, the device is reset, and boots.
+    // After a power failure between two events the device is reset, and boots.
     let power_fails = [Event::Reset, Event::Boot];
     Ok(EndsBeside {
         event,
@@ -309,7 +311,7 @@ fn run_beside(
 }
 
 /// The versions that run at the end if the device of a scenario takes these events instead, without
-/// a cut.
+/// a power cut.
 fn end_of(
     alloc: Global,
     scenario: &Scenario<'_>,

@@ -1,4 +1,4 @@
-//! The text of a sweep's findings.
+//! Prints the findings of a sweep.
 
 use crate::found::{Found, Mark, SetTally, Tally};
 use crate::notes::BootOutcome;
@@ -6,12 +6,12 @@ use crate::scenario::Scenario;
 use common::event::Event;
 use std::alloc::{AllocError, Global};
 
-/// The text of a sweep, in memory of `alloc`: a line for each event, with a character for each of
-/// its writes; the number of runs; the sets that ran at the end of a run; and the runs that went
+/// The text of a sweep, in memory of `alloc`. It has a line for each event, with a character for
+/// each write; the number of runs; the sets that ran at the end of runs; and the runs that went
 /// wrong.
 ///
 /// # Errors
-/// `AllocError` if that memory is refused.
+/// `AllocError` if memory is refused.
 pub fn found_text(
     alloc: Global,
     scenario: &Scenario<'_>,
@@ -45,7 +45,7 @@ fn write_events(
     Ok(())
 }
 
-/// Adds an event as a line of a script has it, without its files.
+/// Adds an event as the line of a script, without its files.
 pub(crate) fn write_event(text: &mut String, event: &Event<Vec<u8>>) -> Result<(), AllocError> {
     let (word, image) = match event {
         Event::Accept(_) => return text.push_str("accept"),
@@ -59,8 +59,8 @@ pub(crate) fn write_event(text: &mut String, event: &Event<Vec<u8>>) -> Result<(
     write!(text, "{word} {image}")
 }
 
-/// Adds the number of the first write of an event and a character for each write, if there are any.
-/// `before` writes were made before the event.
+/// Adds the number of the first write of an event and a character for each write, if it has writes.
+/// The events before it made `before` writes.
 fn write_marks(text: &mut String, marks: &[Mark], before: u32) -> Result<(), AllocError> {
     if marks.is_empty() {
         return Ok(());

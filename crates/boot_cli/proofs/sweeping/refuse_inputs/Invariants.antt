@@ -3,7 +3,7 @@ use Rattle.std.specs.Borrow.{Bor}
 use Rattle.std.specs.List.{slice_get}
 use Rattle.boot_cli.proofs.sweeping.refuse_inputs.Given as goal
 
--- the words so far name other files
+-- The arguments so far name other files.
 abbrev pub invariant-loop-image : goal.invariant-loop-image
 invariant-loop-image g l = (place : ℕ) (word : Bor (List ℕ)) → place < l.image-index
     → slice_get l.named.images.now place ≡ Some word → word.now ≢ codes "-"

@@ -1,7 +1,7 @@
 use Rattle.boot_cli.proofs.SweepLaws.{apart_more}
 use Rattle.boot_cli.proofs.sweeping.refuse_named.Goals as goal
 
--- The file that the next line names is another too.
+-- The file that the next line names is apart too.
 pub loop-lines-preserved : goal.loop-lines-preserved
 loop-lines-preserved g c =
     apart_more (g.H.Host.apart c.args.host.now) c.args.picture.now c.args.text.now c.loop-lines.lines

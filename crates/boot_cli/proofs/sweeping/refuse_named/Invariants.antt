@@ -2,7 +2,7 @@ use Rattle.std.proofs.Common.{length}
 use Rattle.boot_cli.proofs.SweepLaws.{AreApartBefore}
 use Rattle.boot_cli.proofs.sweeping.refuse_named.Given as goal
 
--- the files that the lines so far name are others
+-- The files that the lines so far name are apart.
 abbrev pub invariant-loop-lines : goal.invariant-loop-lines
 invariant-loop-lines g l = AreApartBefore (g.H.Host.apart l.host) l.picture l.text l.lines.rest.now
 

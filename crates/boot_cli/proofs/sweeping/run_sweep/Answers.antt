@@ -8,7 +8,7 @@ use Rattle.boot_cli.specs.SweepEnd.{IsNamedBy, IsNamedIn, KeepsRead}
 use Rattle.boot_cli.proofs.SweepLaws.{AnswersSweep-read, inputs_kept, inputs_later}
 use Rattle.boot_cli.proofs.sweeping.run_sweep.Goals as goal
 
--- The device is one of a file.
+-- The device is one of a device file.
 pub sweep_images-requires : goal.sweep_images-requires
 sweep_images-requires g c =
     let read = rw c.in-Some.is at c.in_ok-device.ensures.read in
@@ -27,7 +27,7 @@ returns-clause-answers g c =
     low)
     c.sweep_images.ensures.answers
 
--- Nothing was written yet ..
+-- Nothing was written yet, so the inputs are kept.
 pub returns-in_err-device-clause-inputs : goal.returns-in_err-device-clause-inputs
 returns-in_err-device-clause-inputs g c = inputs_kept c.args.named.device c.args.named.script c.args.named.images.now
     (IsNamedIn c.args.named.script (g.H.Host.file c.args.host.now)) c.args.named.choices.picture _ _ c.in_err-device.ensures.files
@@ -45,7 +45,7 @@ returns-in_err-events-clause-inputs g c = inputs_kept c.args.named.device c.args
     (IsNamedIn c.args.named.script (g.H.Host.file c.args.host.now)) c.args.named.choices.picture _ _ (KeepsFiles-twice _ _ _ c.in_ok-device.ensures.files
     (KeepsFiles-twice _ _ _ c.in_ok-text.ensures.files c.in_err-events.ensures.files))
 
--- .. or the files that were read stay.
+-- The inputs are kept to the end.
 pub returns-clause-inputs : goal.returns-clause-inputs
 returns-clause-inputs g c = inputs_later c.args.named.device c.args.named.script c.args.named.images.now c.in_ok-text.text.items
     c.args.named.choices.picture _ _ _ _ _ c.in_ok-device.ensures.files c.in_ok-text.ensures.bytes

@@ -3,7 +3,7 @@ use Rattle.std.proofs.lemmas.List.{get_or_default}
 use Rattle.sweep.proofs.ScenarioLaws.{armed_for-more}
 use Rattle.sweep.proofs.cuts.cut_writes.Goals as goal
 
--- One write more is armed.
+-- One more write is armed.
 pub loop-cut-preserved : goal.loop-cut-preserved
 loop-cut-preserved c =
     let within = c.loop-cut-test.true in

@@ -2,7 +2,7 @@ use Rattle.std.proofs.Common.{refl, rules, ◌∙◌}
 use Rattle.sweep.proofs.ScenarioLaws.{versions_more}
 use Rattle.sweep.proofs.running.running_versions.Goals as goal
 
--- The version of one image more.
+-- The version of one more image is read.
 pub loop-image-preserved : goal.loop-image-preserved
 loop-image-preserved g c =
     let before = c.loop-image.invariant in

@@ -4,7 +4,7 @@ use Rattle.sector_map.specs.Map.{IsLaidOut}
 use Rattle.sweep.specs.Scenario.{HasVersion}
 use Rattle.sweep.proofs.running.running_versions.Given as goal
 
--- the flash is as it was, and the images so far run in these versions
+-- The flash is unchanged, and the images so far run in these versions.
 abbrev pub invariant-loop-image : goal.invariant-loop-image
 invariant-loop-image g l = record {
   few : l.image-end ≤ 8;

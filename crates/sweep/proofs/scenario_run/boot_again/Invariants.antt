@@ -2,7 +2,7 @@ use Rattle.std.proofs.Common.{◌≡◌, true}
 use Rattle.sweep.specs.Scenario.{Reboots}
 use Rattle.sweep.proofs.scenario_run.boot_again.Given as goal
 
--- the device is what it was made as, with power, and booted some times
+-- The device has the setup that it was made with, and power, and booted some number of times.
 abbrev pub invariant-loop : goal.invariant-loop
 invariant-loop g l = record {
   setup : l.device.setup ≡ l.fn.device.setup;

@@ -2,7 +2,7 @@ use Rattle.std.proofs.Common.{◌∙◌}
 use Rattle.sweep.proofs.ScenarioLaws.{events_join}
 use Rattle.sweep.proofs.scenario_run.run_all_events.Goals as goal
 
--- The device went through the three parts, one after the other.
+-- The device took the three parts in turn.
 pub returns-clause-runs : goal.returns-clause-runs
 returns-clause-runs g c =
     let setup = c.args.device.now.setup in

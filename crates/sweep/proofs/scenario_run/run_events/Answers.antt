@@ -2,11 +2,11 @@ use Rattle.std.proofs.Common.{refl, rules}
 use Rattle.sweep.proofs.ScenarioLaws.{events_more, events_none}
 use Rattle.sweep.proofs.scenario_run.run_events.Goals as goal
 
--- No event yet.
+-- The device took no event yet.
 pub loop-event-init : goal.loop-event-init
 loop-event-init g c = record { setup = refl; on = search rules; runs = events_none _ _ }
 
--- One event more.
+-- The device took one more event.
 pub loop-event-preserved : goal.loop-event-preserved
 loop-event-preserved g c =
     let within = c.loop-event-test.true in

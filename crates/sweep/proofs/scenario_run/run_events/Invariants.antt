@@ -2,7 +2,7 @@ use Rattle.std.proofs.Common.{◌≡◌, take, true}
 use Rattle.sweep.specs.Scenario.{RunsEvents, held_in}
 use Rattle.sweep.proofs.scenario_run.run_events.Given as goal
 
--- the device is what it was made as, with power, and went through the events so far
+-- The device has the setup that it was made with, and power, and took the events so far.
 abbrev pub invariant-loop-event : goal.invariant-loop-event
 invariant-loop-event g l = record {
   setup : l.device.setup ≡ l.fn.device.setup;
