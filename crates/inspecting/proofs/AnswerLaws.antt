@@ -1,4 +1,4 @@
--- What an answer stands for, from what was read and what was written.
+-- The meaning of an answer, from what was read and what was written.
 use Rattle.std.proofs.Common.{inl, ℕ, List, Option, Some, Result, Ok, Err, IfOk, subst}
 use Rattle.device_texts.specs.FlashOf.{flash_of}
 use Rattle.flash_model.specs.Chip.{Chip}
@@ -11,7 +11,7 @@ use Rattle.inspecting.specs.Answers.{AnswersForFlash, ReadsDeviceFlash}
 use Rattle.inspecting.specs.Written.{WritesAnswer}
 use Rattle.inspecting.specs.declared.device_flash.DeviceFlash.{DeviceFlash}
 
--- a source was read, and this was written of its bytes
+-- A source was read, and this was written about its bytes.
 pub source-answered : (writes : Result Answer Refusal → List ℕ → Option (List ℕ) → Option (List ℕ) → Type 0)
     (result : Result Answer Refusal) (bytes : List ℕ) (source : Source) (input : Option (List ℕ))
     (files : FileBytes) (old new : Option (List ℕ))
@@ -20,7 +20,7 @@ pub source-answered : (writes : Result Answer Refusal → List ℕ → Option (L
 source-answered writes (Ok answer) bytes source input files old new given written = (bytes, given, written)
 source-answered writes (Err refusal) bytes source input files old new given written = tt
 
--- a device file and its flash were read, and this was written of the flash
+-- A device file and its flash were read, and this was written about the flash.
 pub flash-answered : (has_text : SectorMap → Chip → Answer → List ℕ → Type 0)
     (result : Result Answer Refusal) (read : DeviceFlash) (device flash : Source)
     (input : Option (List ℕ)) (files : FileBytes) (old mid new : Option (List ℕ))

@@ -1,4 +1,4 @@
--- The texts of a flash, by the state that its log has.
+-- The texts of a flash, by the state of its log.
 use Rattle.std.proofs.Common.{◌≡◌, ◌∙◌, ◌++◌, IsSome, List, None, Some, ap, refl, subst, sym, ℕ}
 use Rattle.flash_model.specs.Chip.{Chip}
 use Rattle.sector_map.specs.declared.layout.SectorMap.{SectorMap}
@@ -15,20 +15,20 @@ use Rattle.inspecting.specs.declared.flash_text.FlashText.{FlashText}
 use Rattle.inspecting.specs.declared.flash_text.FlashText.TheVariants as of_flash
 use Rattle.inspecting.specs.declared.slots_found.SlotsFound.{SlotsFound}
 
--- that it has none
+-- The text says that the log has no state.
 pub IsFlashText-none : (what : FlashText) (map : SectorMap) (chip : Chip) (text : List ℕ) → state_of map chip ≡ None
     → text ≡ stand_text map chip None → IsFlashText what map chip Refused text
 IsFlashText-none of_flash.State map chip text none is = (none, is ∙ ap (stand_text map chip) (sym none))
 IsFlashText-none of_flash.Slots map chip text none is =
     subst (λ state. IsListingFor map chip state Refused text) (sym none) (refl, is)
 
--- the state
+-- The text is that of the state.
 pub IsShownText-some : (map : SectorMap) (chip : Chip) (state : State) (text : List ℕ) → state_of map chip ≡ Some state
     → text ≡ stand_text map chip (Some state) → IsShownText map chip Done text
 IsShownText-some map chip state text some is =
     (subst (λ one. IsSome one) (sym some) refl, is ∙ ap (stand_text map chip) (sym some))
 
--- the state, and what is found in the slots
+-- The text is that of the state and of the slots.
 pub IsListing-some : (map : SectorMap) (chip : Chip) (state : State) (found : SlotsFound) (answer : Answer) (text : List ℕ)
     → state_of map chip ≡ Some state → AreFound map chip state found → answer ≡ answer_to found.decision
     → text ≡ stand_text map chip (Some state) ++ found_text found → IsListing map chip answer text

@@ -1,4 +1,4 @@
--- An order to read, answered: a flush after it changes nothing.
+-- A flush after the answer of a read-only command changes nothing.
 use Rattle.std.proofs.Common.{ℕ, List, Option, Some, None, rules, subst, sym}
 use Rattle.std.specs.Io.KnownBytes.{Keeps}
 use Rattle.command_line.specs.declared.orders.ReadOrder.{ReadOrder}
@@ -7,7 +7,7 @@ use Rattle.host.specs.declared.answer.Answer.TheVariants.{Done}
 use Rattle.host.specs.Input.{FileBytes}
 use Rattle.inspecting.specs.ReadingEnd.{AnswersReading}
 
--- What is known after it is what was known before; where nothing was known, each case computes.
+-- What was known before the flush is known after it. If nothing was known, each case computes.
 pub AnswersReading-kept : (asked : ReadOrder) (input : Option (List ℕ)) (file : FileBytes)
     (old mid new : Option (List ℕ)) → AnswersReading Done asked input file old mid → Keeps mid new
     → AnswersReading Done asked input file old new

@@ -1,4 +1,4 @@
--- The slots of images that are found one after the other.
+-- The slots of images that are found one by one.
 use Rattle.std.proofs.Common.{ℕ, ◌+◌, List, [], ◌∷◌, ◌++◌, subst, sym}
 use Rattle.std.specs.List.{AllZip, range_with_len}
 use Rattle.common.proofs.Mapped.{AllZip-push}
@@ -9,7 +9,7 @@ use Rattle.inspecting.specs.SlotsFound.{AreSlotsOf, AreSlotsUpTo}
 use Rattle.inspecting.specs.declared.slots_found.ImageSlots.{ImageSlots}
 use Rattle.device_texts.proofs.TextLaws.{range-more}
 
--- those of one image more
+-- The slots of one more image are found.
 pub AreSlotsUpTo-more : (map : SectorMap) (chip : Chip) (state : State) (n : ℕ) (all : List ImageSlots)
     (slots : ImageSlots) → AreSlotsUpTo map chip state n all → AreSlotsOf map chip state n slots
     → AreSlotsUpTo map chip state (n + 1) (all ++ slots ∷ [])

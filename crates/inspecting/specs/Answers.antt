@@ -1,4 +1,4 @@
--- What an answer of a command stands for: what its host held, and what was written.
+-- The meaning of each command's answer: what its host held, and what was written.
 use Rattle.std.specs.Prelude.{◌≡◌, ◌⊎◌, ℕ, List, Option, None, Some, Ok}
 use Rattle.std.specs.Io.KnownBytes.{Appends}
 use Rattle.flash_model.specs.Chip.{Chip}
@@ -21,21 +21,19 @@ use Rattle.inspecting.specs.Slots.{IsListing}
 use Rattle.inspecting.specs.Written.{WritesAnswer}
 use Rattle.inspecting.specs.declared.device_flash.DeviceFlash.{DeviceFlash}
 
--- `choose` read the bytes of a table, and wrote the right report.
+-- `choose` read a table, and wrote the right report.
 abbrev pub AnswersChoice : Answer → Source → Option (List ℕ) → FileBytes
     → Option (List ℕ) → Option (List ℕ) → Type 0
 AnswersChoice answer table input file old new =
     (bytes : List ℕ) × Gives table input file bytes × WritesChoice (Ok answer) bytes old new
 
--- `image` read the bytes of an image, and wrote what it says of itself, or the first check that
--- fails.
+-- `image` read an image, and wrote its description, or the first check that fails.
 abbrev pub AnswersDescription : Answer → Source → Option (List ℕ) → FileBytes
     → Option (List ℕ) → Option (List ℕ) → Type 0
 AnswersDescription answer image input file old new =
     (bytes : List ℕ) × Gives image input file bytes × WritesDescription (Ok answer) bytes old new
 
--- `check` read the bytes of a table and of a report, and wrote whether the report is right for the
--- table.
+-- `check` read a table and a report, and wrote whether the report is right for the table.
 abbrev pub AnswersCheck : Answer → Source → Source → Option (List ℕ) → FileBytes
     → Option (List ℕ) → Option (List ℕ) → Type 0
 AnswersCheck answer table report input file old new =
@@ -43,8 +41,8 @@ AnswersCheck answer table report input file old new =
     × GiveBoth table report input file table_bytes report_bytes
     × WritesVerdict (Ok answer) table_bytes report_bytes old new
 
--- A device file and a second source were read, and this holds of the device and of the second's
--- bytes.
+-- A device file and a second source were read. The device and the bytes of the second source have
+-- this property.
 abbrev pub HoldsOfBoth : Source → Source → Option (List ℕ) → FileBytes
     → (DeviceFile → List ℕ → Type 0) → Type 0
 HoldsOfBoth device second input files holds =
@@ -52,24 +50,24 @@ HoldsOfBoth device second input files holds =
     × GiveBoth device second input files device_bytes bytes × IsDeviceFile device_bytes of_device
     × holds of_device bytes
 
--- So it is, or the answer is `Refused` and says why the sizes of the device file make no map. Then
--- the second source doesn't count.
+-- The device and the bytes of a second source have this property; or the answer is `Refused`, and
+-- says why the sizes of the device file make no map. In the second case the second source doesn't
+-- matter.
 abbrev pub AnswersForDevice : Answer → Source → Source → Option (List ℕ) → FileBytes
     → Option (List ℕ) → Option (List ℕ) → (DeviceFile → List ℕ → Type 0) → Type 0
 AnswersForDevice answer device second input files old new holds =
     HoldsOfBoth device second input files holds
     ⊎ ((answer ≡ Refused) × RefusesMap device input files old new)
 
--- `manifest` read the bytes of a device file and of a manifest, and wrote what the manifest says to
--- the device, or the lowest refusal that applies.
+-- `manifest` read a device file and a manifest, and wrote what the manifest contains, or the lowest
+-- refusal that applies.
 abbrev pub AnswersManifest : Answer → Source → Source → Option (List ℕ) → FileBytes
     → Option (List ℕ) → Option (List ℕ) → Type 0
 AnswersManifest answer device file input files old new =
     AnswersForDevice answer device file input files old new
     (λ of_device bytes. WritesManifest (Ok answer) of_device.identity bytes old new)
 
--- A command read the bytes of a device file and those of its flash, and wrote a text that this flash
--- has.
+-- A command read a device file and the flash of the device, and wrote this text of the flash.
 abbrev pub AnswersForFlash : (SectorMap → Chip → Answer → List ℕ → Type 0) → Answer → Source
     → Source → Option (List ℕ) → FileBytes → Option (List ℕ) → Option (List ℕ) → Type 0
 AnswersForFlash has_text answer device flash input files old new =
@@ -95,8 +93,8 @@ AnswersCodes Done old new = Appends old new REFUSALS.now
 AnswersCodes Refused old new = ⊥
 AnswersCodes Cut old new = ⊥
 
--- What was read of a device file and of the flash of its device: both, and the writer took nothing;
--- or none, for the sizes of the device file make no map, and the writer took why.
+-- A device file and the flash of its device were read, and nothing was written; or the sizes of the
+-- device file make no map, and that was written.
 abbrev pub ReadsDeviceFlash : Option DeviceFlash → Source → Source → Option (List ℕ) → FileBytes
     → Option (List ℕ) → Option (List ℕ) → Type 0
 ReadsDeviceFlash (Some read) device flash input files old new =

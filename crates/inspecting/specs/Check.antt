@@ -1,4 +1,4 @@
--- What a check of a report for a table writes, by how it ends.
+-- What `check` writes for a table and a report, by its result.
 use Rattle.std.specs.Prelude.{◌≡◌, ℕ, List, [], ◌∷◌, ◌++◌, Option, Result, Err, codes}
 use Rattle.std.specs.Io.KnownBytes.{Keeps}
 use Rattle.certificate.specs.declared.table.Table.{Table}
@@ -20,32 +20,31 @@ pub record IsRightText (table_text report_text : List ℕ) (table : Table) (repo
   pub report_spelled : IsReportText report_text report
   pub right : IsRight table report
 
--- The second text is a right report for the table of the first ..
+-- The second text is a report that is right for the table of the first.
 abbrev pub AreRight : List ℕ → List ℕ → Type 0
 AreRight table_text report_text =
     (table : Table) × (report : Report) × IsRightText table_text report_text table report
 
--- .. or they are texts of a table and of a report, and it isn't.
+-- The texts are those of a table and of a report, and the report isn't right for the table.
 abbrev pub AreWrong : List ℕ → List ℕ → Type 0
 AreWrong table_text report_text =
     IsSomeTable table_text × IsSomeReport report_text × (AreRight table_text report_text → ⊥)
 
--- The lines that are written. A line feed is 10.
+-- The lines of the verdict. A line feed is 10.
 abbrev pub yes_text : List ℕ
 yes_text = codes "yes" ++ 10 ∷ []
 
 abbrev pub no_text : List ℕ
 no_text = codes "no" ++ 10 ∷ []
 
--- The verdict on these texts, by the answer: yes is `Done` and no is `Refused`.
+-- The verdict on these texts. The answer is `Done` for yes and `Refused` for no.
 abbrev pub IsVerdict : List ℕ → List ℕ → Answer → List ℕ → Type 0
 IsVerdict table report Done verdict = AreRight table report × (verdict ≡ yes_text)
 IsVerdict table report Refused verdict = AreWrong table report × (verdict ≡ no_text)
 IsVerdict table report Cut verdict = ⊥
 
--- What a writer takes, by how the check of these texts ends: nothing if one of them is no such text,
--- of which the table is checked first, and else what is written of the verdict. It is made without
--- memory.
+-- What a writer takes, by the result of checking these texts. It takes nothing if one of them isn't
+-- such a text; the table is checked first. Else it takes the verdict, which needs no memory.
 abbrev pub WritesVerdict : Result Answer Refusal → List ℕ → List ℕ
     → Option (List ℕ) → Option (List ℕ) → Type 0
 WritesVerdict (Err (TableLine n)) table report old new =

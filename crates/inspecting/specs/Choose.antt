@@ -1,4 +1,4 @@
--- What a choice over a table writes, by how it ends, and what it leaves of a reader.
+-- What `choose` reads and writes, by its result.
 use Rattle.std.specs.Prelude.{◌≡◌, ℕ, List, Option, Result, Ok, Err}
 use Rattle.std.specs.Io.KnownBytes.{Keeps, Consumes, IsAtEnd}
 use Rattle.certificate.specs.declared.table.Table.{Table}
@@ -17,8 +17,8 @@ use Rattle.inspecting.specs.Written.{WritesAnswer}
 use Rattle.inspecting.specs.declared.choose.ChooseEnd.{ChooseEnd}
 use Rattle.inspecting.specs.declared.choose.ChooseEnd.TheVariants.{Done, BadLine, NotValid, NoMemory, ReadFailed, WriteFailed}
 
--- The bytes spell a table whose running images fit each other, and the report is right for it, with
--- its refusals in standard order. What is printed of the report is a text of it.
+-- The bytes spell a table whose running images fit each other. The report is right for it, and has
+-- its refusals in standard order. The printed text of the report is a text of this report.
 pub record IsChoice (bytes : List ℕ) (table : Table) (report : Report) : Type 0 where
   pub spelled : IsTableText bytes table
   pub valid : IsValid table running_set
@@ -31,7 +31,7 @@ abbrev pub IsUnfitTable : List ℕ → Type 0
 IsUnfitTable bytes =
     (table : Table) × IsTableText bytes table × (IsValid table running_set → ⊥)
 
--- The text is that of the choice over the table that the bytes spell. The answer is always `Done`.
+-- The text is the report on the table that the bytes spell. The answer is always `Done`.
 abbrev pub IsChoiceText : List ℕ → Answer → List ℕ → Type 0
 IsChoiceText bytes ok.Done text =
     (table : Table) × (report : Report) × IsChoice bytes table report
@@ -39,8 +39,8 @@ IsChoiceText bytes ok.Done text =
 IsChoiceText bytes ok.Refused text = ⊥
 IsChoiceText bytes ok.Cut text = ⊥
 
--- What a writer takes, by how the choice over these bytes ends: nothing if they are no table with a
--- valid running set, and else what is written of the report.
+-- What a writer takes, by the result of the choice over these bytes. It takes nothing if they are
+-- no table with a valid running set, else the report.
 abbrev pub WritesChoice : Result Answer Refusal → List ℕ
     → Option (List ℕ) → Option (List ℕ) → Type 0
 WritesChoice (Err (no.TableLine n)) bytes old new =
@@ -52,8 +52,8 @@ WritesChoice result bytes old new = WritesAnswer (IsChoiceText bytes) result old
 abbrev pub GivesAll : Option (List ℕ) → Option (List ℕ) → List ℕ → Type 0
 GivesAll old new bytes = Consumes old new bytes × IsAtEnd new
 
--- What a reader gave, by how the choice ended: these bytes, and they are all unless memory or a
--- read failed.
+-- What a reader gave, by the end of the choice. It is all bytes, unless memory ran out or a read
+-- failed.
 abbrev pub Reads : ChooseEnd → Option (List ℕ) → Option (List ℕ) → List ℕ → Type 0
 Reads NoMemory old new bytes = Consumes old new bytes
 Reads ReadFailed old new bytes = Consumes old new bytes
@@ -62,7 +62,7 @@ Reads (BadLine n) old new bytes = GivesAll old new bytes
 Reads NotValid old new bytes = GivesAll old new bytes
 Reads WriteFailed old new bytes = GivesAll old new bytes
 
--- What a writer took, by how the choice over these bytes ended.
+-- What a writer took, by the end of the choice over these bytes.
 abbrev pub Writes : ChooseEnd → List ℕ → Option (List ℕ) → Option (List ℕ) → Type 0
 Writes Done bytes old new = WritesChoice (Ok ok.Done) bytes old new
 Writes (BadLine n) bytes old new = WritesChoice (Err (no.TableLine n)) bytes old new

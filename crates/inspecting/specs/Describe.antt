@@ -1,4 +1,4 @@
--- What a description of an image writes, by how it ends.
+-- What `image` writes, by its result.
 use Rattle.std.specs.Prelude.{◌≡◌, ℕ, List, Option, Result}
 use Rattle.image_reading.specs.declared.desc.Desc.{Desc}
 use Rattle.image_reading.specs.declared.error.ImageError.{ImageError}
@@ -10,8 +10,7 @@ use Rattle.host.specs.declared.error.Refusal.{Refusal}
 use Rattle.inspecting.specs.ImageText.{description_text, refusal_text}
 use Rattle.inspecting.specs.Written.{WritesAnswer}
 
--- The text of each answer: what the intact image says of itself that the bytes are, or the first
--- check that fails.
+-- The text of each answer: the description of the intact image, or the first check that fails.
 abbrev pub IsImageText : List ℕ → Answer → List ℕ → Type 0
 IsImageText bytes Done text =
     (description : Desc) × IsIntact bytes description × (text ≡ description_text description)
@@ -19,7 +18,7 @@ IsImageText bytes Refused text =
     (fault : ImageError) × IsFirstFault bytes fault × (text ≡ refusal_text fault)
 IsImageText bytes Cut text = ⊥
 
--- What a writer takes, by how the description of these bytes ends.
+-- What a writer takes, by the result of describing these bytes.
 abbrev pub WritesDescription : Result Answer Refusal → List ℕ
     → Option (List ℕ) → Option (List ℕ) → Type 0
 WritesDescription result bytes old new = WritesAnswer (IsImageText bytes) result old new

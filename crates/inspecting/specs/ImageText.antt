@@ -1,4 +1,4 @@
--- What is printed of an image.
+-- The text of an image's description.
 use Rattle.std.specs.Prelude.{ℕ, List, ◌++◌, codes, decimal}
 use Rattle.hex.specs.Hex.{encode_lower}
 use Rattle.common.specs.Lines.{printed_lines}
@@ -10,7 +10,7 @@ use Rattle.image_reading.specs.Codes.{code_of, name_of}
 use Rattle.device_texts.specs.AnswerText.{line_text, refused_text}
 use Rattle.inspecting.specs.declared.image.Described.{Described}
 
--- The lines of a description whose digest has these digits.
+-- The lines of a description. These are the digits of its digest.
 abbrev pub lines_of : Desc → List ℕ → List ℕ
 lines_of description digits =
     line_text (codes "version") (version_text description.version)
@@ -23,11 +23,11 @@ lines_of description digits =
 abbrev pub described_text : Described → List ℕ
 described_text described = lines_of described.description.now described.digest.now
 
--- What an image says of itself: a line for each field, the digest in lower case digits, one for
--- each dependency, and one for each group.
+-- The description of an image: a line for each field, with the digest in lower case digits, then a
+-- line for each dependency and each group.
 abbrev pub description_text : Desc → List ℕ
 description_text description = lines_of description (encode_lower description.digest)
 
--- The first check that fails: its number and its name.
+-- The line of the first check that fails: its number and its name.
 abbrev pub refusal_text : ImageError → List ℕ
 refusal_text fault = refused_text (code_of fault) (name_of fault)

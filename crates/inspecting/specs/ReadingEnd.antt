@@ -1,4 +1,4 @@
--- What an order to read was answered with.
+-- The answer to an order of a read-only command.
 use Rattle.std.specs.Prelude.{ℕ, List, Option}
 use Rattle.command_line.specs.declared.orders.ReadOrder.{ReadOrder}
 use Rattle.command_line.specs.declared.orders.ReadOrder.TheVariants as order
@@ -7,7 +7,7 @@ use Rattle.host.specs.declared.source.Source.{Source}
 use Rattle.host.specs.Input.{AreNamed, FileBytes, IsNamed}
 use Rattle.inspecting.specs.Answers.{AnswersCheck, AnswersChoice, AnswersCodes, AnswersDescription, AnswersManifest, AnswersShow, AnswersSlots}
 
--- What stands for the answer to an order, by the command that it asks for.
+-- The meaning of the answer to an order of this command.
 abbrev pub AnswersReading : Answer → ReadOrder → Option (List ℕ) → FileBytes
     → Option (List ℕ) → Option (List ℕ) → Type 0
 AnswersReading answer (order.Choose table) input file old new =

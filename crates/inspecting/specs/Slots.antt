@@ -1,4 +1,4 @@
--- What a list of the slots of a flash writes, by its answer.
+-- What `slots` writes about a flash, by its answer.
 use Rattle.std.specs.Prelude.{◌≡◌, ℕ, List, ◌++◌, Option, None, Some}
 use Rattle.flash_model.specs.Chip.{Chip}
 use Rattle.sector_map.specs.declared.layout.SectorMap.{SectorMap}
@@ -13,15 +13,15 @@ use Rattle.inspecting.specs.SlotsFound.{AreFound}
 use Rattle.inspecting.specs.SlotsText.{found_text}
 use Rattle.inspecting.specs.declared.slots_found.SlotsFound.{SlotsFound}
 
--- The answer, by what the next boot would decide: whether it would be refused.
+-- The answer if the next boot would decide this. It is `Refused` if the boot would be refused.
 abbrev pub answer_to : Option Finding → Answer
 answer_to None = Done
 answer_to (Some (Decided table report)) = Done
 answer_to (Some (Damaged image)) = Refused
 answer_to (Some Invalid) = Refused
 
--- The text of each answer for a flash whose log has this state, or none: the state, and what is found
--- in the slots; or that the log has no state.
+-- The text of each answer for a flash whose log has this state: the state and the contents of the
+-- slots, or that the log has no state.
 abbrev pub IsListingFor : SectorMap → Chip → Option State → Answer → List ℕ → Type 0
 IsListingFor map chip None answer text =
     (answer ≡ Refused) × (text ≡ stand_text map chip None)

@@ -1,4 +1,4 @@
--- What is found in the slots of a device.
+-- What `slots` finds on the flash of a device.
 use Rattle.std.specs.Prelude.{◌≡◌, ◌≢◌, ℕ, List, Option, Some, None, if◌then◌else◌}
 use Rattle.std.specs.List.{AllZip, range_with_len}
 use Rattle.flash_model.specs.Chip.{Chip, IsErased}
@@ -27,13 +27,13 @@ use Rattle.inspecting.specs.declared.slots_found.SlotContent.{SlotContent}
 use Rattle.inspecting.specs.declared.slots_found.SlotContent.TheVariants.{Damaged, Erased, Intact}
 use Rattle.inspecting.specs.declared.slots_found.SlotsFound.{SlotsFound}
 
--- The bytes of a slot are all erased.
+-- All bytes of a slot are erased.
 abbrev pub IsErasedSlot : SectorMap → Chip → ℕ → Side → Type 0
 IsErasedSlot map chip image side =
     IsErased chip (start_of map (Slot image side)) (length_of map (Slot image side))
 
--- What a slot begins with: the intact image that is described so, nothing at all, or bytes of which
--- this is the first check of an image that fails.
+-- What a slot begins with: an intact image with this description, nothing, or bytes that fail this
+-- check of an image first.
 abbrev pub IsContent : SectorMap → Chip → ℕ → Side → SlotContent → Type 0
 IsContent map chip image side (Intact description) =
     BeginsIntact (slot_bytes map chip image side) description
@@ -41,14 +41,14 @@ IsContent map chip image side Erased = IsErasedSlot map chip image side
 IsContent map chip image side (Damaged fault) =
     IsFrontFault (slot_bytes map chip image side) fault × (IsErasedSlot map chip image side → ⊥)
 
--- How far the swap of an image has come that its trailer of a side counts.
+-- The progress of an image's swap, as the trailer of this side counts it.
 abbrev pub progress_of : SectorMap → Chip → Side → ℕ → Progress
 progress_of map chip side image = record {
   taken = status_count_of map chip image side;
   steps = steps_of map chip side image;
 }
 
--- The side of the trailers that count the swap that a record is in the midst of, where it is.
+-- The side whose trailers count the swap during a record of this kind, if it has a swap.
 abbrev pub counting_side : RecordKind → Option Side
 counting_side Steady = None
 counting_side Swap = Some Primary
@@ -61,36 +61,36 @@ abbrev pub progress_on : SectorMap → Chip → ℕ → Option Side → Option P
 progress_on map chip image None = None
 progress_on map chip image (Some side) = Some (progress_of map chip side image)
 
--- How far the swap of an image has come, where the log says that it is under way.
+-- The progress of an image's swap, if the log says that one is under way.
 abbrev pub moved_in : SectorMap → Chip → State → ℕ → Option Progress
 moved_in map chip state image =
     if is_member state.mask image
     then progress_on map chip image (counting_side state.kind) else None
 
--- What is found of an image.
+-- The slots of an image.
 pub record AreSlotsOf (map : SectorMap) (chip : Chip) (state : State) (number : ℕ)
     (slots : ImageSlots) : Type 0 where
   pub image : slots.image ≡ number
   pub primary : IsContent map chip number Primary slots.primary
   pub secondary : IsContent map chip number Secondary slots.secondary
-  -- The request that stands, of this kind, or none.
+  -- The kind of the pending request, if there is one.
   pub request : slots.request ≡ standing_of map chip number
   pub moved : slots.moved ≡ moved_in map chip state number
 
--- What is found of the first images, one after the other.
+-- The slots of the first n images, in order.
 abbrev pub AreSlotsUpTo : SectorMap → Chip → State → ℕ → List ImageSlots → Type 0
 AreSlotsUpTo map chip state n all =
     AllZip (AreSlotsOf map chip state) (range_with_len 0 n) all
 
--- What the next boot would decide of a device at rest: the table is that of the device's state, and
--- what is told of it is the decision; or the lowest running image is told that can't be read.
+-- The decision of the next boot of a device at rest. The finding is that of the state that the
+-- device holds: the decision over its table, or the lowest running image that can't be read.
 pub record IsNextDecision (map : SectorMap) (chip : Chip) (floors : List ℕ) (finding : Finding)
     : Type 0 where
   pub of : (s : DeviceState) → CanRead (view map chip) s 0 floors → IsFinding s finding
   pub front : IsFindingAt (view map chip) 0 finding
 
--- There is one where the log says that the device is at rest, and nowhere else: else what was begun
--- goes on.
+-- The decision of the next boot is found exactly if the log says that the device is at rest. Else
+-- the boot continues what was begun.
 pub record IsDecisionOf (map : SectorMap) (chip : Chip) (state : State) (found : Option Finding)
     : Type 0 where
   pub rests : state.kind ≡ Steady

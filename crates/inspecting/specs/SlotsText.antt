@@ -1,4 +1,4 @@
--- What is printed of the slots of a device.
+-- The text of what `slots` finds on the flash of a device.
 use Rattle.std.specs.Prelude.{ℕ, List, [], ◌++◌, Option, Some, None, codes, decimal}
 use Rattle.std.specs.List.{flat_map}
 use Rattle.common.specs.Lines.{◌␣◌}
@@ -18,31 +18,31 @@ use Rattle.inspecting.specs.declared.slots_found.SlotContent.{SlotContent}
 use Rattle.inspecting.specs.declared.slots_found.SlotContent.TheVariants.{Damaged, Erased, Intact}
 use Rattle.inspecting.specs.declared.slots_found.SlotsFound.{SlotsFound}
 
--- What a slot begins with.
+-- The text of what a slot begins with.
 abbrev pub content_text : SlotContent → List ℕ
 content_text (Intact description) = description_text description
 content_text Erased = codes "erased\n"
 content_text (Damaged fault) =
     line_text (codes "damaged") (decimal (code_of fault) ␣ name_of fault)
 
--- The request that stands.
+-- The word for the pending request.
 abbrev pub request_text : Option Kind → List ℕ
 request_text (Some request.Test) = codes "test"
 request_text (Some request.Permanent) = codes "permanent"
 request_text None = codes "none"
 
--- How far an open swap has come.
+-- The line of an open swap: the steps taken, and all steps.
 abbrev pub moved_text : ℕ → Option Progress → List ℕ
 moved_text image None = []
 moved_text image (Some progress) =
     line_text (codes "moved")
     (decimal image ␣ decimal progress.taken ␣ codes "of" ␣ decimal progress.steps)
 
--- The line above what a slot begins with.
+-- The line before what a slot begins with.
 abbrev pub slot_line : ℕ → List ℕ → List ℕ
 slot_line image side = line_text (codes "slot") (decimal image ␣ side)
 
--- What is found of an image.
+-- The text of an image's slots.
 abbrev pub image_text : ImageSlots → List ℕ
 image_text slots =
     slot_line slots.image (codes "primary") ++ (content_text slots.primary
@@ -50,13 +50,13 @@ image_text slots =
     ++ (line_text (codes "request") (decimal slots.image ␣ request_text slots.request)
     ++ moved_text slots.image slots.moved))))
 
--- What the next boot would answer of its decision.
+-- The text of the decision of the next boot.
 abbrev pub decision_text : Option Finding → List ℕ
 decision_text None = []
 decision_text (Some (finding.Decided table report)) = report_text report
 decision_text (Some (finding.Damaged image)) = refused_fault_text (RunningDamaged image)
 decision_text (Some finding.Invalid) = refused_fault_text InvalidSet
 
--- All that is found.
+-- The text of all that is found.
 abbrev pub found_text : SlotsFound → List ℕ
 found_text found = flat_map image_text found.images.items ++ decision_text found.decision

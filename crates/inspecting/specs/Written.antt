@@ -1,4 +1,4 @@
--- What a command writes, by how it ends.
+-- What a command writes, by its result.
 use Rattle.std.specs.Prelude.{◌≡◌, ◌⊎◌, ℕ, List, take, Option, Result, Ok, Err}
 use Rattle.std.specs.Io.KnownBytes.{Keeps, Appends}
 use Rattle.host.specs.declared.answer.Answer.{Answer}
@@ -21,8 +21,8 @@ abbrev pub IsCutShort : (Answer → List ℕ → Type 0) → Option (List ℕ) �
 IsCutShort has_text old new =
     (answer : Answer) × (text : List ℕ) × has_text answer text × TakesPrefix text old new
 
--- What a writer takes, by how a command ends whose answers have these texts: the text of the answer,
--- a prefix of one if a write fails, and nothing if memory runs out.
+-- What a writer takes, by the result of a command whose answers have these texts. It takes the text
+-- of the answer, a prefix of one if a write fails, and nothing if memory runs out.
 abbrev pub WritesAnswer : (Answer → List ℕ → Type 0) → Result Answer Refusal
     → Option (List ℕ) → Option (List ℕ) → Type 0
 WritesAnswer has_text (Ok answer) old new =

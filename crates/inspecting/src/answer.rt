@@ -11,7 +11,7 @@ use std::io::Write;
 /// Writes the text of an answer to `out`, and returns the answer.
 ///
 /// # Errors
-/// `CannotWrite` if a write fails: then `out` holds a prefix of the text.
+/// `CannotWrite` if a write fails. Then `out` has taken a prefix of the text.
 pub(crate) fn write_text<W: Write>(
     answer: Answer,
     text: &str,
@@ -25,11 +25,11 @@ pub(crate) fn write_text<W: Write>(
     }
 }
 
-/// Writes the text of an answer to `out`, and returns the answer. The text was made in memory: if
-/// that ran out, nothing is written.
+/// Writes the text of an answer to `out`, and returns the answer. `text` is an error if memory ran
+/// out for it. Then nothing is written.
 ///
 /// # Errors
-/// `NoMemory` if there is no text; `CannotWrite` if a write fails.
+/// `NoMemory` if there is no text, `CannotWrite` if a write fails.
 pub(crate) fn write_answer<W: Write>(
     answer: Answer,
     text: Result<String, AllocError>,

@@ -1,4 +1,4 @@
-//! `bootswap check`: whether a report is right for a table.
+//! `bootswap check`: verifies that a report is right for a table.
 ghost use Rattle.std.specs.Prelude.{IfOk};
 ghost use Rattle.inspecting.specs.Answers.{AnswersCheck};
 ghost use Rattle.inspecting.specs.Check.{WritesVerdict};
@@ -10,8 +10,8 @@ use host::{Answer, Host, Refusal, Source};
 use std::alloc::Global;
 use std::io::Write;
 
-/// Reads both texts from `host` into memory of `alloc`, and writes the verdict to `out`. The table
-/// is checked before the report is read.
+/// Reads a table and a report from `host` into memory of `alloc`, and writes the verdict to `out`.
+/// The table is checked before the report is read.
 pub fn run_check<H: Host, O: Write>(
     alloc: Global,
     table: Source<'_>,
@@ -30,13 +30,15 @@ pub fn run_check<H: Host, O: Write>(
     check_over(&table, &report, out)
 }
 
-/// Writes to `out` whether the report that the second text spells is right for the table that the
-/// first one spells: `yes` and answers `Done`, or `no` and answers `Refused`. It doesn't allocate.
+/// Writes to `out` whether a report is right for a table: `yes` with the answer `Done`, or `no`
+/// with the answer `Refused`.
+///
+/// `table` and `report` are the bytes of their texts. Does not allocate.
 ///
 /// # Errors
-/// `TableLine` if the first text is no table, else `ReportLine` if the second is no report, each
-/// with the first line, from 1, that no such text goes on from. Then nothing is written.
-/// `CannotWrite` if a write fails: then `out` holds a prefix of the verdict.
+/// `TableLine` if the first text isn't a table, else `ReportLine` if the second isn't a report.
+/// Each has the number, from 1, of the first line that no such text continues from. Then nothing is
+/// written. `CannotWrite` if a write fails. Then `out` has taken a prefix of the verdict.
 pub fn check_over<W: Write>(table: &[u8], report: &[u8], out: &mut W) -> Result<Answer, Refusal>
     ensures { WritesVerdict result table.now report.now (W.contents out.old) (W.contents out.new) }
 {

@@ -1,4 +1,4 @@
-//! `bootswap choose`: the choice over a table, whose report is written.
+//! `bootswap choose`: decides over a table, and writes the report.
 ghost use Rattle.std.specs.Prelude.{ℕ, List, IfOk};
 ghost use Rattle.inspecting.specs.Answers.{AnswersChoice};
 ghost use Rattle.inspecting.specs.Choose.{Reads, Writes, WritesChoice};
@@ -12,8 +12,7 @@ use host::{Answer, Host, Refusal, Source};
 use std::alloc::Global;
 use std::io::{Read, Write};
 
-/// Reads a table from `host` into memory of `alloc`, and writes the report of the choice over it to
-/// `out`.
+/// Reads a table from `host` into memory of `alloc`, and writes the report on it to `out`.
 pub fn run_choose<H: Host, O: Write>(
     alloc: Global,
     table: Source<'_>,
@@ -30,10 +29,10 @@ pub fn run_choose<H: Host, O: Write>(
 /// How a choice over a reader and a writer ended.
 #[derive(Clone, Copy)]
 pub enum ChooseEnd {
-    /// The report is written.
+    /// The complete report is written.
     Done,
-    /// The input is no table. The number, from 1, is that of the first line that no table goes on
-    /// from.
+    /// The input isn't a table. The number, from 1, is that of the first line that no table
+    /// continues from.
     BadLine(usize),
     /// The input is a table whose running images don't fit each other.
     NotValid,
@@ -41,14 +40,14 @@ pub enum ChooseEnd {
     NoMemory,
     /// The input could not be read to its end.
     ReadFailed,
-    /// The report could not be written: the writer holds a prefix of it.
+    /// The report could not be written. The writer has taken a prefix of it.
     WriteFailed,
 }
 
-/// Reads a table from `input`, to its end, and writes to `out` the report of the choice over it.
+/// Reads `input` to its end, decides over the table that it holds, and writes the report to `out`.
 ///
-/// The input and the report are held in memory of `alloc`. Nothing is written but the report, and
-/// unless the end is `Done` or `WriteFailed` nothing at all.
+/// The input and the report are in memory of `alloc`. Nothing but the report is written, and that
+/// only if the end is `Done` or `WriteFailed`.
 pub fn choose_over<R: Read, W: Write>(alloc: Global, input: &mut R, out: &mut W) -> ChooseEnd
     ensures { (bytes : List ℕ)
         × Reads result (R.remaining input.old) (R.remaining input.new) bytes
@@ -68,12 +67,12 @@ pub fn choose_over<R: Read, W: Write>(alloc: Global, input: &mut R, out: &mut W)
     }
 }
 
-/// Writes to `out` the report of the choice over the table that `bytes` spell, made in memory of
+/// Writes to `out` the report on the table that `bytes` spell. The report is made in memory of
 /// `alloc`.
 ///
 /// # Errors
-/// `TableLine` if the bytes are no table, `NotValid` if its running images don't fit each other,
-/// and `NoMemory`: then nothing is written. `CannotWrite` if a write fails.
+/// `TableLine` if the bytes aren't a table, `NotValid` if its running images don't fit each other,
+/// `NoMemory` if memory runs out. Then nothing is written. `CannotWrite` if a write fails.
 fn write_choice<W: Write>(alloc: Global, bytes: &[u8], out: &mut W) -> Result<Answer, Refusal>
     ensures { WritesChoice result bytes.now (W.contents out.old) (W.contents out.new) }
 {

@@ -1,4 +1,4 @@
-//! `bootswap codes`: what the codes and names of refusals say.
+//! `bootswap codes`: lists the codes and names of all refusals.
 ghost use Rattle.std.specs.Prelude.{IfOk};
 ghost use Rattle.inspecting.specs.Answers.{AnswersCodes};
 

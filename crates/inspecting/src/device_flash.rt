@@ -1,4 +1,4 @@
-//! What `show` and `slots` read: a device file and the bytes of the device's flash.
+//! Reads the inputs of `show` and `slots`: a device file and the flash of the device.
 ghost use Rattle.std.specs.Prelude.{◌≡◌, IfOk};
 ghost use Rattle.host.specs.Input.{KeepsFiles};
 ghost use Rattle.inspecting.specs.Answers.{ReadsDeviceFlash};
@@ -16,9 +16,9 @@ pub(crate) struct DeviceFlash {
     pub bytes: Vec<u8>,
 }
 
-/// Reads a device file and the bytes of the device's flash from `host` into memory of `alloc`.
-/// There are none if the sizes of the device file make no map: then that is written to `out`,
-/// before the flash is read. No file is changed, and the flash is opened to be read alone.
+/// Reads a device file and the bytes of the device's flash from `host` into memory of `alloc`. If
+/// the sizes of the device file make no map, that is written to `out`, and `None` is returned; the
+/// flash isn't read then. No file changes, and the flash is opened only for reading.
 pub(crate) fn read_device_flash<H: Host, O: Write>(
     alloc: Global,
     device: Source<'_>,

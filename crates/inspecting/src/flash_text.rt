@@ -1,4 +1,4 @@
-//! `bootswap show` and `bootswap slots`: what is written of the flash of a device.
+//! `bootswap show` and `bootswap slots`: print the state of a device from its flash.
 ghost use Rattle.std.specs.Prelude.{◌≡◌, IfOk};
 ghost use Rattle.device_texts.specs.FlashOf.{IsFlashOf, flash_of};
 ghost use Rattle.host.specs.Input.{KeepsFiles};
@@ -18,20 +18,21 @@ use std::io::Write;
 use std::marker::Brand;
 use std::sync::ledger::{Blank, Ledger};
 
-/// What is written of a flash.
+/// What to write about a flash.
 #[derive(Clone, Copy)]
 pub enum FlashText {
-    /// The state that its log has, and what its trailers ask of a boot.
+    /// The state of its log, and what its trailers ask of the next boot.
     State,
-    /// The same, what its slots hold, and for a device at rest what the next boot would decide:
+    /// The same, and what its slots hold. For a device at rest also the decision of the next boot:
     /// which images would run, and why each other request would be refused.
     Slots,
 }
 
 /// Reads a device file and the bytes of the device's flash from `host` into memory of `alloc`, and
-/// writes this of the flash to `out`. The device file is checked before the flash is read: if its
-/// sizes make no map, that is written. No file is changed, and the flash is opened to be read
-/// alone.
+/// writes `text` about the flash to `out`.
+///
+/// The device file is checked before the flash is read. If its sizes make no map, that is written
+/// instead. No file changes, and the flash is opened only for reading.
 pub fn run_flash_text<H: Host, O: Write>(
     alloc: Global,
     text: FlashText,
@@ -53,16 +54,16 @@ pub fn run_flash_text<H: Host, O: Write>(
     flash_text_over::<Brand, O>(alloc, Blank::new(2), &map, found.bytes, text, out)
 }
 
-/// Writes this of the flash of these bytes to `out`, and answers `Done`. If its log has no state,
-/// it writes that alone. It answers `Refused` then, and if the next boot that it writes about would
-/// be refused.
+/// Writes `text` about a flash of these bytes to `out`, and answers `Done`. If its log has no
+/// state, it writes only that, and answers `Refused`. It also answers `Refused` if the next boot
+/// that it writes about would be refused.
 ///
-/// The text is made in memory of `alloc` before it is written. The ledger's token has two parts, as
-/// `Blank::new(2)` makes it.
+/// The text is made in memory of `alloc` before it is written. `blank` is a ledger's token of two
+/// parts, as `Blank::new(2)` makes it.
 ///
 /// # Errors
-/// `NoMemory` if memory runs out: then nothing is written. `CannotWrite` if a write fails: then
-/// `out` holds a prefix of the text.
+/// `NoMemory` if memory runs out. Then nothing is written. `CannotWrite` if a write fails. Then
+/// `out` has taken a prefix of the text.
 pub fn flash_text_over<L: Ledger, W: Write>(
     alloc: Global,
     blank: Blank,

@@ -1,4 +1,4 @@
-//! `bootswap image`: what an image says of itself, or the check that it fails.
+//! `bootswap image`: prints the description of an image, or the check that it fails.
 ghost use Rattle.std.specs.Fmt.{WritesOnOk};
 ghost use Rattle.std.specs.Prelude.{◌≡◌, IfOk, Some, string_bytes};
 ghost use Rattle.inspecting.specs.Answers.{AnswersDescription};
@@ -17,8 +17,8 @@ use std::fmt;
 use std::io::Write;
 use version_order::{Dependency, Group};
 
-/// Reads an image from `host` into memory of `alloc`, and writes to `out` what it says of itself,
-/// or the first check that fails.
+/// Reads an image from `host` into memory of `alloc`, and writes to `out` its description, or the
+/// first check that fails.
 pub fn run_image<H: Host, O: Write>(
     alloc: Global,
     image: Source<'_>,
@@ -32,14 +32,14 @@ pub fn run_image<H: Host, O: Write>(
     describe_over(alloc, &bytes, out)
 }
 
-/// Writes to `out` what the image says of itself that `bytes` are, and answers `Done`. If they are
-/// no intact image it writes the first check that fails, and answers `Refused`.
+/// Writes to `out` the description of the image that `bytes` are, and answers `Done`. If they
+/// aren't an intact image, it writes the first check that fails, and answers `Refused`.
 ///
 /// The text is made in memory of `alloc` before it is written.
 ///
 /// # Errors
-/// `NoMemory` if that runs out: then nothing is written. `CannotWrite` if a write fails: then `out`
-/// holds a prefix of the text.
+/// `NoMemory` if memory runs out. Then nothing is written. `CannotWrite` if a write fails. Then
+/// `out` has taken a prefix of the text.
 pub fn describe_over<W: Write>(alloc: Global, bytes: &[u8], out: &mut W) -> Result<Answer, Refusal>
     ensures { WritesDescription result bytes.now (W.contents out.old) (W.contents out.new) }
 {
@@ -51,7 +51,7 @@ pub fn describe_over<W: Write>(alloc: Global, bytes: &[u8], out: &mut W) -> Resu
     }
 }
 
-/// What an image says of itself.
+/// The text of a description.
 pub(crate) fn description_text(alloc: Global, description: &Desc) -> Result<String, AllocError>
     ensures { IfOk result (λ text. string_bytes text ≡ description_text description.now) }
 {
@@ -63,14 +63,14 @@ pub(crate) fn description_text(alloc: Global, description: &Desc) -> Result<Stri
     format!(in alloc; "{described}")
 }
 
-/// The first check that fails, by its number and its name.
+/// The line of the first check that fails: its number and its name.
 fn refusal_text(alloc: Global, fault: ImageError) -> Result<String, AllocError>
     ensures { IfOk result (λ text. string_bytes text ≡ refusal_text fault) }
 {
     refused_text(alloc, fault.code(), fault.name())
 }
 
-/// A description to print, with the digits of its digest.
+/// A description and the digits of its digest, to print.
 #[derive(Drop)]
 struct Described<'d, 't> {
     description: &'d Desc,
@@ -94,7 +94,7 @@ impl fmt::Display for Described<'_, '_> {
     }
 }
 
-// A line for each dependency.
+/// Writes a line for each dependency.
 fn write_needs<W: fmt::Write>(f: &mut fmt::Formatter<W>, dependencies: &[Dependency]) -> fmt::Result
     ensures { WritesOnOk W.write_str_gives f.old result
         (printed_lines needs_text dependencies.now) f.new }
@@ -106,7 +106,7 @@ fn write_needs<W: fmt::Write>(f: &mut fmt::Formatter<W>, dependencies: &[Depende
     Ok(())
 }
 
-// A line for each group.
+/// Writes a line for each group.
 fn write_groups<W: fmt::Write>(f: &mut fmt::Formatter<W>, groups: &[Group]) -> fmt::Result
     ensures { WritesOnOk W.write_str_gives f.old result
         (printed_lines needs_one_text groups.now) f.new }

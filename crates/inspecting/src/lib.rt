@@ -1,15 +1,15 @@
 //! The read-only commands: `choose`, `check`, `image`, `manifest`, `show`, `slots` and `codes`.
 //!
-//! - Promises: Exactly the text of the answer is written, or why the bytes have none; if a write
-//!   fails, a prefix of it. A command answers `Done` only if that was done for the contents of the
-//!   named files.
+//! - Promises: Exactly the text of the answer is written, or of the refusal. If a write fails, a
+//!   prefix of the text is. A command answers `Done` only if its answer is the one for the contents
+//!   of the named files.
 //! - Main calls: `choose_over`, `check_over`, `describe_over`, `tell_over`, `flash_text_over`,
 //!   `run_inspection`
 //! - Allocates: the input, a flash in memory, the text of the answer.
 //! - Callers: `boot_cli`
 //!
-//! Each has a module. Its `run_` function reads the files that the arguments name, and its `_over`
-//! function writes the answer for bytes in memory.
+//! Each command has a module. Its `run_` function reads the files that the arguments name, and its
+//! `_over` function writes the answer for bytes in memory.
 #![tactic(auto)]
 
 mod answer;

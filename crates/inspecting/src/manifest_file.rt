@@ -1,4 +1,4 @@
-//! `bootswap manifest`: what a manifest says to a device, or why it is none for it.
+//! `bootswap manifest`: prints the contents of a manifest for a device, or why it isn't one.
 ghost use Rattle.std.specs.Prelude.{◌≡◌, ◌≢◌, ◌∷◌, ◌++◌, [], IfOk, string_bytes};
 ghost use Rattle.inspecting.specs.Answers.{AnswersManifest};
 ghost use Rattle.inspecting.specs.ManifestFile.{WritesManifest};
@@ -14,10 +14,11 @@ use manifest::{Component, Identity, Manifest, ManifestError};
 use std::alloc::{AllocError, Global};
 use std::io::Write;
 
-/// Reads a device file and a manifest from `host` into memory of `alloc`, and writes to `out` what
-/// the manifest says to the device, or why it is none for it. The JSON values of both files are in
-/// that memory too. The device file is checked before the manifest is read: if its sizes make no
-/// map, that is written.
+/// Reads a device file and a manifest from `host`, and writes to `out` the contents of the
+/// manifest, or why it isn't a manifest for the device.
+///
+/// Both files and their JSON values are in memory of `alloc`. The device file is checked before the
+/// manifest is read. If its sizes make no map, that is written.
 pub fn run_manifest<H: Host, O: Write>(
     alloc: Global,
     device: Source<'_>,
@@ -35,15 +36,15 @@ pub fn run_manifest<H: Host, O: Write>(
     tell_over(alloc, &bytes, &of_device.identity, out)
 }
 
-/// Writes to `out` what the manifest says that `bytes` are to a device of this identity, and
-/// answers `Done`. If they are none for it, it writes the lowest refusal that applies, and answers
-/// `Refused`.
+/// Writes to `out` the contents of the manifest that `bytes` are for a device of this identity, and
+/// answers `Done`. If they aren't such a manifest, it writes the lowest refusal that applies, and
+/// answers `Refused`.
 ///
 /// The JSON value and the text are in memory of `alloc`. The text is made before it is written.
 ///
 /// # Errors
-/// `NoMemory` if memory runs out: then nothing is written. `CannotWrite` if a write fails: then
-/// `out` holds a prefix of the text.
+/// `NoMemory` if memory runs out. Then nothing is written. `CannotWrite` if a write fails. Then
+/// `out` has taken a prefix of the text.
 pub fn tell_over<W: Write>(
     alloc: Global,
     bytes: &[u8],
@@ -59,7 +60,7 @@ pub fn tell_over<W: Write>(
     }
 }
 
-/// What a manifest says.
+/// The text of a manifest's contents.
 fn manifest_text(alloc: Global, manifest: &Manifest) -> Result<String, AllocError>
     ensures { IfOk result (λ text. string_bytes text ≡ manifest_text manifest.now) }
 {
@@ -71,7 +72,7 @@ fn manifest_text(alloc: Global, manifest: &Manifest) -> Result<String, AllocErro
     Ok(text)
 }
 
-/// Adds to a text what a component says, as a line.
+/// Adds the line of a component to a text.
 fn write_component(
     alloc: Global,
     text: &mut String,
@@ -95,7 +96,8 @@ fn kind_text(permanent: bool) -> &'static str
     if permanent { "permanent" } else { "test" }
 }
 
-/// What follows a component: the digest of the image that has to run, where one is asked for.
+/// The end of a component's line: the digest of the image that has to run, if the component has
+/// one.
 fn precursor_text(alloc: Global, precursor: Option<[u8; 32]>) -> Result<String, AllocError>
     ensures { IfOk result (λ text. string_bytes text ≡ precursor_text precursor) }
 {
@@ -108,8 +110,8 @@ fn precursor_text(alloc: Global, precursor: Option<[u8; 32]>) -> Result<String, 
     }
 }
 
-/// The lowest refusal that applies, by its number and its name. There is no text where memory ran
-/// out, for that says nothing of the manifest.
+/// The line of the lowest refusal that applies: its number and its name. `NoMemory` says nothing
+/// about the manifest, so it has no line.
 fn refusal_text(alloc: Global, fault: ManifestError) -> Result<String, AllocError>
     ensures { IfOk result (λ text. (fault ≢ ManifestError.NoMemory)
         × (string_bytes text ≡ refusal_text fault)) }

@@ -1,4 +1,4 @@
-//! Which command an order to read asks for.
+//! Runs the read-only command that an order names.
 ghost use Rattle.std.specs.Prelude.{IfOk};
 ghost use Rattle.inspecting.specs.ReadingEnd.{AnswersReading};
 
@@ -9,11 +9,11 @@ use host::{Answer, Host, Refusal, Source};
 use std::alloc::Global;
 use std::io::Write;
 
-/// Runs the command of an order that writes nothing but its answer, which goes to `out`. What it
-/// reads comes from `host`, into memory of `alloc`.
+/// Runs the command of an order, and writes its answer to `out`. Its inputs are read from `host`
+/// into memory of `alloc`. No file changes.
 ///
 /// # Errors
-/// Those of the command.
+/// The errors of the command.
 pub fn run_inspection<H: Host, O: Write>(
     alloc: Global,
     order: ReadOrder<'_>,

@@ -1,4 +1,4 @@
-//! A reader read to its end.
+//! Reads a reader to its end.
 ghost use Rattle.std.specs.Prelude.{ℕ, List, IfOk, OnOk, OnErr};
 ghost use Rattle.std.specs.Io.KnownBytes.{Consumes, IsAtEnd};
 
@@ -9,7 +9,7 @@ use thiserror::Error;
 /// Why a reader was not read to its end.
 #[derive(Clone, Copy, Debug, Error)]
 pub enum ReadError {
-    /// There is no memory for what it gives.
+    /// There was no memory for the bytes.
     #[error("memory")]
     NoMemory,
     /// A read failed for another reason.
@@ -17,13 +17,13 @@ pub enum ReadError {
     Failed,
 }
 
-/// Reads `input` to its end, and returns all that it gave, in memory of `alloc`.
+/// Reads `input` to its end, and returns all its bytes, in memory of `alloc`.
 ///
 /// A read that a signal interrupts is tried again.
 ///
 /// # Errors
-/// `NoMemory` where memory is refused, and `Failed` where a read fails. What was read so far is
-/// lost then.
+/// `NoMemory` if memory is refused, `Failed` if a read fails. Then the bytes that were read are
+/// lost.
 pub fn read_all<R: Read>(alloc: Global, input: &mut R) -> Result<Vec<u8>, ReadError>
     ensures bytes { IfOk result (λ bytes.
         Consumes (R.remaining input.old) (R.remaining input.new) bytes.items) }

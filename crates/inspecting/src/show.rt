@@ -1,4 +1,4 @@
-//! What `bootswap show` prints: the state of a device, as its flash holds it.
+//! `bootswap show`: makes the text of the state of a device, as its flash holds it.
 ghost use Rattle.std.specs.Prelude.{◌≡◌, ◌<◌, ◌≤◌, ◌++◌, IfOk, Some, true, length, slice_index};
 ghost use Rattle.std.specs.Prelude.{string_bytes};
 ghost use Rattle.flash_model.specs.Chip.{Chip};
@@ -18,7 +18,7 @@ use std::alloc::{AllocError, Global};
 use std::fmt;
 use trailer::{SwapType, Trailer, read_trailer, swap_type};
 
-/// The state that the log has, on a flash that has power.
+/// The state of the log of a flash that has power.
 pub(crate) fn state_on<F: Flash>(flash: &mut F, map: &SectorMap) -> Option<State>
     requires laid_out { IsLaidOut map.now (F.chip flash.old) }
     requires on { (F.chip flash.old).is_on ≡ true }
@@ -32,7 +32,8 @@ pub(crate) fn state_on<F: Flash>(flash: &mut F, map: &SectorMap) -> Option<State
     }
 }
 
-/// What is printed of a flash that has power, and whose log has this state, or none.
+/// The text for a flash that has power and whose log has this state. `None` is a log without a
+/// state.
 pub(crate) fn stand_text<F: Flash>(
     alloc: Global,
     flash: &mut F,
@@ -57,7 +58,7 @@ pub(crate) fn stand_text<F: Flash>(
     Ok(text)
 }
 
-/// What a device is in the midst of.
+/// The word for what a device is doing.
 fn kind_text(kind: RecordKind) -> &'static str
     ensures { result.now ≡ kind_text kind }
 {
@@ -71,7 +72,7 @@ fn kind_text(kind: RecordKind) -> &'static str
     }
 }
 
-/// The images of a set to print, each after a space, or that there are none.
+/// Prints the images of a set, each after a space, or `-` for none.
 #[derive(Drop)]
 struct Images(u8);
 
@@ -88,7 +89,7 @@ impl fmt::Display for Images {
     }
 }
 
-/// How many boots more a trial lasts, to print as a line where any are left.
+/// Prints the line with the number of boots that a trial has left, if it is at least 1.
 #[derive(Drop)]
 struct Left(u8);
 
@@ -105,7 +106,7 @@ impl fmt::Display for Left {
     }
 }
 
-/// Adds the floor of each image to a text, as a line.
+/// Adds to a text a line with the floor of each image.
 fn write_floors(text: &mut String, state: &State, map: &SectorMap) -> Result<(), AllocError>
     ensures { IfOk result (λ _. string_bytes text.new
         ≡ string_bytes text.old ++ floor_lines map.now.images state.now) }
@@ -117,7 +118,7 @@ fn write_floors(text: &mut String, state: &State, map: &SectorMap) -> Result<(),
     Ok(())
 }
 
-/// Adds to a text what the trailers of each image ask of a boot, as a line, on a flash that has
+/// Adds to a text a line for each image with what its trailers ask of the next boot. The flash has
 /// power.
 fn write_swaps<F: Flash>(
     text: &mut String,
@@ -136,7 +137,7 @@ fn write_swaps<F: Flash>(
     Ok(())
 }
 
-/// What the trailers of an image ask of a boot, on a flash that has power.
+/// What the trailers of an image ask of the next boot, on a flash that has power.
 fn swap_type_on<F: Flash>(flash: &mut F, map: &SectorMap, image: u8) -> SwapType
     requires laid_out { IsLaidOut map.now (F.chip flash.old) }
     requires there { image < map.now.images }
@@ -163,7 +164,7 @@ fn trailer_on<F: Flash>(flash: &mut F, map: &SectorMap, image: u8, side: Side) -
     }
 }
 
-/// What a pair of trailers asks of a boot.
+/// The word for what a pair of trailers asks of the next boot.
 fn swap_type_text(swap_type: SwapType) -> &'static str
     ensures { result.now ≡ swap_type_text swap_type }
 {

@@ -1,4 +1,4 @@
-//! What `bootswap slots` prints: what the slots of a device hold, and what the next boot would decide.
+//! `bootswap slots`: makes the text of what the slots hold, and of the decision of the next boot.
 ghost use Rattle.std.specs.Prelude.{◌≡◌, ◌++◌, IfOk, Some, string_bytes, true};
 ghost use Rattle.flash_model.specs.Chip.{Chip};
 ghost use Rattle.sector_map.specs.Map.{IsLaidOut};
@@ -16,7 +16,7 @@ use sector_map::SectorMap;
 use set_log::State;
 use std::alloc::{AllocError, Global};
 
-/// What is printed of a flash that has power, whose log has this state and whose slots hold this.
+/// The text for a flash that has power, whose log has this state and whose slots hold this.
 pub(crate) fn listing_text<F: Flash>(
     alloc: Global,
     flash: &mut F,
@@ -34,7 +34,7 @@ pub(crate) fn listing_text<F: Flash>(
     Ok(text)
 }
 
-/// The answer, by what the next boot would decide: `Refused` if it would be refused.
+/// The answer if the next boot would decide this: `Refused` if the boot would be refused.
 pub(crate) fn answer_to(decision: &Option<Finding>) -> Answer
     ensures { result ≡ answer_to decision.now }
 {

@@ -1,4 +1,4 @@
-//! What is found in the slots of a device. `slots` alone calls it.
+//! Finds what the slots of a device hold. Only `slots` calls it.
 ghost use Rattle.std.specs.Prelude.{◌<◌, ◌≡◌, ◌↔◌, IsTrue, true};
 ghost use Rattle.flash_model.specs.Chip.{Chip};
 ghost use Rattle.sector_map.specs.Map.{IsLaidOut};
@@ -21,12 +21,12 @@ use trailer::{Kind, standing};
 /// What a slot begins with.
 #[derive(Default, Drop)]
 pub enum SlotContent {
-    /// Nothing: the whole slot is erased.
+    /// Nothing: the complete slot is erased.
     #[default]
     Erased,
-    /// An intact image, which says this of itself.
+    /// An intact image with this description.
     Intact(Desc),
-    /// No intact image: this is the first check that fails.
+    /// No intact image. This is the first check that fails.
     Damaged(ImageError),
 }
 
@@ -39,9 +39,9 @@ pub struct ImageSlots {
     pub primary: SlotContent,
     /// What its secondary slot begins with.
     pub secondary: SlotContent,
-    /// The request that stands for it.
+    /// The kind of its pending request, if there is one.
     pub request: Option<Kind>,
-    /// How far its swap has come, where the log says that one is under way.
+    /// The progress of its swap, if the log says that one is under way.
     pub moved: Option<Progress>,
 }
 
@@ -50,11 +50,11 @@ pub struct ImageSlots {
 pub struct SlotsFound {
     /// What is found of each image.
     pub images: ArrayVec<ImageSlots, MOST_IMAGES>,
-    /// What the next boot would decide, where the device is at rest.
+    /// The decision of the next boot, if the device is at rest.
     pub decision: Option<Finding>,
 }
 
-/// What is found of a device whose log has this state, on a flash that has power.
+/// Finds the slots and the next decision of a device whose log has this state. The flash has power.
 pub(crate) fn find_slots<F: Flash>(flash: &mut F, map: &SectorMap, state: &State) -> SlotsFound
     requires laid_out { IsLaidOut map.now (F.chip flash.old) }
     requires on { (F.chip flash.old).is_on ≡ true }
@@ -66,7 +66,7 @@ pub(crate) fn find_slots<F: Flash>(flash: &mut F, map: &SectorMap, state: &State
     SlotsFound { images, decision }
 }
 
-/// What is found of each image.
+/// Finds the slots of each image.
 fn find_images<F: Flash>(
     flash: &mut F,
     map: &SectorMap,
@@ -85,7 +85,7 @@ fn find_images<F: Flash>(
     images
 }
 
-/// What is found of an image.
+/// Finds the slots of an image.
 fn find_image<F: Flash>(flash: &mut F, map: &SectorMap, state: &State, image: u8) -> ImageSlots
     requires laid_out { IsLaidOut map.now (F.chip flash.old) }
     requires there { image < map.now.images }
@@ -106,7 +106,7 @@ fn find_image<F: Flash>(flash: &mut F, map: &SectorMap, state: &State, image: u8
     }
 }
 
-/// What a slot begins with.
+/// Finds what a slot begins with.
 fn slot_content<F: Flash>(flash: &mut F, map: &SectorMap, image: u8, side: Side) -> SlotContent
     requires laid_out { IsLaidOut map.now (F.chip flash.old) }
     requires there { image < map.now.images }
@@ -127,7 +127,7 @@ fn slot_content<F: Flash>(flash: &mut F, map: &SectorMap, image: u8, side: Side)
     }
 }
 
-/// Whether all of a slot is erased.
+/// Whether the complete slot is erased.
 fn is_slot_erased<F: Flash>(flash: &mut F, map: &SectorMap, image: u8, side: Side) -> bool
     requires laid_out { IsLaidOut map.now (F.chip flash.old) }
     requires there { image < map.now.images }
@@ -141,7 +141,7 @@ fn is_slot_erased<F: Flash>(flash: &mut F, map: &SectorMap, image: u8, side: Sid
     }
 }
 
-/// The request that stands for an image.
+/// The kind of the pending request for an image, if there is one.
 fn request_on<F: Flash>(flash: &mut F, map: &SectorMap, image: u8) -> Option<Kind>
     requires laid_out { IsLaidOut map.now (F.chip flash.old) }
     requires there { image < map.now.images }
@@ -155,7 +155,7 @@ fn request_on<F: Flash>(flash: &mut F, map: &SectorMap, image: u8) -> Option<Kin
     }
 }
 
-/// How far the swap of an image has come, where the log says that it is under way.
+/// The progress of an image's swap, if the log says that one is under way.
 fn moved_on<F: Flash>(flash: &mut F, map: &SectorMap, state: &State, image: u8) -> Option<Progress>
     requires laid_out { IsLaidOut map.now (F.chip flash.old) }
     requires there { image < map.now.images }
@@ -172,7 +172,7 @@ fn moved_on<F: Flash>(flash: &mut F, map: &SectorMap, state: &State, image: u8) 
     }
 }
 
-/// The side of the trailers that count the swap that a record is in the midst of.
+/// The side whose trailers count the swap during a record of this kind, if it has a swap.
 fn counting_side(kind: RecordKind) -> Option<Side>
     ensures { result ≡ counting_side kind }
 {
@@ -184,7 +184,7 @@ fn counting_side(kind: RecordKind) -> Option<Side>
     }
 }
 
-/// How far the swap of an image has come that its trailer of a side counts.
+/// The progress of an image's swap, as the trailer of this side counts it.
 fn progress_on<F: Flash>(flash: &mut F, map: &SectorMap, image: u8, side: Side) -> Progress
     requires laid_out { IsLaidOut map.now (F.chip flash.old) }
     requires there { image < map.now.images }
@@ -198,7 +198,7 @@ fn progress_on<F: Flash>(flash: &mut F, map: &SectorMap, image: u8, side: Side) 
     }
 }
 
-/// What the next boot would decide, where the log says that the device is at rest.
+/// The decision of the next boot, if the log says that the device is at rest.
 fn next_decision<F: Flash>(flash: &mut F, map: &SectorMap, state: &State) -> Option<Finding>
     requires laid_out { IsLaidOut map.now (F.chip flash.old) }
     requires on { (F.chip flash.old).is_on ≡ true }

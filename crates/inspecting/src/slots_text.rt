@@ -1,4 +1,4 @@
-//! What is printed of the slots of a device. `slots` alone calls it.
+//! Makes the text of what the slots of a device hold. Only `slots` calls it.
 ghost use Rattle.std.specs.List.{flat_map};
 ghost use Rattle.std.specs.Prelude.{◌≡◌, ◌++◌, IfOk, Some, string_bytes};
 ghost use Rattle.inspecting.specs.SlotsText.{content_text, decision_text, found_text, image_text};
@@ -13,7 +13,7 @@ use std::fmt;
 use swap_scratch::Progress;
 use trailer::Kind;
 
-/// Adds to a text all that is found.
+/// Adds the text of all that is found to a text.
 pub(crate) fn write_found(
     alloc: Global,
     text: &mut String,
@@ -26,7 +26,7 @@ pub(crate) fn write_found(
     write_decision(alloc, text, &found.decision)
 }
 
-/// Adds to a text what is found of each image.
+/// Adds the text of each image's slots to a text.
 fn write_images(alloc: Global, text: &mut String, images: &[ImageSlots]) -> Result<(), AllocError>
     ensures { IfOk result (λ _. string_bytes text.new
         ≡ string_bytes text.old ++ flat_map image_text images.now) }
@@ -37,7 +37,7 @@ fn write_images(alloc: Global, text: &mut String, images: &[ImageSlots]) -> Resu
     Ok(())
 }
 
-/// Adds to a text what is found of an image.
+/// Adds the text of an image's slots to a text.
 fn write_image(alloc: Global, text: &mut String, slots: &ImageSlots) -> Result<(), AllocError>
     ensures { IfOk result (λ _. string_bytes text.new
         ≡ string_bytes text.old ++ image_text slots.now) }
@@ -56,7 +56,7 @@ fn write_image(alloc: Global, text: &mut String, slots: &ImageSlots) -> Result<(
     )
 }
 
-/// What a slot begins with.
+/// The text of what a slot begins with.
 fn content_text(alloc: Global, content: &SlotContent) -> Result<String, AllocError>
     ensures { IfOk result (λ text. string_bytes text ≡ content_text content.now) }
 {
@@ -71,7 +71,7 @@ fn content_text(alloc: Global, content: &SlotContent) -> Result<String, AllocErr
     }
 }
 
-/// The request that stands.
+/// The word for the pending request.
 fn request_text(request: Option<Kind>) -> &'static str
     ensures { result.now ≡ request_text request }
 {
@@ -82,7 +82,7 @@ fn request_text(request: Option<Kind>) -> &'static str
     }
 }
 
-/// How far the swap of an image has come, to print as a line where it is under way.
+/// Prints the line of an image's swap, if it is under way.
 #[derive(Drop)]
 struct Moved {
     image: u8,
@@ -101,7 +101,7 @@ impl fmt::Display for Moved {
     }
 }
 
-/// Adds to a text what the next boot would answer of its decision.
+/// Adds the text of the decision of the next boot to a text.
 fn write_decision(
     alloc: Global,
     text: &mut String,

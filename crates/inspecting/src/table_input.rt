@@ -1,4 +1,4 @@
-//! What `choose` and `check` read: tables and reports.
+//! Reads the inputs of `choose` and `check`: tables and reports.
 ghost use Rattle.std.specs.Prelude.{IfOk};
 ghost use Rattle.host.specs.Input.{Gives, KeepsOthers};
 
@@ -6,7 +6,7 @@ use certificate::{Report, Table};
 use host::{Host, MOST_TABLE, Refusal, Source, SourceFault};
 use std::alloc::Global;
 
-/// What a text is to be.
+/// The kind of a text.
 #[derive(Clone, Copy)]
 pub enum Text {
     /// A table.
@@ -16,8 +16,8 @@ pub enum Text {
 }
 
 impl Text {
-    /// Why bytes are no such text, by the first line that none goes on from; none where they are
-    /// one.
+    /// Why bytes aren't such a text: the first line that no such text continues from. `None` if
+    /// they are one.
     fn fault(self, bytes: &[u8]) -> Option<Refusal> {
         match self {
             Text::Table => match Table::parse(bytes) {
@@ -32,12 +32,13 @@ impl Text {
     }
 }
 
-/// A text, from `host`, in memory of `alloc`. One that is longer than any is refused as all of it
-/// would be, for a line at its front.
+/// Reads a text from `host` into memory of `alloc`. A text that is too long is refused by its first
+/// [`MOST_TABLE`] + 1 bytes.
 ///
 /// # Errors
-/// `TableLine` or `ReportLine` for the first line that is wrong of a text that is too long;
-/// `CannotRead` where it can't be read; `NoMemory`.
+/// `TableLine` or `ReportLine` if the text is too long, with the first wrong line of its start.
+/// `OfSource` if it can't be read, or is too long without a wrong line there. `NoMemory` if memory
+/// is refused.
 pub fn read_text<H: Host>(
     alloc: Global,
     text: Text,

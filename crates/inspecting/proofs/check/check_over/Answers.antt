@@ -8,7 +8,7 @@ use Rattle.inspecting.specs.Check.{AreRight, IsVerdict, WritesVerdict}
 use Rattle.inspecting.proofs.WrittenLaws.{text-written}
 use Rattle.inspecting.proofs.check.check_over.Goals as goal
 
--- The texts spell this table and this report alone, and the report isn't right for the table.
+-- The texts spell only this table and this report, and the report isn't right for the table.
 pub returns-else-check : goal.returns-else-check
 returns-else-check g c =
     let old = g.W.Write.contents c.args.out.now in

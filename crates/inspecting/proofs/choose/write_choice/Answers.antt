@@ -6,11 +6,11 @@ use Rattle.inspecting.specs.Choose.{IsChoice, IsChoiceText, WritesChoice}
 use Rattle.inspecting.proofs.WrittenLaws.{answer-written}
 use Rattle.inspecting.proofs.choose.write_choice.Goals as goal
 
--- The bytes are no table ..
+-- The bytes aren't a table.
 pub returns-in-Err : goal.returns-in-Err
 returns-in-Err g c = (c.in-Err.ensures.line, Keeps-refl (g.W.Write.contents c.args.out.now))
 
--- .. or its running images don't fit each other.
+-- The running images of the table don't fit each other.
 pub returns-then-not-is_valid : goal.returns-then-not-is_valid
 returns-then-not-is_valid g c = (
   (c.in-Ok.table, c.in-Ok.ensures.spelled, λ valid. false≢true (c.if-not-is_valid.ensures.1 valid)),

@@ -1,7 +1,7 @@
 use Rattle.host.proofs.InputLaws.{GiveBoth-read, KeepsFiles-twice}
 use Rattle.inspecting.proofs.device_flash.read_device_flash.Goals as goal
 
--- Both are what their sources gave, and the first is the device's file.
+-- Both inputs are what their sources gave, and the first is a device file.
 pub returns-clause-read : goal.returns-clause-read
 returns-clause-read g c =
     let read = rw c.in-Some.is at c.in_ok-device.ensures.read in (

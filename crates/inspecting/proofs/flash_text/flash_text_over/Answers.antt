@@ -11,7 +11,7 @@ use Rattle.inspecting.proofs.FlashTextLaws.{IsFlashText-none, IsListing-some, Is
 use Rattle.inspecting.proofs.WrittenLaws.{answer-text}
 use Rattle.inspecting.proofs.flash_text.flash_text_over.Goals as goal
 
--- That the log has no state was written, or a prefix of it.
+-- The text that the log has no state was written, or a prefix of it.
 pub returns-in_default : goal.returns-in_default
 returns-in_default g c =
     let map = c.args.map.now in
@@ -24,7 +24,7 @@ returns-in_default g c =
     (is ∙ ap (λ one. stand_text map one None) c.state_on.ensures.same))
     c.stand_text-none.ensures c.write_answer.ensures.no_text c.write_answer.ensures.text)
 
--- The state was written, or a prefix of it.
+-- The text of the state was written, or a prefix of it.
 pub returns-in-State : goal.returns-in-State
 returns-in-State g c =
     let map = c.args.map.now in
@@ -39,7 +39,7 @@ returns-in-State g c =
     (is ∙ ap (λ one. stand_text map one (Some state)) c.state_on.ensures.same))
     c.stand_text-shown.ensures c.write_answer-in-State.ensures.no_text c.write_answer-in-State.ensures.text))
 
--- The state and what the slots hold was written, or a prefix of it.
+-- The text of the state and of the slots was written, or a prefix of it.
 pub returns : goal.returns
 returns g c =
     let map = c.args.map.now in

@@ -4,7 +4,7 @@ use Rattle.certificate.specs.DependencyText.{needs_one_text}
 use Rattle.inspecting.proofs.TextLaws.{printed-item}
 use Rattle.inspecting.proofs.image.write_groups.Goals as goal
 
--- The line of one group more.
+-- The line of one more group is written.
 pub loop-group-preserved : goal.loop-group-preserved
 loop-group-preserved g c = λ plain.
     let before = c.loop-group.invariant plain in

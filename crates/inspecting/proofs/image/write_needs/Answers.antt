@@ -4,7 +4,7 @@ use Rattle.certificate.specs.DependencyText.{needs_text}
 use Rattle.inspecting.proofs.TextLaws.{printed-more}
 use Rattle.inspecting.proofs.image.write_needs.Goals as goal
 
--- The line of one dependency more.
+-- The line of one more dependency is written.
 pub loop-dependency-preserved : goal.loop-dependency-preserved
 loop-dependency-preserved g c = λ plain.
     let before = c.loop-dependency.invariant plain in

@@ -6,7 +6,7 @@ use Rattle.inspecting.specs.ManifestText.{component_text}
 use Rattle.inspecting.proofs.TextLaws.{printed-more}
 use Rattle.inspecting.proofs.manifest_file.manifest_text.Goals as goal
 
--- The line of one component more.
+-- The line of one more component is added.
 pub loop-component-preserved : goal.loop-component-preserved
 loop-component-preserved c =
     let sequence = line_text (codes "sequence") (decimal c.args.manifest.now.sequence) in
@@ -15,7 +15,7 @@ loop-component-preserved c =
     rw (c.in_ok-write_component.ensures, c.loop-component.invariant)
     (append_assoc sequence _ _ ∙ ap (λ lines. sequence ++ lines) more)
 
--- The lines of all components.
+-- The text has the lines of all components.
 pub returns : goal.returns
 returns c =
     let sequence = line_text (codes "sequence") (decimal c.args.manifest.now.sequence) in

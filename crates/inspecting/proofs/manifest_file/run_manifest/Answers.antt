@@ -4,8 +4,8 @@ use Rattle.inspecting.specs.ManifestFile.{WritesManifest}
 use Rattle.inspecting.proofs.WrittenLaws.{answered}
 use Rattle.inspecting.proofs.manifest_file.run_manifest.Goals as goal
 
--- Both are what their sources gave, the first is the device's file, and what the second says to it
--- was written.
+-- Both inputs are what their sources gave, the first is a device file, and the contents of the
+-- second were written.
 pub returns : goal.returns
 returns g c =
     let read = rw c.in-Some.is at c.in_ok-of_device.ensures.read in

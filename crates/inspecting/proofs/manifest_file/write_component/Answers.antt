@@ -3,7 +3,7 @@ use Rattle.std.proofs.lemmas.Result.{IfOk-weaker}
 use Rattle.inspecting.specs.ManifestText.{component_text}
 use Rattle.inspecting.proofs.manifest_file.write_component.Goals as goal
 
--- The parts are those that the component's text has.
+-- The parts are those of the component's text.
 pub returns : goal.returns
 returns c =
     let digest = rw c.as_slice.ensures at c.in_ok-digest.ensures in

@@ -4,7 +4,7 @@ use Rattle.inspecting.specs.StateText.{floor_lines, images_text, kind_text, left
 use Rattle.inspecting.proofs.TextLaws.{state-in_a_row}
 use Rattle.inspecting.proofs.show.stand_text.Goals as goal
 
--- The parts are those that the text of a state has.
+-- The parts are those of the text of a state.
 pub returns : goal.returns
 returns g c =
     let state = c.in-Some.state in

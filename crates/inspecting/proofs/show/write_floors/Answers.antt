@@ -2,7 +2,7 @@ use Rattle.std.proofs.Common.{codes, decimal, slice_index, string_bytes}
 use Rattle.inspecting.proofs.TextLaws.{image_lines-more}
 use Rattle.inspecting.proofs.show.write_floors.Goals as goal
 
--- The line of one image more.
+-- The line of one more image is added.
 pub loop-image-preserved : goal.loop-image-preserved
 loop-image-preserved c =
     rw (c.in_ok-writeln.ensures.bytes, c.loop-image.invariant, c.from.ensures)

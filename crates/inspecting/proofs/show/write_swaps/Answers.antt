@@ -4,7 +4,7 @@ use Rattle.inspecting.specs.StateText.{swap_type_text}
 use Rattle.inspecting.proofs.TextLaws.{image_lines-more}
 use Rattle.inspecting.proofs.show.write_swaps.Goals as goal
 
--- The line of one image more, by the trailers of the flash as it was.
+-- The line of one more image is added, by the trailers of the unchanged flash.
 pub loop-image-preserved : goal.loop-image-preserved
 loop-image-preserved g c =
     let map = c.args.map.now in

@@ -3,7 +3,7 @@ use Rattle.inspecting.specs.Show.{swap_type_in}
 use Rattle.inspecting.specs.StateText.{swap_lines}
 use Rattle.inspecting.proofs.show.write_swaps.Given as goal
 
--- the lines of the images so far stand behind the text as it was, and the flash is as it was
+-- The lines of the images so far follow the old text, and the flash is unchanged.
 abbrev pub invariant-loop-image : goal.invariant-loop-image
 invariant-loop-image g l = record {
   said : string_bytes l.text

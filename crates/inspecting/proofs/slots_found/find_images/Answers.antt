@@ -2,7 +2,7 @@ use Rattle.std.proofs.Common.{rules, ◌∙◌}
 use Rattle.inspecting.proofs.SlotLaws.{AreSlotsUpTo-more}
 use Rattle.inspecting.proofs.slots_found.find_images.Goals as goal
 
--- The slots of one image more.
+-- The slots of one more image are found.
 pub loop-image-preserved : goal.loop-image-preserved
 loop-image-preserved g c =
     let found = rw c.loop-image.invariant.same at c.find_image.ensures.found in record {

@@ -2,7 +2,7 @@ use Rattle.std.proofs.Common.{◌≡◌, ◌≤◌, length}
 use Rattle.inspecting.specs.SlotsFound.{AreSlotsUpTo}
 use Rattle.inspecting.proofs.slots_found.find_images.Given as goal
 
--- the flash is as it was, and these are the slots of the images so far
+-- The flash is unchanged, and these are the slots of the images so far.
 abbrev pub invariant-loop-image : goal.invariant-loop-image
 invariant-loop-image g l = record {
   few : l.image-end ≤ 8;

@@ -3,7 +3,7 @@ use Rattle.std.proofs.lemmas.Result.{IfOk-weaker}
 use Rattle.inspecting.specs.SlotsText.{content_text}
 use Rattle.inspecting.proofs.slots_text.content_text.Goals as goal
 
--- The parts are those that the text has.
+-- The parts are those of the text.
 pub returns-in-Damaged : goal.returns-in-Damaged
 returns-in-Damaged c =
     let code = c.code-code.ensures in

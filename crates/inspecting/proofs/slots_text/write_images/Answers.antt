@@ -3,7 +3,7 @@ use Rattle.std.proofs.lemmas.List.{flat_map_more, take_more}
 use Rattle.inspecting.specs.SlotsText.{image_text}
 use Rattle.inspecting.proofs.slots_text.write_images.Goals as goal
 
--- What is found of one image more.
+-- The text of one more image is added.
 pub loop-slots-preserved : goal.loop-slots-preserved
 loop-slots-preserved c =
     let item = c.slots-item.result in

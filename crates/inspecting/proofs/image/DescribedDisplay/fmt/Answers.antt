@@ -6,7 +6,7 @@ use Rattle.certificate.specs.DependencyText.{needs_one_text, needs_text}
 use Rattle.inspecting.proofs.TextLaws.{description-in_a_row}
 use Rattle.inspecting.proofs.image.DescribedDisplay.fmt.Goals as goal
 
--- The lines of the fields, and behind them those of the dependencies and of the groups.
+-- The lines of the dependencies and of the groups follow those of the fields.
 pub returns-clause-writes : goal.returns-clause-writes
 returns-clause-writes g c = λ plain ok.
     let said = c.args.self.now.description.now in
