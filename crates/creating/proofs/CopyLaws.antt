@@ -1,4 +1,4 @@
--- The image that a slot begins with, its bytes on the flash, and what copying it comes to.
+-- The image that a slot begins with, its bytes on the flash, and the result of copying it.
 use Rattle.std.proofs.Common.{◌≡◌, ◌≢◌, ◌∙◌, ℕ, ◌+◌, ◌-◌, ◌<◌, ◌≤◌, List, ◌++◌, Bool, Option, ap, append-nil, arith, length, length-append, inl, refl, subst, sym, take}
 use Rattle.std.specs.Prelude.{Err, IfErr, IfOk, Ok, Result, slice_range}
 use Rattle.std.proofs.KnownBytes.{Appends-kept}
@@ -32,12 +32,12 @@ use Rattle.creating.proofs.NewFileLaws.{Replaces-before}
 use Rattle.creating.specs.declared.extract.Copied.{Copied}
 use Rattle.creating.specs.declared.extract.Copied.TheVariants as copied
 
--- an intact image is as long as its description says
+-- The length of an intact image is the one of its description.
 intact_long : (bytes : List ℕ) (description : Desc) → IsIntact bytes description → length bytes ≡ description.length
 intact_long bytes description intact =
     ap (λ all. length all) (intact.1.parts ∙ append-nil (image_bytes intact.0)) ∙ sym intact.2.length_of
 
--- and no longer than what begins with it
+-- The image that a slot begins with isn't longer than the slot.
 pub image_fits : (slot : List ℕ) (description : Desc) → BeginsIntact slot description
     → description.length ≤ length slot
 image_fits slot description begins =
@@ -45,7 +45,7 @@ image_fits slot description begins =
     ap (λ all. length all) begins.2 ∙ length-append begins.0 begins.1 in
     omega (arith, long, intact_long begins.0 description begins.3)
 
--- So many bytes of a slot as the image has that it begins with are that image.
+-- The first bytes of a slot, up to the length of the image that it begins with, are that image.
 pub image_front : (slot : List ℕ) (description : Desc) → BeginsIntact slot description
     → IsImageOf slot (slice_range slot 0 description.length)
 image_front slot description begins =
@@ -58,7 +58,7 @@ image_front slot description begins =
     ∙ take_all description.length begins.0 (omega (arith, long)) in
     rw front (record { rest = begins.1; description = description; begins = begins.2; intact = begins.3 })
 
--- So many bytes of a slot lie in the flash ..
+-- The first bytes of a slot lie in the flash.
 pub copy_inside : (map : SectorMap) (chip : Chip) (image : ℕ) (side : Side) (long : ℕ) → IsLaidOut map chip
     → image < map.images → long ≤ length (slot_bytes map chip image side)
     → start_of map (Slot image side) + long ≤ length chip.bytes
@@ -66,7 +66,7 @@ copy_inside map chip image side long laid there fits =
     let inside = part_inside map chip (Slot image side) laid (laid.is_map.counts.some image there) in
     omega (arith, inside, laid.whole, length_part map chip (Slot image side) laid, fits)
 
--- .. and are those of the flash from the slot's start on.
+-- The first bytes of a slot are those of the flash from the slot's start on.
 pub copy_is : (map : SectorMap) (chip : Chip) (image : ℕ) (side : Side) (long : ℕ) → IsLaidOut map chip
     → long ≤ length (slot_bytes map chip image side)
     → slice_range chip.bytes (start_of map (Slot image side)) (start_of map (Slot image side) + long)
@@ -78,13 +78,13 @@ copy_is map chip image side long laid fits =
     ∙ sym (range_of_part map chip (Slot image side) 0 long laid
     (omega (arith, length_part map chip (Slot image side) laid, fits)))
 
--- What is read of two sources stays where all files were kept ..
+-- If all files were kept, two inputs were.
 pub both_kept : (device flash : Source) (old new : FileBytes) → KeepsFiles old new
     → KeepsSource device old new × KeepsSource flash old new
 both_kept device flash old new kept =
     (KeepsSource-kept device old new kept, KeepsSource-kept flash old new kept)
 
--- .. or then one was replaced that is neither of them.
+-- If then a file apart from the inputs was replaced, both inputs were still kept.
 pub both_apart : (device flash : Source) (name : List ℕ) (apart : List ℕ → List ℕ → Bool) (old mid new : FileBytes)
     → KeepsFiles old mid → IsApartFrom apart name device → IsApartFrom apart name flash
     → KeepsApart (apart name) mid new → KeepsSource device old new × KeepsSource flash old new
@@ -93,7 +93,7 @@ both_apart device flash name apart old mid new kept first second after = (
   KeepsSource-apart flash name apart old mid new kept second after,
 )
 
--- Where no image was copied, files were kept, whatever could be told.
+-- If no image was copied, all files were kept, whatever was written.
 pub copied_told : (told : Result Answer Refusal) (outcome : Copied) (mid new : FileBytes) (old_out new_out : Option (List ℕ))
     → IfOk told (λ answer. AnswersCopied answer outcome old_out new_out)
     → (outcome ≡ copied.Done → IfErr told (λ refusal. refusal ≡ no.CannotWrite))
@@ -105,7 +105,7 @@ copied_told (Ok Cut) copied.Done mid new old_out new_out answers late kept ends 
 copied_told (Err refusal) copied.Done mid new old_out new_out answers late kept ends =
     absurd (subst (λ one. EndsUnmade (Err one)) (late refl) ends)
 
--- Where the image was copied, its file could be replaced.
+-- If the image was copied, its file could be replaced.
 pub copied_replaces : (answer : Answer) (outcome : Copied) (file : NewFile) (old mid : FileBytes)
     (old_out new_out : Option (List ℕ)) → KeepsFiles old mid
     → (outcome ≡ copied.Done → MayReplace file.is_forced (mid file.name.now))
@@ -116,12 +116,12 @@ copied_replaces Done (copied.Refused fault) file old mid old_out new_out kept ma
 copied_replaces Refused outcome file old mid old_out new_out kept may told = tt
 copied_replaces Cut outcome file old mid old_out new_out kept may told = tt
 
--- No answer is `Cut` ..
+-- No answer of `extract` is `Cut`.
 never_cut : (outcome : Copied) (old new : Option (List ℕ)) → AnswersCopied Cut outcome old new → ⊥
 never_cut copied.Done old new told = cc told.0
 never_cut (copied.Refused fault) old new told = cc told.0
 
--- .. so what was copied is an answer of `extract`.
+-- What was copied gives an answer of `extract`.
 AnswersCopy-of : (answer : Answer) (device flash : Source) (image : ℕ) (side : Side) (input : Option (List ℕ))
     (files : FileBytes) (held old new : Option (List ℕ)) → CopiesImage answer device flash image side input files held old new
     → AnswersCopy answer device flash image side input files held old new
@@ -130,7 +130,7 @@ AnswersCopy-of Refused device flash image side input files held old new copies =
 AnswersCopy-of Cut device flash image side input files held old new copies =
     absurd (never_cut copies.outcome old new copies.answered)
 
--- What was copied, and answered, of a device file and a flash that were read.
+-- The answer after a device file and a flash were read.
 pub copied_image : (answer : Answer) (device flash : Source) (image : ℕ) (side : Side) (input mid_input : Option (List ℕ))
     (files mid_files : FileBytes) (held old mid new : Option (List ℕ)) (of_device : DeviceFile) (bytes : List ℕ)
     (outcome : Copied) → GivesDevice device input files of_device → mid ≡ old
@@ -153,7 +153,7 @@ copied_image answer device flash image side input mid_input files mid_files held
       answered = subst (λ before. AnswersCopied answer outcome before new) same told;
     })
 
--- a flush after the answer changes nothing
+-- A flush after the answer changes nothing.
 copied_kept : (outcome : Copied) (old mid new : Option (List ℕ)) → AnswersCopied Done outcome old mid → Keeps mid new
     → AnswersCopied Done outcome old new
 copied_kept copied.Done old mid new answered kept = (answered.0, Appends-kept old mid new _ answered.1 kept)

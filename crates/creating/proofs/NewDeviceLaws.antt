@@ -1,4 +1,4 @@
--- What making a device file stands for, where a writer keeps what it held.
+-- The answer of `make-device`, before and after a flush.
 use Rattle.std.proofs.Common.{ℕ, List, Option}
 use Rattle.std.proofs.KnownBytes.{Appends-kept}
 use Rattle.std.specs.Io.KnownBytes.{Keeps}
@@ -6,7 +6,7 @@ use Rattle.command_line.specs.declared.orders.NewDevice.{NewDevice}
 use Rattle.host.specs.declared.answer.Answer.TheVariants.{Done}
 use Rattle.creating.specs.NewDeviceEnd.{AnswersNewDevice}
 
--- a flush after the answer changes nothing
+-- A flush after the answer changes nothing.
 pub AnswersNewDevice-kept : (asked : NewDevice) (old mid new : Option (List ℕ))
     → AnswersNewDevice Done asked old mid → Keeps mid new → AnswersNewDevice Done asked old new
 AnswersNewDevice-kept asked old mid new answered kept =

@@ -1,4 +1,4 @@
--- Which files may be replaced, by what is read of them.
+-- Which files may be replaced, from what was read of them.
 use Rattle.std.proofs.Common.{◌≡◌, ◌∙◌, ◌⊎◌, ◌+◌, ℕ, Bool, List, [], ◌∷◌, ◌++◌, None, Option, Some, ap, append_assoc, drop, inl, inr, length, subst, sym}
 use Rattle.std.proofs.lemmas.List.{take-append-drop}
 use Rattle.std.specs.Prelude.{Err, IfOk, Ok, Result, is_ok, slice_range, true}
@@ -12,7 +12,7 @@ use Rattle.host.specs.declared.answer.Answer.TheVariants.{Done, Refused, Cut}
 use Rattle.host.specs.Input.{FileBytes, IsKnownAs, IsKnownPart, KeepsFiles}
 use Rattle.creating.specs.NewFileEnd.{BeginsAsImage, HoldsImage, MayReplace, Replaces}
 
--- a file begins with all that its first bytes begin with
+-- A file begins with the header that its first bytes begin with.
 begins_on : (held part : List ℕ) (header : Header) → part ≡ slice_range held 0 (0 + 32) → BeginsWith part header
     → BeginsWith held header
 begins_on held part header same begins = record {
@@ -28,7 +28,7 @@ HoldsImage-front None part header is begins accepted = tt
 HoldsImage-front (Some held) part header is begins accepted =
     inr (record { header = header; begins = begins_on held part header is.same begins; accepted = accepted })
 
--- A file whose first bytes are read as a header begins as an image does ..
+-- A file whose first bytes are read as a header begins as an image does.
 pub HoldsImage-read : (known : Option (List ℕ)) (part : List ℕ) (read : Result Header HeaderError)
     → IsKnownPart known 0 32 part → IfOk read (λ header. BeginsWith part header × IsAccepted header)
     → is_ok read ≡ true → HoldsImage known
@@ -39,7 +39,7 @@ empty_known : (held bytes : List ℕ) → length bytes ≡ 0 → bytes ≡ held 
 empty_known held [] none same = sym same
 empty_known held (byte ∷ bytes) none same = absurd (cc none)
 
--- .. and one of which nothing is read is empty.
+-- A file of which no byte is read is empty.
 pub HoldsImage-empty : (known : Option (List ℕ)) (bytes : List ℕ) → length bytes ≡ 0 → IsKnownAs known bytes
     → HoldsImage known
 HoldsImage-empty None bytes none same = tt
@@ -53,7 +53,7 @@ may_replace_before forced (Some xs) (Some ys) kept (inl is) = inl is
 may_replace_before forced (Some xs) (Some ys) kept (inr holds) =
     inr (subst (λ held. (held ≡ []) ⊎ BeginsAsImage held) kept holds)
 
--- What may be replaced after files were kept could be replaced before.
+-- A file that may be replaced after all files were kept could be replaced before.
 pub Replaces-before : (answer : Answer) (file : NewFile) (old new : FileBytes) → KeepsFiles old new
     → Replaces answer file new → Replaces answer file old
 Replaces-before Done file old new kept may =

@@ -1,4 +1,4 @@
--- What making an image stands for, where a writer keeps what it held.
+-- The answer of `make-image`, before and after a flush.
 use Rattle.std.proofs.Common.{◌≡◌, ℕ, List, Option, subst}
 use Rattle.std.proofs.KnownBytes.{Appends-kept}
 use Rattle.std.specs.Io.KnownBytes.{Keeps}
@@ -9,7 +9,7 @@ use Rattle.host.specs.declared.source.Source.{Source}
 use Rattle.host.specs.Input.{FileBytes}
 use Rattle.creating.specs.NewImageEnd.{AnswersMade, AnswersNewImage}
 
--- a flush after the answer changes nothing
+-- A flush after the answer changes nothing.
 pub AnswersNewImage-kept : (source : Source) (asked : NewImage) (input : Option (List ℕ))
     (files : FileBytes) (held old mid new : Option (List ℕ))
     → AnswersNewImage Done source asked input files held old mid → Keeps mid new
@@ -18,7 +18,7 @@ AnswersNewImage-kept source asked input files held old mid new answered kept =
     let made = answered.2 in
     (answered.0, answered.1, (made.0, made.1, made.2, Appends-kept old mid new _ made.3 kept))
 
--- the same is answered of an image with the same body
+-- Images with the same body have the same answer.
 pub AnswersMade-same : (answer : Answer) (asked : NewImage) (one other : List ℕ)
     (held old new : Option (List ℕ)) → one ≡ other → AnswersMade answer asked one held old new
     → AnswersMade answer asked other held old new

@@ -1,4 +1,4 @@
--- What making a manifest comes to, from what its steps come to.
+-- The result of `make-manifest`, from the results of its steps.
 use Rattle.std.proofs.Common.{◌≡◌, ℕ, List, [], ◌∷◌, ◌++◌, Option, ap, length, refl, subst, suc}
 use Rattle.std.proofs.KnownBytes.{Appends-kept}
 use Rattle.std.specs.Io.KnownBytes.{Appends, Keeps}
@@ -21,7 +21,7 @@ use Rattle.creating.specs.NewManifestEnd.{AnswersNewManifest, IsFault, RefusesAs
 use Rattle.creating.specs.NewManifestSteps.{ArePrecursors, ReadsDamaged, ReadsFlash, Writes}
 use Rattle.creating.proofs.NewManifestLaws.{asked_for}
 
--- one precursor a file
+-- There is one precursor for each file.
 pub precursor_count : (map : SectorMap) (flash : Option Chip) (asked : List NewComponent)
     (precursors : List (Option (List ℕ))) → ArePrecursors map flash asked precursors
     → length precursors ≡ length asked
@@ -30,7 +30,7 @@ precursor_count map flash [] (y ∷ precursors) are = absurd are
 precursor_count map flash (x ∷ asked) [] are = absurd are
 precursor_count map flash (x ∷ asked) (y ∷ precursors) are = ap suc (precursor_count map flash asked precursors are.1)
 
--- The device file was read, and what is asked for was refused.
+-- The device file was read, and the arguments were refused.
 pub asked_refused : (device : Source) (asked : NewManifest) (input : Option (List ℕ)) (files : FileBytes)
     (old mid new : Option (List ℕ)) (of_device : DeviceFile) (fault : ManifestError) (components : List NewComponent)
     → GivesDevice device input files of_device → mid ≡ old → components ≡ asked.components.items
@@ -45,7 +45,7 @@ asked_refused device asked input files old mid new of_device fault components re
   subst (λ before. Appends before new (refused_text (code_of fault) (name_of fault))) same told,
 )
 
--- The device file was read, and then the flash, on which an image is damaged.
+-- The device file was read, and then the flash, on which an image isn't intact.
 pub running_refused : (device : Source) (asked : NewManifest) (input mid_input : Option (List ℕ))
     (files mid_files : FileBytes) (old mid new : Option (List ℕ)) (of_device : DeviceFile) (image : ℕ)
     → GivesDevice device input files of_device → mid ≡ old → KeepsOthers device input files mid_input mid_files
@@ -67,8 +67,8 @@ running_refused device asked input mid_input files mid_files old mid new of_devi
   told = subst (λ before. Appends before new (refused_fault_text (RunningDamaged image))) same told;
 }
 
--- The device file was read, the flash where one is asked for, and then the files, and the manifest
--- was written.
+-- The device file was read, then the flash if one is given, and then the files. The manifest was
+-- written.
 pub written : (device : Source) (asked : NewManifest) (input mid_input far_input : Option (List ℕ))
     (files mid_files far_files : FileBytes) (old mid new : Option (List ℕ)) (of_device : DeviceFile)
     (precursors follow : List (Option (List ℕ)))
@@ -103,7 +103,7 @@ written device asked input mid_input far_input files mid_files far_files old mid
       told = subst (λ before. Appends before new writes.text) same writes.told;
     }
 
--- a flush after the answer changes nothing
+-- A flush after the answer changes nothing.
 pub AnswersNewManifest-kept : (device : Source) (asked : NewManifest) (input : Option (List ℕ)) (files : FileBytes)
     (old mid new : Option (List ℕ)) → AnswersNewManifest Done device asked input files old mid → Keeps mid new
     → AnswersNewManifest Done device asked input files old new

@@ -1,4 +1,4 @@
--- Files that are read one after the other, and the components that let them come.
+-- Files that are read one by one, and the components that admit them.
 use Rattle.std.proofs.Common.{◌≡◌, ℕ, ◌+◌, ◌<◌, ◌≤◌, ◌&&◌, Bor, List, [], ◌∷◌, ◌++◌, Option, Some, None, add-one, append_assoc, ap, arith, get_or, length, map, refl, subst, sym, take, ◌∙◌, true, false, Bool}
 use lib.Dec.{eqb}
 use lib.Pointwise.{pointwise}
@@ -27,14 +27,14 @@ use Rattle.creating.specs.NewManifestSteps.{ArePrecursors, FindsNone, FindsPrecu
 use Rattle.creating.specs.declared.precursors.Precursors.{Precursors}
 use Rattle.creating.specs.declared.precursors.Precursors.TheVariants.{Are, DamagedAt}
 
--- the same precursor
+-- Precursors that compare as equal are equal.
 same_precursor : (x y : Option (List ℕ)) → option_eq (pointwise eqb) x y ≡ true → x ≡ y
 same_precursor None None same = refl
 same_precursor None (Some y) same = absurd (false≢true same)
 same_precursor (Some x) None same = absurd (false≢true same)
 same_precursor (Some x) (Some y) same = ap Some (same_text x y (sym same))
 
--- what a comparison of two components comes to
+-- The result of comparing two components.
 abbrev are_same : Component → Component → Bool
 are_same x y =
     eqb x.image y.image && (beq x.permanent y.permanent && (eqb x.size y.size
@@ -57,7 +57,7 @@ same_component x y same =
     ∙ ap (λ d. component_of y.image y.permanent y.size d x.precursor) (same_text x.digest y.digest (sym fourth.0))
     ∙ ap (λ o. component_of y.image y.permanent y.size y.digest o) (same_precursor x.precursor y.precursor fourth.1)
 
--- components that compare as the same are
+-- Components that compare as equal are equal.
 pub same_components : (xs ys : List Component) → pointwise are_same xs ys ≡ true → xs ≡ ys
 same_components [] [] same = refl
 same_components [] (y ∷ ys) same = absurd (false≢true same)
@@ -66,24 +66,24 @@ same_components (x ∷ xs) (y ∷ ys) same =
     let both = and_parts _ _ same in
     ap (λ z. z ∷ xs) (same_component x y both.0) ∙ ap (λ zs. y ∷ zs) (same_components xs ys both.1)
 
--- no file
+-- A component of no file, as a default.
 pub nothing : NewComponent
 nothing = record { image = 0; permanent = false; file = record { ref_ptr = (0, 0); now = [] } }
 
--- a place more
+-- The relation holds at one more place.
 pub zip_more : {A B : Type 0} (R : A → B → Type 0) (xs : List A) (ys : List B) (place : ℕ) (d : A) (y : B)
     → place < length xs → AllZip R (take place xs) ys → R (get_or xs place d) y
     → AllZip R (take (place + 1) xs) (ys ++ y ∷ [])
 zip_more R xs ys place d y within each holds =
     rw (add-one, take-suc xs place d within) (AllZip-push R (take place xs) ys (get_or xs place d) y each holds)
 
--- the file at a place is for its image
+-- The file at a place is for its image.
 pub any_at : (asked : List NewComponent) (place : ℕ) (d : NewComponent) → place < length asked
     → Any (λ component. component.image ≡ (get_or asked place d).image) asked
 any_at asked place d within =
     (place, get_or asked place d, within, sym (get_or_default asked place d (get_or asked place d) within), refl)
 
--- Where no flash is asked for, none was read.
+-- If no flash is given, none was read.
 pub none_read : (map : SectorMap) (asked : NewManifest) (input : Option (List ℕ)) (files : FileBytes)
     (found : Precursors) → asked.precursor ≡ None → FindsNone asked.components.items found
     → ReadsPrecursors map asked input files input files found
@@ -98,7 +98,7 @@ none_read map asked input files (Are running) lacks none = record {
 }
 none_read map asked input files (DamagedAt image) lacks none = absurd none
 
--- Where one is asked for, it was read.
+-- If a flash is given, it was read.
 pub flash_read : (map : SectorMap) (asked : NewManifest) (name : Bor (List ℕ)) (source : Source) (bytes : List ℕ)
     (input : Option (List ℕ)) (files : FileBytes) (new_input : Option (List ℕ)) (new_files : FileBytes)
     (found : Precursors) → asked.precursor ≡ Some name → IsNamed name.now source
@@ -126,8 +126,8 @@ flash_read map asked name source bytes input files new_input new_files (DamagedA
       damaged = finds.1;
     }
 
--- The first so many files were read, from a host that is at this state now, and these components
--- let them come.
+-- The first `count` files were read, and these components admit them. The host is now at this
+-- state.
 pub record AreRead (asked : List NewComponent) (follow : List (Option (List ℕ))) (count : ℕ)
     (old_input : Option (List ℕ)) (old_files : FileBytes) (input : Option (List ℕ))
     (files : FileBytes) (components : List Component) : Type 0 where
@@ -140,7 +140,7 @@ pub record AreRead (asked : List NewComponent) (follow : List (Option (List ℕ)
   pub precursors : precursors_of components ≡ take count follow
   pub come : AllZip LetsCome contents components
 
--- none was read
+-- No file was read.
 pub AreRead-none : (asked : List NewComponent) (follow : List (Option (List ℕ)))
     (input : Option (List ℕ)) (files : FileBytes)
     → AreRead asked follow 0 input files input files []
@@ -154,7 +154,7 @@ AreRead-none asked follow input files = record {
   come = tt;
 }
 
--- one more was read
+-- One more file was read.
 pub AreRead-more : (asked : List NewComponent) (follow : List (Option (List ℕ))) (count : ℕ)
     (old_input : Option (List ℕ)) (old_files : FileBytes) (input : Option (List ℕ))
     (files : FileBytes) (new_input : Option (List ℕ)) (new_files : FileBytes)
@@ -184,7 +184,7 @@ AreRead-more asked follow count old_input old_files input files new_input new_fi
       come = AllZip-push LetsCome before.contents components content component before.come reads.come;
     }
 
--- all were read
+-- All files were read.
 pub AreRead-all : (asked : List NewComponent) (follow : List (Option (List ℕ))) (count : ℕ)
     (old_input : Option (List ℕ)) (old_files : FileBytes) (input : Option (List ℕ))
     (files : FileBytes) (components : List Component)
@@ -204,8 +204,8 @@ AreRead-all asked follow count old_input old_files input files components all sa
       come = read.come;
     }
 
--- Where each component is for the image and of the kind that is asked for, and follows what runs,
--- it is the one that is asked for.
+-- If each component has the image and the kind of the arguments, and the precursor that runs, it is
+-- the one of the arguments.
 pub asked_for : (map : SectorMap) (flash : Option Chip) (asked : List NewComponent) (components : List Component)
     → AllZip IsOfKind asked components → ArePrecursors map flash asked (precursors_of components)
     → AllZip (IsAskedFor map flash) asked components

@@ -23,7 +23,7 @@ use Rattle.creating.specs.declared.extract.Copied.{Copied}
 use Rattle.creating.specs.declared.extract.Copying.{Copying}
 use Rattle.creating.specs.declared.extract.Copied.TheVariants as copied
 
--- The bytes of the slot that is copied.
+-- The bytes of the slot to copy.
 abbrev pub slot_to_copy : Copying → SectorMap → Chip → List ℕ
 slot_to_copy copying map chip = slot_bytes map chip copying.image copying.side
 
@@ -34,8 +34,8 @@ pub record IsImageOf (slot content : List ℕ) : Type 0 where
   pub begins : slot ≡ content ++ rest
   pub intact : IsIntact content description
 
--- The result of copying an image out of its slot, and what a file is known to hold then: the image,
--- or the first check that fails of what the slot begins with.
+-- The result of copying an image out of its slot, and what a file is known to hold after it. Either
+-- the file holds the image, or this is the first check that the slot's contents fail.
 abbrev pub EndsCopy : Copied → SectorMap → Chip → ℕ → Side → Option (List ℕ) → Type 0
 EndsCopy copied.Done map chip image side held =
     (content : List ℕ) × IsImageOf (slot_bytes map chip image side) content
@@ -43,14 +43,14 @@ EndsCopy copied.Done map chip image side held =
 EndsCopy (copied.Refused fault) map chip image side held =
     IsFrontFault (slot_bytes map chip image side) fault
 
--- The answer for this result, and what a writer took.
+-- The answer for this result, and the text that a writer took.
 abbrev pub AnswersCopied : Answer → Copied → Option (List ℕ) → Option (List ℕ) → Type 0
 AnswersCopied answer copied.Done old new = (answer ≡ Done) × Appends old new done_text
 AnswersCopied answer (copied.Refused fault) old new =
     (answer ≡ Refused) × Appends old new (refused_text (code_of fault) (name_of fault))
 
--- `extract` read a device file and a flash, copied the image of a slot into a file, or found why
--- there is none, and wrote which ..
+-- `extract` read a device file and a flash. It copied the image of a slot into a file, or found why
+-- there is none. It wrote which.
 pub record CopiesImage (answer : Answer) (device flash : Source) (image : ℕ) (side : Side)
     (input : Option (List ℕ)) (files : FileBytes) (held old new : Option (List ℕ)) : Type 0 where
   pub device_bytes : List ℕ
@@ -64,7 +64,8 @@ pub record CopiesImage (answer : Answer) (device flash : Source) (image : ℕ) (
   pub copied : EndsCopy outcome of_device.map (flash_of of_device.map bytes) image side held
   pub answered : AnswersCopied answer outcome old new
 
--- .. or wrote why the sizes of the device file make no map.
+-- The answer of `extract`: it read the flash, or wrote why the sizes of the device file make no
+-- map.
 abbrev pub AnswersCopy : Answer → Source → Source → ℕ → Side → Option (List ℕ) → FileBytes
     → Option (List ℕ) → Option (List ℕ) → Option (List ℕ) → Type 0
 AnswersCopy Done device flash image side input files held old new =

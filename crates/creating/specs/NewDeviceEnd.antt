@@ -12,8 +12,8 @@ use Rattle.command_line.specs.declared.orders.NewDevice.{NewDevice}
 use Rattle.host.specs.declared.answer.Answer.{Answer}
 use Rattle.host.specs.declared.answer.Answer.TheVariants.{Done, Refused, Cut}
 
--- The device of the arguments: the map of its sizes, the identifiers of its names, and the boots
--- of a trial, one if they aren't given.
+-- The device that the arguments describe: the map of its sizes, the identifiers of its names, and
+-- the boots of a trial, which are 1 if they aren't given.
 pub record IsAsked (asked : NewDevice) (device : DeviceFile) : Type 0 where
   pub map : HasSizes asked.sector_size asked.sectors.items device.map
   pub vendor : device.identity.vendor ≡ uuid_of namespace_dns asked.vendor.now
@@ -21,13 +21,13 @@ pub record IsAsked (asked : NewDevice) (device : DeviceFile) : Type 0 where
   pub images : device.identity.images ≡ device.map.images
   pub trial_boots : device.trial_boots ≡ unwrap_or asked.trial_boots 1
 
--- `make-device` wrote the device file of the device that is asked for ..
+-- `make-device` wrote the device file of the described device.
 abbrev pub WritesDevice : NewDevice → Option (List ℕ) → Option (List ℕ) → Type 0
 WritesDevice asked old new =
     (text : List ℕ) × (device : DeviceFile) × IsAsked asked device × IsDeviceFile text device
     × Appends old new text
 
--- .. or why its sizes make no map.
+-- `make-device` wrote why the described sizes make no map.
 abbrev pub RefusesSizes : NewDevice → Option (List ℕ) → Option (List ℕ) → Type 0
 RefusesSizes asked old new =
     (fault : MapError) × IsMapFault asked.sector_size asked.sectors.items fault

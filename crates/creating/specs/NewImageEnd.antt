@@ -22,8 +22,8 @@ use Rattle.host.specs.Input.{FileBytes, Gives, IsKnownAs}
 abbrev pub AreAlternatives : List Dependency → Bor (List Dependency) → Type 0
 AreAlternatives alternatives group = group.now ≡ alternatives
 
--- The values that are asked for, with this body: the header has 32 bytes, the load address and the
--- flags are 0, if they aren't given.
+-- The values of the arguments, with this body. If they aren't given, the header has 32 bytes, and
+-- the load address and the flags are 0.
 pub record IsAskedImage (asked : NewImage) (content : List ℕ) (spec : ImageSpec) : Type 0 where
   pub load_address : spec.load_address ≡ unwrap_or asked.load_address 0
   pub header_size : spec.header_size ≡ unwrap_or asked.header_size 32
@@ -35,30 +35,30 @@ pub record IsAskedImage (asked : NewImage) (content : List ℕ) (spec : ImageSpe
       spec.groups.now
   pub body : spec.body.now ≡ content
 
--- These bytes are the image that is asked for, with this body, and it is intact and says of itself
--- what is asked for ..
+-- These bytes are the image of the arguments' values, with this body. The image is intact, and its
+-- description is that of the values.
 pub record IsImageFor (asked : NewImage) (body bytes : List ℕ) : Type 0 where
   pub spec : ImageSpec
   pub values : IsAskedImage asked body spec
   pub made : bytes ≡ image_bytes (image_of spec)
   pub intact : IsIntact bytes (description_of spec)
 
--- .. or this is the first check of its values that fails.
+-- This is the first check that the arguments' values fail, with this body.
 pub record RefusesImage (asked : NewImage) (body : List ℕ) (fault : MakeError) : Type 0 where
   pub spec : ImageSpec
   pub values : IsAskedImage asked body spec
   pub first : IsMakeFault spec fault
 
--- That an image is made.
+-- The answer of a command that is done.
 abbrev pub done_text : List ℕ
 done_text = codes "done" ++ 10 ∷ []
 
--- Why there is none: the number and the name of the check that fails.
+-- The line of the first check that fails: its number and its name.
 abbrev pub fault_text : MakeError → List ℕ
 fault_text fault = refused_text (make_code_of fault) (make_name_of fault)
 
--- What is answered of an image with this body, what its file is known to hold then, and what a
--- writer took.
+-- The answer for an image with this body, what its file is known to hold after it, and the text
+-- that a writer took.
 abbrev pub AnswersMade : Answer → NewImage → List ℕ → Option (List ℕ)
     → Option (List ℕ) → Option (List ℕ) → Type 0
 AnswersMade Done asked body held old new =
@@ -68,15 +68,15 @@ AnswersMade Refused asked body held old new =
     (fault : MakeError) × RefusesImage asked body fault × Appends old new (fault_text fault)
 AnswersMade Cut asked body held old new = ⊥
 
--- `make-image` read the bytes of a body, and that was answered of the image with this body.
+-- `make-image` read a body, and this is the answer for the image with that body.
 abbrev pub AnswersNewImage : Answer → Source → NewImage → Option (List ℕ) → FileBytes
     → Option (List ℕ) → Option (List ℕ) → Option (List ℕ) → Type 0
 AnswersNewImage answer source asked input files held old new =
     (body : List ℕ) × Gives source input files body
     × AnswersMade answer asked body held old new
 
--- `make-image` ended without an image of which the file was replaced: but for `Done`, and for an
--- answer that could not be written, whatever it came to.
+-- `make-image` ended before it replaced the file of the image. So the result is neither `Done` nor
+-- that the answer could not be written.
 abbrev pub EndsUnmade : Result Answer Refusal → Type 0
 EndsUnmade (Ok Done) = ⊥
 EndsUnmade (Ok Refused) = Unit {0}

@@ -30,43 +30,42 @@ use Rattle.inputs.specs.DeviceInput.{GivesDevice, RefusesMap}
 use Rattle.host.specs.Input.{FileBytes, IsNamed}
 use Rattle.host.specs.Inputs.{GiveEach, names_of}
 
--- The names of the files that may come.
+-- The names of the files to upload.
 abbrev pub file_names : List NewComponent → List (List ℕ)
 file_names asked = map (λ component. component.file.now) asked
 
--- The name of the flash whose images have to run, if there is one.
+-- The name of the flash whose running images the manifest requires, if there is one.
 abbrev pub flash_names : NewManifest → List (List ℕ)
 flash_names asked = names_of (option_to_list asked.precursor)
 
--- What was read of a flash, if anything: the flash with these bytes.
+-- A flash was read, with these bytes, or none was.
 abbrev pub IsFlashIn : SectorMap → List (List ℕ) → Option Chip → Type 0
 IsFlashIn map [] None = Unit {0}
 IsFlashIn map (bytes ∷ []) (Some chip) = IsFlashOf map bytes × (chip ≡ flash_of map bytes)
 IsFlashIn map contents flash = ⊥
 
--- This digest is that of the intact image that runs on a flash; and there is none without a flash.
+-- This digest is that of the intact image that runs on the flash. Without a flash there is none.
 abbrev pub IsPrecursor : SectorMap → Option Chip → ℕ → Option (List ℕ) → Type 0
 IsPrecursor map None image precursor = precursor ≡ None
 IsPrecursor map (Some chip) image precursor =
     (description : Desc) × BeginsIntact (slot_bytes map chip image Primary) description
     × (precursor ≡ Some description.digest)
 
--- A component is for the image that is asked for, of the kind that is asked for, and where a flash
--- was read for what runs there.
+-- A component has the image and the kind of the arguments. If a flash was read, its precursor is
+-- the image that runs there.
 pub record IsAskedFor (map : SectorMap) (flash : Option Chip) (asked : NewComponent)
     (component : Component) : Type 0 where
   pub image : component.image ≡ asked.image
   pub permanent : component.permanent ≡ asked.permanent
   pub precursor : IsPrecursor map flash asked.image component.precursor
 
--- A component lets these bytes come.
+-- A component admits these bytes: it has their length and their digest.
 pub record LetsCome (content : List ℕ) (component : Component) : Type 0 where
   pub size : component.size ≡ length content
   pub digest : component.digest ≡ sha256 content
 
--- `make-manifest` read a device file, the flash if one is given, and the files that may
--- come, and wrote a text that is, to the device, the manifest that is asked for and lets these
--- files come ..
+-- `make-manifest` read a device file, the flash if one is given, and the files to upload. It wrote
+-- a text that is a manifest for the device, with the arguments' values, and admits these files.
 pub record WritesManifest (device : Source) (asked : NewManifest) (input : Option (List ℕ))
     (files : FileBytes) (old new : Option (List ℕ)) : Type 0 where
   pub device_bytes : List ℕ
@@ -95,20 +94,20 @@ pub record WritesManifest (device : Source) (asked : NewManifest) (input : Optio
 abbrev pub HaveImages : ℕ → List NewComponent → Type 0
 HaveImages images asked = All (λ component. component.image < images) asked
 
--- A file is for the image of one before it.
+-- Two files are for the same image.
 abbrev pub Repeats : List NewComponent → Type 0
 Repeats asked =
     (place : ℕ) × (component : NewComponent) × (place < length asked)
     × (slice_index_or asked place component ≡ component)
     × Any (λ other. other.image ≡ component.image) (take place asked)
 
--- What is wrong with what is asked for a device with this number of images.
+-- Why there is no manifest of these files for a device with this number of images.
 abbrev pub IsFault : ℕ → List NewComponent → ManifestError → Type 0
 IsFault images asked NoComponent = HaveImages images asked → ⊥
 IsFault images asked RepeatedComponent = HaveImages images asked × Repeats asked
 IsFault images asked other = ⊥
 
--- .. or wrote the lowest refusal that applies to what is asked ..
+-- `make-manifest` wrote the lowest refusal that applies to the arguments.
 abbrev pub RefusesAsked : Source → NewManifest → Option (List ℕ) → FileBytes
     → Option (List ℕ) → Option (List ℕ) → Type 0
 RefusesAsked device asked input files old new =
@@ -116,7 +115,7 @@ RefusesAsked device asked input files old new =
     × IsFault of_device.map.images asked.components.items fault
     × Appends old new (refused_text (code_of fault) (name_of fault))
 
--- .. or that no intact image runs of which one is to follow.
+-- `make-manifest` wrote that an image isn't intact on the flash, which a file is for.
 pub record RefusesRunning (device : Source) (asked : NewManifest) (input : Option (List ℕ))
     (files : FileBytes) (old new : Option (List ℕ)) : Type 0 where
   pub device_bytes : List ℕ
@@ -134,8 +133,7 @@ pub record RefusesRunning (device : Source) (asked : NewManifest) (input : Optio
       description → ⊥
   pub told : Appends old new (refused_fault_text (RunningDamaged image))
 
--- The manifest was written, and it is asked for that a file which the device will not take is an
--- answer of its own.
+-- `make-manifest` wrote the manifest, and `--strict` is given. So the answer may be `Refused`.
 abbrev pub WritesStrictly : Source → NewManifest → Option (List ℕ) → FileBytes
     → Option (List ℕ) → Option (List ℕ) → Type 0
 WritesStrictly device asked input files old new =

@@ -1,4 +1,4 @@
--- What the steps of making a manifest come to: what runs on a flash, and the files that are read.
+-- The results of the steps of `make-manifest`: reading the running images, and the files.
 use Rattle.std.specs.Prelude.{◌≡◌, ℕ, Any, List, [], ◌∷◌, ◌++◌, map, Option, Some, None}
 use Rattle.std.specs.Io.KnownBytes.{Appends}
 use Rattle.std.specs.List.{AllZip}
@@ -28,32 +28,32 @@ abbrev pub IsDamaged : SectorMap → Chip → ℕ → Type 0
 IsDamaged map chip image =
     (description : Desc) → BeginsIntact (slot_bytes map chip image Primary) description → ⊥
 
--- What is found of the image of a number: the digest of the intact image that runs.
+-- What is found of a running image: the digest of the intact image, or none.
 abbrev pub FindsPrecursor : SectorMap → Chip → ℕ → Option (List ℕ) → Type 0
 FindsPrecursor map chip image None = IsDamaged map chip image
 FindsPrecursor map chip image (Some digest) = IsPrecursor map (Some chip) image (Some digest)
 
--- These are the images that have to run, for each file.
+-- These are the precursors of the files, one for each.
 abbrev pub ArePrecursors : SectorMap → Option Chip → List NewComponent → List (Option (List ℕ))
     → Type 0
 ArePrecursors map flash asked precursors =
     AllZip (λ component precursor. IsPrecursor map flash component.image precursor) asked precursors
 
--- What is found of the images that files are for.
+-- What is found of the running images that files are for.
 abbrev pub FindsPrecursors : SectorMap → Chip → List NewComponent → Precursors → Type 0
 FindsPrecursors map chip asked (Are running) =
     ArePrecursors map (Some chip) asked running.digests.items
 FindsPrecursors map chip asked (DamagedAt image) =
     Any (λ component. component.image ≡ image) asked × IsDamaged map chip image
 
--- No image has to run.
+-- The files have no precursors.
 abbrev pub FindsNone : List NewComponent → Precursors → Type 0
 FindsNone asked (Are running) =
     AllZip (λ component precursor. precursor ≡ None) asked running.digests.items
 FindsNone asked (DamagedAt image) = ⊥
 
--- The flash was read if one is given, before what is read after it, and these images have to
--- run.
+-- The flash was read if one is given, before all that is read after it. The files have these
+-- precursors.
 pub record ReadsFlash (map : SectorMap) (asked : NewManifest) (input : Option (List ℕ))
     (files : FileBytes) (new_input : Option (List ℕ)) (new_files : FileBytes)
     (precursors : List (Option (List ℕ))) : Type 0 where
@@ -67,7 +67,7 @@ pub record ReadsFlash (map : SectorMap) (asked : NewManifest) (input : Option (L
   pub is_flash : IsFlashIn map contents flash
   pub are : ArePrecursors map flash asked.components.items precursors
 
--- The flash was read, and no intact image of this number runs.
+-- The flash was read, and the running image of this number isn't intact.
 pub record ReadsDamaged (map : SectorMap) (asked : NewManifest) (input : Option (List ℕ))
     (files : FileBytes) (image : ℕ) : Type 0 where
   pub sources : List Source
@@ -85,12 +85,12 @@ ReadsPrecursors map asked input files new_input new_files (Are running) =
 ReadsPrecursors map asked input files new_input new_files (DamagedAt image) =
     ReadsDamaged map asked input files image
 
--- A component is for the image and of the kind that is asked for.
+-- A component has the image and the kind of the arguments.
 abbrev pub IsOfKind : NewComponent → Component → Type 0
 IsOfKind asked component =
     (component.image ≡ asked.image) × (component.permanent ≡ asked.permanent)
 
--- A file was read, and the component lets it come where this image runs.
+-- A file was read. The component admits it, and has this precursor.
 pub record ReadsComponent (asked : NewComponent) (follows : Option (List ℕ))
     (input : Option (List ℕ)) (files : FileBytes) (new_input : Option (List ℕ))
     (new_files : FileBytes) (component : Component) : Type 0 where
@@ -103,11 +103,11 @@ pub record ReadsComponent (asked : NewComponent) (follows : Option (List ℕ))
   pub precursor : component.precursor ≡ follows
   pub come : LetsCome content component
 
--- The images that have to run where components may come.
+-- The precursors of components.
 abbrev pub precursors_of : List Component → List (Option (List ℕ))
 precursors_of components = map (λ component. component.precursor) components
 
--- Files were read, and the components let them come where these images run.
+-- Files were read. The components admit them, and have these precursors.
 pub record ReadsComponents (asked : List NewComponent) (follow : List (Option (List ℕ)))
     (input : Option (List ℕ)) (files : FileBytes) (components : List Component) : Type 0 where
   pub sources : List Source
@@ -118,14 +118,14 @@ pub record ReadsComponents (asked : List NewComponent) (follow : List (Option (L
   pub precursors : precursors_of components ≡ follow
   pub come : AllZip LetsCome contents components
 
--- To a device of this identity a text is a manifest that says the same.
+-- A text reads back as a manifest for a device of this identity, with the same contents.
 pub record IsReadBack (identity : Identity) (text : List ℕ) (manifest : Manifest) : Type 0 where
   pub read : Manifest
   pub is_manifest : IsManifest identity text read
   pub sequence : read.sequence ≡ manifest.sequence
   pub components : read.components.items ≡ manifest.components.items
 
--- Files were read, and a writer took the manifest that lets them come where these images run.
+-- Files were read, and a writer took the manifest that admits them, with these precursors.
 pub record Writes (device : DeviceFile) (asked : NewManifest)
     (precursors : List (Option (List ℕ))) (input : Option (List ℕ)) (files : FileBytes)
     (old new : Option (List ℕ)) : Type 0 where

@@ -1,4 +1,4 @@
-//! `bootswap extract`: copies the image in a slot of a flash into a file.
+//! `bootswap extract`: copies an image out of a slot of a flash into a file.
 ghost use Rattle.std.specs.Prelude.{◌≡◌, ◌≢◌, ◌<◌, ◌≤◌, IfErr, IfOk, length, slice_range, true};
 ghost use Rattle.std.specs.Prelude.{string_bytes};
 ghost use Rattle.sector_map.specs.Map.{IsLaidOut};
@@ -26,14 +26,14 @@ use std::io::Write;
 use std::marker::Brand;
 use std::sync::ledger::{Blank, Ledger};
 
-/// The slot that is copied, and the file that it is copied into.
+/// The slot to copy, and the file to copy it into.
 #[derive(Clone, Copy)]
 pub struct Copying<'a> {
     /// The number of the image.
     pub image: u8,
     /// The side of its slot.
     pub side: Side,
-    /// The file.
+    /// The file to make or replace.
     pub out: NewFile<'a>,
 }
 
@@ -42,17 +42,19 @@ pub struct Copying<'a> {
 pub enum Copied {
     /// The file holds the image.
     Done,
-    /// The slot doesn't begin with an image: the first check that fails. No file was written.
+    /// The slot doesn't begin with an image. This is the first check that fails. No file was
+    /// written.
     Refused(ImageError),
 }
 
-/// Reads a device file and the flash of the device from `host`, and copies the intact image that a
-/// slot begins with into a file, which is made or replaced. Writes to `out` that it is done, or why
-/// there is no image. All bytes are in memory of `alloc`.
+/// Copies the intact image that a slot begins with into a file, which is made or replaced. Writes
+/// to `out` that it is done, or why there is no image.
 ///
-/// The file can't be one of the inputs, which never change, and the flash is opened only to be
-/// read. A file that exists is replaced only if it is an image, is empty, or `--force` is given. It
-/// changes only if the answer is `Done` or can't be written.
+/// The device file and the flash are read from `host`. All bytes are in memory of `alloc`.
+///
+/// The file can't be one of the inputs, which never change, and the flash is opened only for
+/// reading. A file that exists is replaced only if it begins with an image's header, is empty, or
+/// `--force` is given. It changes only if the answer is `Done` or can't be written.
 pub fn run_extract<H: Host, O: Write>(
     alloc: Global,
     device: Source<'_>,
@@ -86,7 +88,7 @@ pub fn run_extract<H: Host, O: Write>(
     tell_copied(alloc, copied, out)
 }
 
-/// Copies the image that a slot begins with into a file. The flash has these bytes.
+/// Copies the image that a slot begins with into a file. `bytes` are those of the flash.
 fn copy<L: Ledger, H: Host>(
     alloc: Global,
     blank: Blank,
@@ -122,8 +124,8 @@ fn copy<L: Ledger, H: Host>(
     Ok(Copied::Done)
 }
 
-/// The length of the image that the slot to copy begins with, or the first check that fails. The
-/// flash has power.
+/// The length in bytes of the image that the slot to copy begins with, or the first check that
+/// fails. The flash has power.
 fn image_length<F: Flash>(
     flash: &mut F,
     map: &SectorMap,
@@ -148,7 +150,7 @@ fn image_length<F: Flash>(
     }
 }
 
-/// Writes to `out` the result of copying. Does not allocate for `Done`.
+/// Writes the result of copying to `out`. Doesn't allocate for `Done`.
 fn tell_copied<O: Write>(alloc: Global, copied: Copied, out: &mut O) -> Result<Answer, Refusal>
     ensures told { IfOk result (λ answer.
         AnswersCopied answer copied (O.contents out.old) (O.contents out.new)) }
@@ -169,7 +171,7 @@ fn tell_copied<O: Write>(alloc: Global, copied: Copied, out: &mut O) -> Result<A
     }
 }
 
-/// The text for a slot without an image: the number and the name of the first check that fails.
+/// The line for a slot without an image: the number and the name of the first check that fails.
 fn fault_text(alloc: Global, fault: ImageError) -> Result<String, AllocError>
     ensures { IfOk result (λ text. string_bytes text
         ≡ refused_text (code_of fault) (name_of fault)) }

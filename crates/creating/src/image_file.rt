@@ -1,5 +1,6 @@
-//! The file of an image that a command makes. It can't be one of the inputs. A file that exists is
-//! replaced as a whole, and only if it is an image, is empty, or `--force` is given.
+//! Makes or replaces the file of an image. It can't be one of the inputs. A file that exists is
+//! replaced as a whole, and only if it begins with an image's header, is empty, or `--force` is
+//! given.
 ghost use Rattle.std.specs.Prelude.{◌≡◌, IfErr, IfOk, OnOk, true};
 ghost use Rattle.host.specs.Doings.{IsApartFrom, KeepsApart};
 ghost use Rattle.host.specs.Input.{IsKnownAs, KeepsFiles};
@@ -28,7 +29,7 @@ pub fn refuse_input<H: Host>(
     }
 }
 
-/// Makes the file of an image, or replaces it.
+/// Makes the file of an image, or replaces an old file.
 pub fn replace<H: Host>(
     alloc: Global,
     file: NewFile<'_>,
@@ -52,8 +53,8 @@ pub fn replace<H: Host>(
     }
 }
 
-/// Refuses a file that exists and holds anything but an image. A file that can't be replaced anyway
-/// isn't read.
+/// Refuses a file that exists and neither is empty nor begins with an image's header. A file that
+/// can't be replaced anyway isn't read.
 fn refuse_other<H: Host>(alloc: Global, host: &H, name: &str) -> Result<(), Refusal>
     ensures { OnOk result (HoldsImage (H.file host.now name.now)) }
 {
@@ -73,7 +74,7 @@ fn refuse_other<H: Host>(alloc: Global, host: &H, name: &str) -> Result<(), Refu
     }
 }
 
-/// Whether a file begins with the header of an image, or is empty.
+/// Whether a file is empty or begins with the header of an image.
 fn holds_image<H: Host>(alloc: Global, host: &H, name: &str) -> io::Result<bool>
     ensures { IfOk result (λ holds. holds ≡ true → HoldsImage (H.file host.now name.now)) }
 {
@@ -83,7 +84,7 @@ fn holds_image<H: Host>(alloc: Global, host: &H, name: &str) -> io::Result<bool>
     }
 }
 
-/// The refusal of a command whose file can't be made, or can't replace the old one.
+/// The refusal if a file can't be made, or can't be replaced.
 fn refusal(alloc: Global, name: &str, fault: FlashFault) -> Refusal {
     match fault {
         FlashFault::InUse => Refusal::ImageInUse,

@@ -1,5 +1,4 @@
-//! `bootswap make-device`: makes a device file, from the sizes of a flash and the names of a
-//! device.
+//! `bootswap make-device`: makes a device file from the sizes of a flash and the names of a device.
 ghost use Rattle.std.specs.Prelude.{◌≡◌, IfOk, OnOk, true, unwrap_or};
 ghost use Rattle.std.specs.Io.KnownBytes.{Appends};
 ghost use Rattle.device_texts.specs.AnswerText.{map_refusal_text};
@@ -17,14 +16,14 @@ use sector_map::{MapError, SectorMap};
 use std::alloc::{AllocError, Global};
 use std::io::Write;
 
-/// The number of boots of a trial if neither the arguments nor the device file give one.
+/// The number of boots of a trial if the arguments don't give one.
 const USUAL_TRIAL_BOOTS: u8 = 1;
 
 /// Writes a device file to `out`, and then the parts of the device's flash to `err`. If the sizes
 /// make no map, writes the reason to `out` instead.
 ///
-/// Both texts are made in memory of `alloc` before the first is written, and the device file is
-/// read back. `out` is flushed before anything is written to `err`.
+/// Both texts are made in memory of `alloc` before the first is written. The device file is read
+/// back before it is written. `out` is flushed before anything is written to `err`.
 pub fn run_make_device<O: Write, E: Write>(
     alloc: Global,
     asked: &NewDevice<'_>,
@@ -65,7 +64,7 @@ fn refuse_sizes<O: Write>(alloc: Global, fault: MapError, out: &mut O) -> Result
     tell(text.as_bytes(), out)
 }
 
-/// The device that the arguments describe, whose sizes make this map.
+/// The device of the arguments, whose sizes make this map.
 fn device_of(asked: &NewDevice<'_>, map: SectorMap) -> DeviceFile
     requires { HasSizes asked.now.sector_size asked.now.sectors.items map }
     ensures { IsAsked asked.now result }
@@ -82,7 +81,7 @@ fn device_of(asked: &NewDevice<'_>, map: SectorMap) -> DeviceFile
     }
 }
 
-/// The text of the device file.
+/// The text of the device file for the arguments.
 fn device_text(
     alloc: Global,
     asked: &NewDevice<'_>,
@@ -103,7 +102,7 @@ fn device_text(
     Ok(text)
 }
 
-/// Appends the JSON list of these numbers to a text.
+/// Adds the JSON list of numbers to a text.
 fn write_list(text: &mut String, numbers: &[u32]) -> Result<(), AllocError> {
     let mut before = '[';
     for number in numbers {
@@ -115,8 +114,8 @@ fn write_list(text: &mut String, numbers: &[u32]) -> Result<(), AllocError> {
 
 /// Refuses a text that isn't the device file of this device.
 ///
-/// It never refuses, unless memory runs out: the text was made of this device. How the text is made
-/// isn't proved. It is proved that the text reads back as the device.
+/// It refuses only if memory runs out, since the text was made from this device. How the text is
+/// made isn't proved. It is proved that the text reads back as the device.
 fn expect_file(alloc: Global, text: &[u8], device: &DeviceFile) -> Result<(), Refusal>
     ensures { OnOk result (IsDeviceFile text.now device.now) }
 {
@@ -127,7 +126,7 @@ fn expect_file(alloc: Global, text: &[u8], device: &DeviceFile) -> Result<(), Re
     }
 }
 
-/// Whether two devices are the same.
+/// Whether two devices have the same map, identity and boots of a trial.
 fn is_same(one: &DeviceFile, other: &DeviceFile) -> bool
     ensures { result ≡ true → AreSame one.now other.now }
 {

@@ -1,4 +1,4 @@
-//! `bootswap make-image`: makes an image, from its body and the values of its header and its TLVs.
+//! `bootswap make-image`: makes an image from its body and the values of its header and TLVs.
 ghost use Rattle.std.specs.Prelude.{◌≡◌, ◌≢◌, IfErr, IfOk, OnOk, map, string_bytes};
 ghost use Rattle.std.specs.List.{AllZip};
 ghost use Rattle.std.specs.Io.KnownBytes.{Appends};
@@ -17,16 +17,16 @@ use std::io::Write;
 use tlv::{ImageSpec, MakeError, make_image};
 use version_order::Dependency;
 
-/// The size of a header in bytes if the arguments don't give one: that of its fields.
+/// The size of a header in bytes if the arguments don't give one. Its fields need as much.
 const USUAL_HEADER_SIZE: u16 = 32;
 
-/// Reads the body of an image from `host`, makes the image, and then makes or replaces its file.
-/// Writes to `out` that it is done, or why there is no such image. All bytes are in memory of
-/// `alloc`.
+/// Makes the image of a body, and makes or replaces its file. Writes to `out` that it is done, or
+/// why there is no such image.
 ///
-/// The image is made before its file is written. The file can't be that of the body, which never
-/// changes. A file that exists is replaced only if it is an image, is empty, or `--force` is given.
-/// It changes only if the answer is `Done` or can't be written.
+/// The body is read from `host`. All bytes are in memory of `alloc`. The image is made before its
+/// file is written. The file can't be that of the body, which never changes. A file that exists is
+/// replaced only if it begins with an image's header, is empty, or `--force` is given. It changes
+/// only if the answer is `Done` or can't be written.
 pub fn run_make_image<H: Host, O: Write>(
     alloc: Global,
     image: NewFile<'_>,
@@ -49,7 +49,7 @@ pub fn run_make_image<H: Host, O: Write>(
     make(alloc, image, asked, &body, host, out)
 }
 
-/// Makes the image with this body, and then makes or replaces its file.
+/// Makes the image of a body, and makes or replaces its file.
 fn make<H: Host, O: Write>(
     alloc: Global,
     image: NewFile<'_>,
@@ -80,7 +80,7 @@ fn make<H: Host, O: Write>(
     }
 }
 
-/// The image with this body and the values of the arguments.
+/// The image of a body, with the values of the arguments.
 fn image_of(alloc: Global, asked: &NewImage, body: &[u8]) -> Result<Vec<u8>, MakeError>
     ensures made { IfOk result (λ bytes. IsImageFor asked.now body.now bytes.items) }
     ensures refused { IfErr result (λ fault. (fault ≢ MakeError.NoMemory)
@@ -100,7 +100,7 @@ fn image_of(alloc: Global, asked: &NewImage, body: &[u8]) -> Result<Vec<u8>, Mak
     make_image(alloc, &spec)
 }
 
-/// The alternatives of each of these groups.
+/// The alternatives of each of these groups, as slices.
 fn slices_of<'g>(
     alloc: Global,
     groups: &'g [Vec<Dependency>],
@@ -125,7 +125,7 @@ fn refuse<O: Write>(alloc: Global, fault: MakeError, out: &mut O) -> Result<(), 
     tell(text.as_bytes(), out)
 }
 
-/// The text for values that make no image: the number and the name of the first check that fails.
+/// The line for values that make no image: the number and the name of the first check that fails.
 fn fault_text(alloc: Global, fault: MakeError) -> Result<String, AllocError>
     ensures { IfOk result (λ text. string_bytes text ≡ fault_text fault) }
 {

@@ -1,4 +1,4 @@
-//! `bootswap make-manifest`: makes the manifest that lets files come to a device.
+//! `bootswap make-manifest`: makes the manifest for files to upload to a device.
 ghost use Rattle.std.specs.Prelude.{◌≡◌, ◌↔◌, Any, IfNone, IfOk, IfSome, IsTrue, OnOk, length};
 ghost use Rattle.std.specs.Prelude.{string_bytes, true};
 ghost use Rattle.std.specs.Io.KnownBytes.{Appends};
@@ -25,14 +25,14 @@ use manifest::{Identity, Manifest, ManifestError};
 use std::alloc::{AllocError, Global};
 use std::io::Write;
 
-/// Reads a device file, each file that may come, and, if it is given, the flash of the precursors
-/// from `host`, and writes the manifest to `out`. If there is no such manifest for the device,
-/// writes the reason to `out` instead. Then writes notes to `err`: which of the files the device
-/// will not take, and whether it tries files that are to stay. With `--strict` the answer is
-/// `Refused` if the device will not take one of the files.
+/// Writes to `out` the manifest for files to upload to a device, or why there is no such manifest.
 ///
-/// The manifest is made in memory of `alloc` and read back before it is written. `out` is flushed
-/// before anything is written to `err`.
+/// The device file, each file to upload, and the flash of the precursors, if one is given, are read
+/// from `host`. The manifest is made in memory of `alloc` and read back before it is written.
+///
+/// After the manifest, notes are written to `err`: which of the files the device will not take, and
+/// whether it boots files on trial that are requested permanently. `out` is flushed before. With
+/// `--strict` the answer is `Refused` if the device will not take one of the files.
 pub fn run_make_manifest<H: Host, O: Write, E: Write>(
     alloc: Global,
     device: Source<'_>,
@@ -68,7 +68,7 @@ pub fn run_make_manifest<H: Host, O: Write, E: Write>(
     }
 }
 
-/// The fault in the list of files, for a device with this number of images.
+/// Why there is no manifest of these files for a device with this number of images.
 fn fault_in(asked: &[NewComponent<'_>], images: u8) -> Option<ManifestError>
     ensures fault { IfSome result (IsFault images asked.now) }
     ensures sound { IfNone result (HaveImages images asked.now) }
@@ -108,10 +108,10 @@ pub(crate) fn is_named(asked: &[NewComponent<'_>], image: u8) -> bool
     asked.iter().any(|component| component.image == image)
 }
 
-/// Reads the files that may come, writes the manifest that lets them come while these images run to
-/// `out`, and notes to `err`: which of the files the device or its next boot will not take, and
-/// whether it tries files that are to stay. Returns whether it will take all of them, as far as
-/// that is known.
+/// Reads the files to upload, writes to `out` the manifest that admits them, with these precursors,
+/// and writes notes to `err`: which of the files the device or its next boot will not take, and
+/// whether it boots files on trial that are requested permanently. Returns whether it will take all
+/// of them, as far as that is known.
 fn write_manifest<H: Host, O: Write, E: Write>(
     alloc: Global,
     device: &DeviceFile,
@@ -149,9 +149,9 @@ fn write_manifest<H: Host, O: Write, E: Write>(
     Ok(fit && are_bootable)
 }
 
-/// Refuses a text that isn't this manifest, to a device of this identity.
+/// Refuses a text that isn't this manifest for a device of this identity.
 ///
-/// It never refuses, unless memory runs out: the text was made of this manifest. How the text is
+/// It refuses only if memory runs out, since the text was made from this manifest. How the text is
 /// made isn't proved. It is proved that the text reads back as the manifest.
 fn expect_manifest(
     alloc: Global,
@@ -179,7 +179,7 @@ fn refuse<O: Write>(alloc: Global, fault: ManifestError, out: &mut O) -> Result<
     tell(text.as_bytes(), out)
 }
 
-/// The text for files that make no manifest: the number and the name of the refusal.
+/// The line for files that make no manifest: the number and the name of the refusal.
 fn fault_text(alloc: Global, fault: ManifestError) -> Result<String, AllocError>
     ensures { IfOk result (λ text. string_bytes text
         ≡ refused_text (code_of fault) (name_of fault)) }

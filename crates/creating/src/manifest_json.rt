@@ -1,10 +1,10 @@
-//! The JSON text of a manifest.
+//! Makes the JSON text of a manifest.
 
 use manifest::{Component, Identity, Manifest};
 use std::alloc::{AllocError, Global};
 
-/// The text of a manifest for devices of this identity, in memory of `alloc`: a JSON object whose
-/// keys are in the order of their description, with two lines for each component.
+/// The text of a manifest for devices of this identity, in memory of `alloc`. It is a JSON object
+/// with its keys in the order of docs/FORMATS.md, and two lines for each component.
 pub fn manifest_json(
     alloc: Global,
     identity: &Identity,
@@ -26,7 +26,7 @@ pub fn manifest_json(
     Ok(text)
 }
 
-/// Appends a component to the text of a manifest.
+/// Adds a component to the text of a manifest.
 fn write_component(
     alloc: Global,
     text: &mut String,

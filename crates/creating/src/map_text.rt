@@ -1,11 +1,11 @@
-//! The text of the parts of a device's flash, for people.
+//! Prints the parts of a device's flash, for people.
 
 use sector_map::{SectorMap, Side};
 use std::alloc::{AllocError, Global};
 
-/// The text of a map, in memory of `alloc`: a line for each part, in the order of their addresses,
-/// with its first byte and its length. Then the largest number of bytes of an image, and the length
-/// of the flash.
+/// The text of a map, in memory of `alloc`. It has a line for each part, in the order of addresses,
+/// with its first byte and its length in bytes. The largest size of each image and the length of
+/// the flash follow, in bytes.
 pub fn map_text(alloc: Global, map: &SectorMap) -> Result<String, AllocError> {
     let (scratch, sector) = (map.scratch_start(), map.sector_size);
     let log = map.sector_start(map.log_sector(0));
@@ -19,7 +19,7 @@ pub fn map_text(alloc: Global, map: &SectorMap) -> Result<String, AllocError> {
     Ok(text)
 }
 
-/// Appends the slots of a side, each with its trailer.
+/// Adds the slots of a side, each with its trailer.
 fn write_side(
     text: &mut String,
     map: &SectorMap,
@@ -36,8 +36,8 @@ fn write_side(
     Ok(())
 }
 
-/// Appends the largest number of bytes of each image: the length of its slot. A trailer has its own
-/// sector.
+/// Adds the largest size of each image in bytes: the length of its slot, since a trailer has its
+/// own sector.
 fn write_largest(text: &mut String, map: &SectorMap) -> Result<(), AllocError> {
     for image in 0..map.images {
         let length = map.slot_length(image);

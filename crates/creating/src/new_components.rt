@@ -1,4 +1,4 @@
-//! Reads the files that may come to a device, for its manifest.
+//! Reads the files to upload to a device, for its manifest.
 ghost use Rattle.std.specs.Prelude.{◌≡◌, ◌<◌, IfOk, length};
 ghost use Rattle.host.specs.Input.{KeepsFiles};
 ghost use Rattle.creating.specs.NewManifestEnd.{HaveImages};
@@ -15,10 +15,12 @@ use sector_map::SectorMap;
 use sha2::{Digest, Sha256};
 use std::alloc::{AllocError, Global};
 
-/// The components of a manifest for these files, which are read from `host` one by one into memory
-/// of `alloc`. `precursors` are the digests of the images that have to run. Appends to `notes` the
-/// files that a device with this map will not take, and requests the files in `table`, if there is
-/// one.
+/// Makes the components of a manifest for these files, which are read from `host` one by one into
+/// memory of `alloc`.
+///
+/// `precursors` are the digests of the images that have to run, one for each file. Adds to `notes`
+/// the files that a device with this map will not take, and requests the files in `table`, if there
+/// is one.
 pub fn read_components<H: Host>(
     alloc: Global,
     map: &SectorMap,
@@ -47,8 +49,8 @@ pub fn read_components<H: Host>(
     Ok(components)
 }
 
-/// The component for this file, which is read from `host`, with the digest of the image that has to
-/// run.
+/// Makes the component for a file, which is read from `host`. `precursor` is the digest of the
+/// image that has to run.
 fn read_component<H: Host>(
     alloc: Global,
     map: &SectorMap,
@@ -73,7 +75,7 @@ fn read_component<H: Host>(
     if write_notes(notes, map, asked.image, source, &file, &described).is_err() {
         return Err(Refusal::NoMemory);
     }
-    // If there is a table, the choice over it reports this reason too.
+    // If there is a table, the decision over it reports this reason too.
     if table.is_none() && write_lack(notes, map.images, asked.image, &described).is_err() {
         return Err(Refusal::NoMemory);
     }
@@ -87,8 +89,8 @@ fn read_component<H: Host>(
     })
 }
 
-/// Appends to the notes why a device with this map will not take a file for an image, with a line
-/// for each reason.
+/// Adds to the notes why a device with this map will not take a file for an image, with a line for
+/// each reason.
 fn write_notes(
     notes: &mut String,
     map: &SectorMap,

@@ -1,4 +1,4 @@
-//! What boots would decide about the files of a manifest: only for its notes.
+//! Predicts what boots decide about the files of a manifest, for its notes.
 
 use crate::make_manifest::is_named;
 use certificate::{Reason, Request, Table, is_valid};
@@ -23,9 +23,9 @@ pub fn request(table: &mut Option<Table>, image: u8, file: Result<Desc, ImageErr
     }
 }
 
-/// Appends to the notes what a boot decides about the files: that it tries some that are to stay,
-/// and a line for each file that it would refuse by this table. Returns whether it would refuse
-/// none.
+/// Adds to the notes what a boot decides about the files: that it boots some on trial that are
+/// requested permanently, and a line for each file that it would refuse by this table. Returns
+/// whether it would refuse none.
 pub fn write_decisions(
     notes: &mut String,
     asked: &[NewComponent<'_>],
@@ -43,14 +43,13 @@ pub fn write_decisions(
     Ok(notes.len() == before)
 }
 
-/// Whether there are files of both kinds: for a test, and to stay.
+/// Whether there are files of both kinds: for a test, and permanent.
 fn asks_for_both(asked: &[NewComponent<'_>]) -> bool {
     asked.iter().any(|component| component.permanent)
         && asked.iter().any(|component| !component.permanent)
 }
 
-/// Appends to the notes a line for each file that a boot by this table would refuse, with the
-/// reason.
+/// Adds to the notes a line for each file that a boot by this table would refuse, with the reason.
 fn write_refusals(
     notes: &mut String,
     asked: &[NewComponent<'_>],
@@ -72,13 +71,13 @@ fn write_refusals(
     Ok(())
 }
 
-/// Whether a refusal is reported: it is about a requested image whose file is an image.
+/// Whether a refusal is noted: it is about a requested image whose file is an image.
 fn is_told(asked: &[NewComponent<'_>], image: u8, reason: &Reason) -> bool {
     is_named(asked, image) && !matches!(reason, Reason::Damaged)
 }
 
-/// Appends to the notes why each boot of a device with this number of images would refuse a file,
-/// with the first reason of a report: the image needs one that the device doesn't have, or a higher
+/// Adds to the notes why each boot of a device with this number of images would refuse a file, with
+/// the first reason of a report: the image needs an image that the device doesn't have, or a higher
 /// version of itself.
 pub fn write_lack(
     notes: &mut String,
@@ -114,7 +113,7 @@ fn lack_of(description: &Desc, images: u8, image: u8) -> Option<Reason> {
     None
 }
 
-/// Whether some device with so many images meets a dependency of an image of this number.
+/// Whether some device with this number of images meets a dependency of an image of this number.
 fn can_have(description: &Desc, images: u8, image: u8, need: &Dependency) -> bool {
     need.image < images && (need.image != image || description.version >= need.minimum)
 }

@@ -1,5 +1,5 @@
-//! The precursors of a manifest: the images that have to run when its files come, read from a
-//! flash.
+//! Reads the precursors of a manifest from a flash: the images that have to run when its files are
+//! installed.
 ghost use Rattle.std.specs.Prelude.{◌≡◌, ◌<◌, IfOk, true};
 ghost use Rattle.sector_map.specs.Map.{IsLaidOut};
 ghost use Rattle.host.specs.Input.{KeepsFiles};
@@ -22,27 +22,27 @@ use std::alloc::Global;
 use std::marker::Brand;
 use std::sync::ledger::{Blank, Ledger};
 
-/// The images that have to run when the files of a manifest come.
+/// The precursors of the files of a manifest.
 #[derive(Drop)]
 pub struct Running {
-    /// For each file, the digest of the image that has to run. `None` if any may run.
+    /// For each file, the digest of the image that has to run. `None` if any image may run.
     pub digests: ArrayVec<Option<[u8; 32]>, MOST_COMPONENTS>,
-    /// The running and requested images, if a flash has them: only for notes.
+    /// The running and requested images, if a flash has them. Only notes use it.
     pub table: Option<Table>,
 }
 
 /// The result of reading the precursors.
 #[derive(Drop)]
 pub enum Precursors {
-    /// The precursors, for each file.
+    /// The precursors of all files.
     Are(Running),
     /// The running image of this number isn't intact, and a file is for it.
     DamagedAt(u8),
 }
 
-/// The precursors on the flash of the arguments, which is read from `host` into memory of `alloc`:
-/// for each file, the digest of the running image. If the arguments name no flash, nothing is read
-/// and any image may run.
+/// Reads the precursors from the flash that the arguments name, which is read from `host` into
+/// memory of `alloc`: for each file, the digest of the running image. If the arguments name no
+/// flash, nothing is read, and any image may run.
 ///
 /// # Errors
 /// `Manifest` if there are more files than a manifest can have components, and the errors of
@@ -67,7 +67,7 @@ pub fn read_precursors<H: Host>(
     precursors_in::<Brand>(alloc, Blank::new(2), map, bytes, components)
 }
 
-/// Any image may run, for each of these files.
+/// The precursors of these files if any image may run.
 fn any_precursors(asked: &[NewComponent<'_>]) -> Result<Precursors, Refusal>
     ensures { IfOk result (FindsNone asked.now) }
 {
@@ -82,7 +82,7 @@ fn any_precursors(asked: &[NewComponent<'_>]) -> Result<Precursors, Refusal>
     Ok(Precursors::Are(Running { digests, table }))
 }
 
-/// The running images on a flash of these bytes, for each of these files.
+/// The precursors of these files on a flash of these bytes.
 fn precursors_in<L: Ledger>(
     alloc: Global,
     blank: Blank,
@@ -101,7 +101,7 @@ fn precursors_in<L: Ledger>(
     precursors_on(&mut flash, map, asked)
 }
 
-/// The running images on a flash that has power, for each of these files.
+/// The precursors of these files on a flash that has power.
 fn precursors_on<F: Flash>(
     flash: &mut F,
     map: &SectorMap,

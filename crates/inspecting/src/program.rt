@@ -10,7 +10,7 @@ use std::alloc::Global;
 use std::io::Write;
 
 /// Runs the command of an order, and writes its answer to `out`. Its inputs are read from `host`
-/// into memory of `alloc`. No file changes.
+/// into memory of `alloc`.
 ///
 /// # Errors
 /// The errors of the command.

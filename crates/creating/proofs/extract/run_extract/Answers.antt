@@ -4,7 +4,7 @@ use Rattle.host.proofs.InputLaws.{KeepsFiles-twice}
 use Rattle.creating.proofs.CopyLaws.{both_apart, both_kept, copied_image, copied_replaces, copied_told}
 use Rattle.creating.proofs.extract.run_extract.Goals as goal
 
--- The device file and the flash were read, and what came of copying was written.
+-- The device file and the flash were read, and the result of copying was written.
 pub returns-clause-answers : goal.returns-clause-answers
 returns-clause-answers g c =
     let read = rw c.in-Some.is at c.in_ok-of_device.ensures.read in
@@ -15,7 +15,7 @@ returns-clause-answers g c =
     c.in_ok-copied.ensures.copied told)
     c.tell_copied.ensures.told
 
--- The file could be replaced when it was, and held the same before.
+-- The file could be replaced when it was, and it held the same before.
 pub returns-clause-replaces : goal.returns-clause-replaces
 returns-clause-replaces g c =
     IfOk-weaker c.tell_copied.result _ _
@@ -24,7 +24,7 @@ returns-clause-replaces g c =
     c.in_ok-copied.ensures.replaces told)
     c.tell_copied.ensures.told
 
--- The flash was read or not, and no image was copied.
+-- No image was copied, whether the flash was read or not.
 pub returns-in_err-bytes-clause-kept : goal.returns-in_err-bytes-clause-kept
 returns-in_err-bytes-clause-kept g c = λ ends.
     KeepsFiles-twice _ _ _ c.in_ok-of_device.ensures.files c.in_err-bytes.ensures.files
@@ -50,7 +50,7 @@ returns-clause-kept g c = λ ends.
     (copied_told c.tell_copied.result c.in_ok-copied.copied _ _ _ _ c.tell_copied.ensures.told c.tell_copied.ensures.late
     c.in_ok-copied.ensures.refused ends))
 
--- What was read stays: nothing was written yet ..
+-- Nothing was written yet, so the inputs are kept.
 pub returns-in_err-of_device-clause-inputs : goal.returns-in_err-of_device-clause-inputs
 returns-in_err-of_device-clause-inputs g c = both_kept c.args.device c.args.flash _ _ c.in_err-of_device.ensures.files
 
@@ -72,7 +72,7 @@ pub returns-in_err-refuse_input-2-clause-inputs : goal.returns-in_err-refuse_inp
 returns-in_err-refuse_input-2-clause-inputs g c = both_kept c.args.device c.args.flash _ _
     (KeepsFiles-twice _ _ _ c.in_ok-of_device.ensures.files c.in_ok-bytes.ensures.files)
 
--- .. or a file that is neither of them.
+-- A file apart from the inputs was replaced, so the inputs are kept.
 pub returns-in_err-copied-clause-inputs : goal.returns-in_err-copied-clause-inputs
 returns-in_err-copied-clause-inputs g c = both_apart c.args.device c.args.flash c.args.copying.out.name.now
     (g.H.Host.apart c.read_flash.new.host) _ _ _

@@ -1,5 +1,5 @@
 use Rattle.creating.proofs.extract.run_extract.Given as goal
 
--- the token that the flash is made with
+-- The token of the flash.
 abbrev pub ghosts-copy : goal.ghosts-copy
 ghosts-copy g a = record { name = a.blank.name; parts = a.blank.parts }

@@ -1,7 +1,7 @@
 use Rattle.std.proofs.Common.{ap, get_or, sym, ◌∙◌}
 use Rattle.creating.proofs.make_device.expect_file.Goals as goal
 
--- What was read is the device, field by field, so that the text is its file.
+-- The device that was read is the same, field by field. So the text is its device file.
 pub returns-in-Ok : goal.returns-in-Ok
 returns-in-Ok c =
     let told = c.in-Ok.ensures.read in

@@ -3,7 +3,7 @@ use Rattle.std.proofs.lemmas.Bool.{and_parts, eqb-true}
 use Rattle.std.specs.Cmp.Lexicographic.{same_text}
 use Rattle.creating.proofs.make_device.is_same.Goals as goal
 
--- Maps and identities are the same field by field.
+-- Maps and identities are equal if they are field by field.
 pub returns-then-eq-2 : goal.returns-then-eq-2
 returns-then-eq-2 c = λ same.
     let one = c.args.one.now in

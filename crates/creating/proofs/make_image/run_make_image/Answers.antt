@@ -4,7 +4,7 @@ use Rattle.creating.proofs.NewFileLaws.{Replaces-before}
 use Rattle.creating.proofs.NewImageLaws.{AnswersMade-same}
 use Rattle.creating.proofs.make_image.run_make_image.Goals as goal
 
--- The body was read, and that was answered of its image.
+-- The body was read, and the answer is the one for its image.
 pub returns-clause-answers : goal.returns-clause-answers
 returns-clause-answers g c =
     IfOk-weaker c.make.result _ _
@@ -15,7 +15,7 @@ returns-clause-answers g c =
     ))
     c.make.ensures.made
 
--- The file could be replaced when it was, and held the same before.
+-- The file could be replaced when it was, and it held the same before.
 pub returns-clause-replaces : goal.returns-clause-replaces
 returns-clause-replaces g c =
     IfOk-weaker c.make.result _ _
@@ -27,7 +27,7 @@ pub returns-clause-kept : goal.returns-clause-kept
 returns-clause-kept g c = λ ends.
     KeepsFiles-twice _ _ _ c.in_ok-body.ensures.files (c.make.ensures.kept ends)
 
--- The body stays: nothing was written yet, or a file that isn't that of the body.
+-- The body is kept: nothing was written yet, or a file that isn't that of the body.
 pub returns-in_err-body-clause-input : goal.returns-in_err-body-clause-input
 returns-in_err-body-clause-input g c = KeepsSource-kept c.args.body _ _ c.in_err-body.ensures.files
 

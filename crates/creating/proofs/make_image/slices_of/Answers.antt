@@ -5,7 +5,7 @@ use Rattle.common.proofs.Mapped.{AllZip-more}
 use Rattle.creating.specs.NewImageEnd.{AreAlternatives}
 use Rattle.creating.proofs.make_image.slices_of.Goals as goal
 
--- The alternatives of one group more.
+-- The alternatives of one more group are added.
 pub loop-group-preserved : goal.loop-group-preserved
 loop-group-preserved c =
     rw c.in_ok-push.ensures.items
@@ -13,7 +13,7 @@ loop-group-preserved c =
     c.loop-group.group-index c.group-item.result c.as_slice.result c.loop-group-test.true c.group-item.is
     c.loop-group.invariant c.as_slice.ensures.value)
 
--- The alternatives of all groups.
+-- The slices are those of all groups.
 pub returns : goal.returns
 returns c =
     subst (λ groups. AllZip AreAlternatives (map (λ group. group.items) groups) c.loop-group.slices.items)

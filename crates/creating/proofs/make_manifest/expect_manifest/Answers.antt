@@ -3,7 +3,7 @@ use Rattle.std.proofs.lemmas.Bool.{and_parts, eqb-true}
 use Rattle.creating.proofs.NewManifestLaws.{same_components}
 use Rattle.creating.proofs.make_manifest.expect_manifest.Goals as goal
 
--- What was read is the manifest.
+-- The text reads back as the manifest.
 pub returns-in-Ok : goal.returns-in-Ok
 returns-in-Ok c =
     let all = and_parts _ _ (sym c.eq.ensures ∙ c.if-eq.true) in

@@ -3,14 +3,14 @@ use Rattle.host.proofs.InputLaws.{KeepsFiles-twice}
 use Rattle.creating.proofs.NewManifestEnds.{asked_refused, precursor_count, running_refused, written}
 use Rattle.creating.proofs.make_manifest.run_make_manifest.Goals as goal
 
--- What is asked for was refused.
+-- The arguments were refused.
 pub returns-in-Some-fault_in-clause-answers : goal.returns-in-Some-fault_in-clause-answers
 returns-in-Some-fault_in-clause-answers g c =
     let read = rw c.in-Some.is at c.in_ok-of_device.ensures.read in
     inr (inl (asked_refused c.args.device c.args.asked.now _ _ _ _ _ c.in-Some.of_device c.in-Some-fault_in.fault _ read.0 read.1
     c.deref.ensures.value (rw c.in-Some-fault_in.is at c.fault_in.ensures.fault) c.in_ok-refuse.ensures))
 
--- There is a precursor for each file.
+-- There is one precursor for each file.
 pub write_manifest-requires-clause-same : goal.write_manifest-requires-clause-same
 write_manifest-requires-clause-same g c =
     let flash = rw c.in-Are.is at c.in_ok-running.ensures.read in
@@ -24,7 +24,7 @@ returns-else-asked-clause-answers g c =
     written c.args.device c.args.asked.now _ _ _ _ _ _ _ _ _ c.in-Some.of_device c.in-Are.running.digests.items _ read.0 read.1
     c.in_ok-of_device.ensures.others flash refl c.in_ok-takes_all-in-Are.ensures.written
 
--- It was, and the device will not take all of its files, which is asked for.
+-- The manifest was written, but the device will not take all of its files, and `--strict` is given.
 pub returns-then-not-takes_all-clause-answers : goal.returns-then-not-takes_all-clause-answers
 returns-then-not-takes_all-clause-answers g c =
     let read = rw c.in-Some.is at c.in_ok-of_device.ensures.read in
@@ -35,7 +35,7 @@ returns-then-not-takes_all-clause-answers g c =
           c.in_ok-of_device.ensures.others flash refl c.in_ok-takes_all-in-Are.ensures.written,
     )))
 
--- An image that runs was damaged.
+-- A running image isn't intact.
 pub returns-in_ok-refuse_running-in-DamagedAt-clause-answers : goal.returns-in_ok-refuse_running-in-DamagedAt-clause-answers
 returns-in_ok-refuse_running-in-DamagedAt-clause-answers g c =
     let read = rw c.in-Some.is at c.in_ok-of_device.ensures.read in

@@ -4,7 +4,7 @@ use Rattle.std.proofs.lemmas.List.{get_or_default}
 use Rattle.creating.proofs.NewManifestLaws.{AreRead-all, AreRead-more, AreRead-none}
 use Rattle.creating.proofs.new_components.read_components.Goals as goal
 
--- None was read.
+-- No file was read.
 pub loop-place-init : goal.loop-place-init
 loop-place-init g c = record {
   read = rw c.new-components.ensures (AreRead-none c.args.asked.now c.args.precursors.now _ _);
@@ -12,7 +12,7 @@ loop-place-init g c = record {
   opened = refl;
 }
 
--- One more was read.
+-- One more file was read.
 pub loop-place-preserved : goal.loop-place-preserved
 loop-place-preserved g c =
     let asked = c.args.asked.now in
@@ -29,17 +29,17 @@ loop-place-preserved g c =
       opened = c.in_ok-component.ensures.opened ∙ before.opened;
     }
 
--- All were read.
+-- All files were read.
 pub returns-clause-read : goal.returns-clause-read
 returns-clause-read g c = AreRead-all c.args.asked.now c.args.precursors.now c.loop-place.place _ _ _ _ c.loop-place.components.items
     (omega (arith, c.loop-place-test.false)) c.requires.same c.loop-place.invariant.read
 
--- One could not be read.
+-- A file could not be read.
 pub returns-in_err-component-clause-files : goal.returns-in_err-component-clause-files
 returns-in_err-component-clause-files g c =
     KeepsFiles-twice _ _ _ c.loop-place.invariant.files c.in_err-component.ensures.files
 
--- There was one too many.
+-- There were too many files.
 pub returns-then-is_full-clause-files : goal.returns-then-is_full-clause-files
 returns-then-is_full-clause-files g c =
     KeepsFiles-twice _ _ _ c.loop-place.invariant.files c.in_ok-component.ensures.files

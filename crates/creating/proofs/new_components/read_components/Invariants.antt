@@ -3,7 +3,7 @@ use Rattle.host.specs.Input.{KeepsFiles}
 use Rattle.creating.proofs.NewManifestLaws.{AreRead}
 use Rattle.creating.proofs.new_components.read_components.Given as goal
 
--- the files so far were read, and their components made; no file changed, and none was opened
+-- The files so far were read, and their components made. No file changed, and none was opened.
 abbrev pub invariant-loop-place : goal.invariant-loop-place
 invariant-loop-place g l = record {
   read : AreRead l.asked l.precursors l.place (g.H.Host.input l.fn.host) (g.H.Host.file l.fn.host)

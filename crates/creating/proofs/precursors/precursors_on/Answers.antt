@@ -6,14 +6,14 @@ use Rattle.creating.specs.NewManifestSteps.{ArePrecursors}
 use Rattle.creating.proofs.NewManifestLaws.{any_at, nothing, zip_more}
 use Rattle.creating.proofs.precursors.precursors_on.Goals as goal
 
--- No intact image runs of which a file is for.
+-- The running image that a file is for isn't intact.
 pub returns-in_default : goal.returns-in_default
 returns-in_default g c = (
   any_at c.args.asked.now c.loop-component.component-index _ c.loop-component-test.true,
   rw c.loop-component.invariant.0 at rw c.in_default.is at c.running_digest.ensures.found,
 )
 
--- One more runs.
+-- One more file has its precursor.
 pub loop-component-preserved : goal.loop-component-preserved
 loop-component-preserved g c =
     let asked = c.args.asked.now in
@@ -28,7 +28,7 @@ loop-component-preserved g c =
           (get_or_default asked place _ nothing within) runs)),
     )
 
--- All run.
+-- All files have their precursors.
 pub returns : goal.returns
 returns g c =
     let flash = Some (g.F.Flash.chip c.args.flash.now) in

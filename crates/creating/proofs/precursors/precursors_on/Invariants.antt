@@ -2,7 +2,7 @@ use Rattle.std.proofs.Common.{◌≡◌, Some, take}
 use Rattle.creating.specs.NewManifestSteps.{ArePrecursors}
 use Rattle.creating.proofs.precursors.precursors_on.Given as goal
 
--- the flash is as it was, and so far these images run
+-- The flash is unchanged, and the files so far have these precursors.
 abbrev pub invariant-loop-component : goal.invariant-loop-component
 invariant-loop-component g l =
     (g.F.Flash.chip l.flash ≡ g.F.Flash.chip l.fn.flash)

@@ -5,7 +5,7 @@ use Rattle.creating.specs.NewManifestSteps.{FindsNone, FindsPrecursors}
 use Rattle.creating.proofs.NewManifestLaws.{flash_read, none_read}
 use Rattle.creating.proofs.precursors.read_precursors.Goals as goal
 
--- No flash was asked for, and none was read.
+-- No flash is given, and none was read.
 pub returns-in_default-clause-read : goal.returns-in_default-clause-read
 returns-in_default-clause-read g c = IfOk-weaker c.any_precursors.result _ _
     (λ found none. none_read c.args.map.now c.args.asked.now _ _ found c.in_default.is
