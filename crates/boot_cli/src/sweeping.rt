@@ -71,8 +71,8 @@ struct Script<'t, 'e> {
 /// Runs a script on a device with power cuts, and writes to `out` how the runs ended.
 ///
 /// The device file, the script and the images are read from `host`. The flash is made and
-/// provisioned in memory of `alloc`. `named` says which writes are cut. At a terminal, the progress
-/// is written to `err`.
+/// provisioned in memory of `alloc`. `named` says at which writes the power fails. At a terminal,
+/// the progress is written to `err`.
 ///
 /// All files are checked before the first run, and also that the picture can be made, if `named`
 /// has one. The picture is made or replaced after all runs. No other file changes. The device file,

@@ -1,4 +1,4 @@
-//! The `bootswap_core` program: only `provision` and `run`, so that it is quick to prove.
+//! The `bootswap_core` program: only `provision` and `run`, which makes it quick to prove.
 //!
 //! - Allocates: the arguments.
 //!

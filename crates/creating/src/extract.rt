@@ -55,6 +55,12 @@ pub enum Copied {
 /// The file can't be one of the inputs, which never change, and the flash is opened only for
 /// reading. A file that exists is replaced only if it begins with an image's header, is empty, or
 /// `--force` is given. It changes only if the answer is `Done` or can't be written.
+///
+/// # Errors
+/// `DeviceFile`, `FlashSize`, `FlashInUse` or `OfSource` for an input that is wrong, in use or
+/// can't be read. `NoImage` if the device doesn't have the image. `ImageIsInput`, `ImageInUse` or
+/// `OfSource` for a file that can't be made or may not be replaced. `NoMemory` if memory runs out.
+/// `CannotWrite` if the answer can't be written.
 pub fn run_extract<H: Host, O: Write>(
     alloc: Global,
     device: Source<'_>,

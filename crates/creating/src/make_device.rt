@@ -24,6 +24,9 @@ const USUAL_TRIAL_BOOTS: u8 = 1;
 ///
 /// Both texts are made in memory of `alloc` before the first is written. The device file is read
 /// back before it is written. `out` is flushed before anything is written to `err`.
+///
+/// # Errors
+/// `NoMemory` if memory runs out. `CannotWrite` if a write to `out` or `err` fails.
 pub fn run_make_device<O: Write, E: Write>(
     alloc: Global,
     asked: &NewDevice<'_>,

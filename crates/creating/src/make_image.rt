@@ -27,6 +27,11 @@ const USUAL_HEADER_SIZE: u16 = 32;
 /// file is written. The file can't be that of the body, which never changes. A file that exists is
 /// replaced only if it begins with an image's header, is empty, or `--force` is given. It changes
 /// only if the answer is `Done` or can't be written.
+///
+/// # Errors
+/// `OfSource` if the body can't be read. `ImageIsInput`, `ImageInUse` or `OfSource` for a file that
+/// can't be made or may not be replaced. `NoMemory` if memory runs out. `CannotWrite` if the answer
+/// can't be written.
 pub fn run_make_image<H: Host, O: Write>(
     alloc: Global,
     image: NewFile<'_>,

@@ -33,6 +33,11 @@ use std::io::Write;
 /// After the manifest, notes are written to `err`: which of the files the device will not take, and
 /// whether it boots files on trial that are requested permanently. `out` is flushed before. With
 /// `--strict` the answer is `Refused` if the device will not take one of the files.
+///
+/// # Errors
+/// `DeviceFile`, `FlashSize`, `FlashInUse` or `OfSource` for an input that is wrong, in use or
+/// can't be read. `Manifest` if there are more files than a manifest can have components.
+/// `NoMemory` if memory runs out. `CannotWrite` if a write to `out` or `err` fails.
 pub fn run_make_manifest<H: Host, O: Write, E: Write>(
     alloc: Global,
     device: Source<'_>,

@@ -63,7 +63,7 @@ AnswersProvision-read answer device names input mid_input file mid_file held old
       answered = subst (λ o. AnswersMade answer made o new) same answered;
     })
 
--- A number for each kind of result, which tells a refused flash from a done one.
+-- A number for each kind of result, which differs for a refused and a provisioned flash.
 abbrev made_number : Provisioned → ℕ
 made_number made.Done = 0
 made_number (made.Refused fault) = 1

@@ -43,7 +43,11 @@ pub struct FlashName<'a> {
 /// Everything is checked before the file is written. The flash file can't be one of the inputs,
 /// which never change. It changes only if the answer is `Done` or can't be written. But a block
 /// device may hold a part of the flash after a failed write.
-/// device may hold a part of the flash after a failed write.
+///
+/// # Errors
+/// `DeviceFile` or `OfSource` for an input that is wrong or can't be read, and the errors of
+/// [`read_images`]. `FlashIsInput`, `FlashInUse`, `FlashSize` or `FlashFile` for a flash file that
+/// can't be made. `NoMemory` if memory runs out. `CannotWrite` if the answer can't be written.
 pub fn run_provision<H: Host, O: Write>(
     alloc: Global,
     device: Source<'_>,
@@ -74,6 +78,11 @@ pub fn run_provision<H: Host, O: Write>(
 
 /// Reads images, and returns the bytes of a flash with each at the front of its primary slot. All
 /// other bytes are erased.
+///
+/// # Errors
+/// `ImageCount` if the device has another number of images. `ImageTooBig` with the number of an
+/// image that is longer than its slot. `OfSource` if an image can't be read. `NoMemory` if memory
+/// runs out. No file changes.
 pub fn read_images<H: Host>(
     alloc: Global,
     map: &SectorMap,
@@ -216,6 +225,9 @@ fn write_outcome<O: Write>(alloc: Global, made: Provisioned, out: &mut O) -> Res
 }
 
 /// Writes to `out` why a flash can't be provisioned, and returns `Refused`.
+///
+/// # Errors
+/// `NoMemory` if memory runs out for the text. `CannotWrite` if a write fails.
 pub fn write_refused<O: Write>(alloc: Global, fault: Fault, out: &mut O) -> Result<Answer, Refusal>
     ensures { IfOk result (λ answer. (answer ≡ Answer.Refused)
         × Appends (O.contents out.old) (O.contents out.new) (refused_fault_text fault)) }

@@ -1,4 +1,4 @@
-//! What is wrong with a device file.
+//! Explains why bytes aren't a device file, and which sizes make no map.
 
 use crate::json_notes::{Key, Object, Wanted, add_value, explain_count, explain_text};
 use common::limits::{MOST_IMAGES, MOST_TRIAL_BOOTS};
@@ -16,9 +16,11 @@ const KEYS: [Key; 5] = [
     Key::Optional("trial-boots", Wanted::Number),
 ];
 
-/// Adds why bytes are no device file: where they stop being JSON, which keys are missing or not
-/// known, or which value of a key isn't allowed, and what is. The JSON value is in memory of
-/// `alloc` meanwhile.
+/// Adds why bytes aren't a device file: where they stop being JSON, which keys are missing or
+/// unknown, or which value of a key isn't allowed. The JSON value is in memory of `alloc`.
+///
+/// # Errors
+/// `AllocError` if memory is refused. Then `notes` has a part of the text.
 pub fn explain_device(notes: &mut String, alloc: Global, bytes: &[u8]) -> Result<(), AllocError> {
     match json_of(alloc, bytes) {
         Ok(value) => explain_value(notes, alloc, &value),
@@ -26,7 +28,7 @@ pub fn explain_device(notes: &mut String, alloc: Global, bytes: &[u8]) -> Result
     }
 }
 
-/// Adds why a JSON value is no device file.
+/// Adds why a JSON value isn't a device file.
 fn explain_value(notes: &mut String, alloc: Global, value: &Value) -> Result<(), AllocError> {
     let file = Object {
         name: "the device file",
@@ -38,7 +40,7 @@ fn explain_value(notes: &mut String, alloc: Global, value: &Value) -> Result<(),
     explain_trial_boots(notes, value)
 }
 
-/// Adds the entries of `sectors` that are no numbers.
+/// Adds the entries of `sectors` that aren't numbers.
 fn explain_sectors(notes: &mut String, alloc: Global, value: &Value) -> Result<(), AllocError> {
     let Some(sectors) = array(value, "sectors") else {
         return Ok(());
@@ -56,7 +58,7 @@ fn explain_sectors(notes: &mut String, alloc: Global, value: &Value) -> Result<(
     Ok(())
 }
 
-/// Adds that a trial has too few or too many boots, if so.
+/// Adds that a trial has too few or too many boots, if it has.
 fn explain_trial_boots(notes: &mut String, value: &Value) -> Result<(), AllocError> {
     match number(value, "trial-boots") {
         Some(boots) if boots < 1 || boots > u32::from(MOST_TRIAL_BOOTS) => writeln!(
@@ -67,7 +69,7 @@ fn explain_trial_boots(notes: &mut String, value: &Value) -> Result<(), AllocErr
     }
 }
 
-/// The names of the sizes of a device.
+/// The names of a device's sizes in the notes.
 #[derive(Clone, Copy)]
 struct SizeNames {
     /// The length of a sector.
@@ -88,8 +90,11 @@ const OPTION_NAMES: SizeNames = SizeNames {
     sectors: "--slots",
 };
 
-/// Adds which sizes of a device file don't make a map. Its JSON value and the sizes are in memory
-/// of `alloc` meanwhile.
+/// Adds which sizes of a device file make no map. The JSON value of the file and the sizes are in
+/// memory of `alloc`.
+///
+/// # Errors
+/// `AllocError` if memory is refused. Then `notes` has a part of the text.
 pub fn explain_map(
     notes: &mut String,
     alloc: Global,
@@ -109,7 +114,11 @@ pub fn explain_map(
     explain_sizes(notes, FILE_NAMES, sector, sectors.as_slice(), fault)
 }
 
-/// Adds which sizes in the arguments of a command don't make a map.
+/// Adds which sizes in the arguments of a command make no map: the length of a sector in bytes, and
+/// the number of sectors of each image's slots.
+///
+/// # Errors
+/// `AllocError` if memory is refused. Then `notes` has a part of the text.
 pub fn explain_asked_map(
     notes: &mut String,
     sector: u32,
@@ -119,7 +128,7 @@ pub fn explain_asked_map(
     explain_sizes(notes, OPTION_NAMES, sector, sectors, fault)
 }
 
-/// Adds which of these sizes don't make a map.
+/// Adds which of these sizes make no map.
 fn explain_sizes(
     notes: &mut String,
     names: SizeNames,

@@ -1,62 +1,62 @@
-//! The places of the parts of an image, by its header, and the entries of its areas.
+//! Finds the parts of an image by its header, and the entries of its TLV areas.
 
 use image_header::Header;
 
-/// The magic number that a protected area begins with.
+/// The magic number at the start of a protected area.
 const PROTECTED_MAGIC: u16 = 0x6908;
 
-/// The magic number that an unprotected area begins with.
+/// The magic number at the start of an unprotected area.
 const UNPROTECTED_MAGIC: u16 = 0x6907;
 
-/// The length of an area's head, and of an entry's, in bytes.
+/// The length in bytes of the head of an area, and of an entry.
 const HEAD_LENGTH: usize = 4;
 
-/// The type of the entry of a digest.
+/// The type of a digest's entry.
 pub const DIGEST: u16 = 0x10;
 
-/// The type of the entry of a dependency.
+/// The type of a dependency's entry.
 pub const DEPENDENCY: u16 = 0x40;
 
-/// The type of the entry of a security counter.
+/// The type of a security counter's entry.
 pub const COUNTER: u16 = 0x50;
 
-/// The type of the entry of a group.
+/// The type of a group's entry.
 pub const GROUP: u16 = 0xa0;
 
-/// The place where an area of entries has to be.
+/// An area of entries, as the header of its image places it.
 #[derive(Clone, Copy)]
 pub struct Area {
-    /// The number of its first byte.
+    /// The index of its first byte.
     pub place: usize,
-    /// The magic number that it begins with.
+    /// The magic number that it has to begin with.
     pub magic: u16,
-    /// Its length in bytes, if the header says it. Of the unprotected area it doesn't.
+    /// Its length in bytes by the header. `None` for an unprotected area.
     pub said: Option<u16>,
 }
 
 impl Area {
-    /// The magic number in the bytes.
+    /// The magic number that it begins with.
     pub fn own_magic(self, bytes: &[u8]) -> Option<u16> {
         number_at(bytes, self.place)
     }
 
-    /// The length that the bytes give, in bytes.
+    /// The length in bytes that its head gives.
     pub fn own_length(self, bytes: &[u8]) -> Option<u16> {
         number_at(bytes, self.place.saturating_add(2))
     }
 
-    /// The place of its first entry.
+    /// The index of its first entry.
     pub fn start(self) -> usize {
         self.place.saturating_add(HEAD_LENGTH)
     }
 
-    /// The place of its end, by the length in the bytes.
+    /// The index of its end, by the length that its head gives.
     pub fn end(self, bytes: &[u8]) -> Option<usize> {
         let length = self.own_length(bytes)?;
         Some(self.place.saturating_add(usize::from(length)))
     }
 
-    /// The entry of number `wanted`, from 0, among those that are sought.
+    /// The entry of index `wanted`, from 0, among those that are sought.
     pub fn find(self, bytes: &[u8], sought: Sought, wanted: usize) -> Option<EntryAt<'_>> {
         let end = self.end(bytes)?;
         let mut place = self.start();
@@ -74,7 +74,7 @@ impl Area {
         None
     }
 
-    /// The end of its entries, up to the first that doesn't fit.
+    /// The index of the end of its entries, up to the first that doesn't fit.
     pub fn end_of_entries(self, bytes: &[u8]) -> usize {
         let end = self.end(bytes).unwrap_or_default();
         let mut place = self.start();
@@ -91,7 +91,7 @@ impl Area {
 /// An entry of an area.
 #[derive(Clone, Copy)]
 pub struct EntryAt<'a> {
-    /// The number of its first byte in the file, from 0.
+    /// The index of its first byte in the file.
     pub place: usize,
     /// Its type.
     pub kind: u16,
@@ -100,7 +100,7 @@ pub struct EntryAt<'a> {
 }
 
 impl EntryAt<'_> {
-    /// The place of its end.
+    /// The index of its end.
     fn end(&self) -> usize {
         self.place
             .saturating_add(HEAD_LENGTH)
@@ -120,7 +120,7 @@ impl EntryAt<'_> {
     }
 }
 
-/// Whether the three bytes after the number of an image are 0 in each 12 bytes.
+/// Whether in each 12 bytes the three bytes after the image number are 0.
 fn has_zeros(value: &[u8]) -> bool {
     for pair in value.chunks(12) {
         if !matches!(pair, [_, 0, 0, 0, ..]) {
@@ -130,10 +130,10 @@ fn has_zeros(value: &[u8]) -> bool {
     true
 }
 
-/// Which entries of an area are sought.
+/// The entries of an area to seek.
 #[derive(Clone, Copy)]
 pub enum Sought {
-    /// Those of a type.
+    /// The entries of a type.
     Kind(u16),
     /// Dependencies and groups that don't consist of complete pairs of an image and a version.
     BadNeed,
@@ -148,7 +148,7 @@ impl Sought {
     }
 }
 
-/// The entry that begins at a place and ends before `end`, if one does.
+/// The entry at an index. `None` if it doesn't end at or before `end`.
 fn entry_at(bytes: &[u8], place: usize, end: usize) -> Option<EntryAt<'_>> {
     let kind = number_at(bytes, place)?;
     let length = usize::from(number_at(bytes, place.saturating_add(2))?);
@@ -178,12 +178,12 @@ pub fn unprotected_area(header: &Header) -> Area {
     }
 }
 
-/// The place of the end of the body of an image with this header.
+/// The index of the end of the body of an image with this header.
 pub fn end_of_body(header: &Header) -> usize {
     usize::from(header.header_size).saturating_add(header.body_size as usize)
 }
 
-/// The number of two bytes that begins at a place, the low byte first.
+/// The number in the two bytes at an index, the low byte first.
 pub fn number_at(bytes: &[u8], place: usize) -> Option<u16> {
     match bytes.get(place..)? {
         [low, high, ..] => Some(u16::from_le_bytes([*low, *high])),
@@ -191,7 +191,7 @@ pub fn number_at(bytes: &[u8], place: usize) -> Option<u16> {
     }
 }
 
-/// The number of four bytes that begins at a place, the low byte first.
+/// The number in the four bytes at an index, the low byte first.
 pub fn long_number_at(bytes: &[u8], place: usize) -> Option<u32> {
     match bytes.get(place..)? {
         [a, b, c, d, ..] => Some(u32::from_le_bytes([*a, *b, *c, *d])),

@@ -1,4 +1,4 @@
-//! Why bytes are no intact image.
+//! Explains why bytes aren't an intact image.
 
 use crate::image_areas::{
     Area, COUNTER, DEPENDENCY, DIGEST, EntryAt, GROUP, Sought, end_of_body, long_number_at,
@@ -9,8 +9,11 @@ use image_reading::ImageError;
 use sha2::{Digest, Sha256};
 use std::alloc::AllocError;
 
-/// Adds the place at which bytes fail this check of an image, and what they contain there. Bytes
-/// are numbered from 0.
+/// Adds where bytes fail this check of an image, and what they contain there. Bytes are numbered
+/// from 0.
+///
+/// # Errors
+/// `AllocError` if memory is refused. Then `notes` has a part of the text.
 pub fn explain_image(
     notes: &mut String,
     bytes: &[u8],
@@ -54,7 +57,7 @@ pub fn explain_image(
     }
 }
 
-/// Adds the place at which bytes with this header fail a check of an image's areas.
+/// Adds where bytes with this header fail a check of an image's areas.
 fn explain_areas(
     notes: &mut String,
     bytes: &[u8],
@@ -95,7 +98,7 @@ fn explain_areas(
     }
 }
 
-/// Adds the number of bytes, and the places of the parts that the image would have.
+/// Adds the number of bytes, and where the parts of the image would be.
 fn explain_end(notes: &mut String, bytes: &[u8], header: &Header) -> Result<(), AllocError> {
     let length = bytes.len();
     let body = end_of_body(header);
@@ -111,7 +114,7 @@ fn explain_end(notes: &mut String, bytes: &[u8], header: &Header) -> Result<(), 
     add_area(notes, bytes, "area of entries", unprotected_area(header))
 }
 
-/// Adds the place at which an area begins, and its length if the bytes give one.
+/// Adds where an area begins, and its length if the bytes give one.
 fn add_area(notes: &mut String, bytes: &[u8], kind: &str, area: Area) -> Result<(), AllocError> {
     let place = area.place;
     match area.own_length(bytes) {
@@ -216,7 +219,10 @@ fn explain_hash(
     notes.push_str("\n")
 }
 
-/// Adds bytes as hexadecimal digits.
+/// Adds bytes as hexadecimal digits in lower case.
+///
+/// # Errors
+/// `AllocError` if memory is refused. Then `notes` has a part of the digits.
 pub fn add_digits(notes: &mut String, bytes: &[u8]) -> Result<(), AllocError> {
     for byte in bytes {
         write!(notes, "{byte:02x}")?;

@@ -1,27 +1,27 @@
-//! What is wrong with the keys and values of a JSON object.
+//! Explains which keys and values of a JSON object are wrong.
 
 use crate::shown::Shown;
 use manifest::json::{array, digest, number, text, uuid};
 use serde_json::Value;
 use std::alloc::{AllocError, Global};
 
-/// The value that a key has to have.
+/// The kind of value that a key must have.
 #[derive(Clone, Copy)]
 pub enum Wanted {
-    /// A number below 2^32, in digits alone.
+    /// A number below 2^32, in digits only.
     Number,
     /// A UUID.
     Uuid,
     /// 32 bytes in 64 hexadecimal digits.
     Digest,
-    /// One of two words.
+    /// The word `test` or `permanent`.
     Kind,
     /// A list.
     List,
 }
 
 impl Wanted {
-    /// Whether a key of an object has such a value.
+    /// Whether the value of a key in an object is of this kind.
     fn is_met(self, value: &Value, key: &str) -> bool {
         match self {
             Wanted::Number => number(value, key).is_some(),
@@ -32,7 +32,7 @@ impl Wanted {
         }
     }
 
-    /// Its description.
+    /// Its description in the notes.
     fn name(self) -> &'static str {
         match self {
             Wanted::Number => "a number from 0 to 4294967295, in digits alone",
@@ -44,37 +44,37 @@ impl Wanted {
     }
 }
 
-/// A key, and the value that it has to have.
+/// A key, and the kind of value that it must have.
 #[derive(Clone, Copy)]
 pub enum Key {
-    /// It has to be there.
+    /// The key must be there.
     Needed(&'static str, Wanted),
-    /// It may be missing.
+    /// The key may be missing.
     Optional(&'static str, Wanted),
 }
 
 impl Key {
-    /// The key itself.
+    /// The text of the key.
     fn name(self) -> &'static str {
         match self {
             Key::Needed(name, _) | Key::Optional(name, _) => name,
         }
     }
 
-    /// The value that it has to have.
+    /// The kind of value that it must have.
     fn wanted(self) -> Wanted {
         match self {
             Key::Needed(_, wanted) | Key::Optional(_, wanted) => wanted,
         }
     }
 
-    /// Whether it is missing in an object that needs it.
+    /// Whether an object needs the key and doesn't have it.
     fn is_missing(self, value: &Value) -> bool {
         matches!(self, Key::Needed(..)) && value.get(self.name()).is_none()
     }
 }
 
-/// Adds the place at which a text stops being JSON.
+/// Adds where a text stops being JSON.
 pub fn explain_text(notes: &mut String, alloc: Global, bytes: &[u8]) -> Result<(), AllocError> {
     match Value::from_slice(alloc, bytes) {
         Err(error) if !error.is_memory() => writeln!(notes, "note: {error}"),
@@ -87,14 +87,14 @@ pub fn explain_text(notes: &mut String, alloc: Global, bytes: &[u8]) -> Result<(
 pub struct Object<'a> {
     /// Its name in the notes.
     pub name: &'a str,
-    /// The object, if the value is one.
+    /// The value, which is to be an object.
     pub value: &'a Value,
     /// The keys that it may have.
     pub keys: &'a [Key],
 }
 
 impl Object<'_> {
-    /// Adds the keys that are missing, the keys that aren't known, and the keys with a wrong value.
+    /// Adds the missing keys, the unknown keys, and the keys with a wrong value.
     pub fn explain(self, notes: &mut String, alloc: Global) -> Result<(), AllocError> {
         let owner = self.name;
         let Some(members) = self.value.as_object() else {
@@ -110,7 +110,7 @@ impl Object<'_> {
         self.explain_values(notes, alloc)
     }
 
-    /// Adds the keys that are missing.
+    /// Adds the missing keys.
     fn explain_missing(self, notes: &mut String) -> Result<(), AllocError> {
         let owner = self.name;
         for key in self.keys {
@@ -122,7 +122,7 @@ impl Object<'_> {
         Ok(())
     }
 
-    /// Adds the keys that have a wrong value.
+    /// Adds the keys with a wrong value.
     fn explain_values(self, notes: &mut String, alloc: Global) -> Result<(), AllocError> {
         let owner = self.name;
         for key in self.keys {
@@ -150,8 +150,8 @@ fn is_known(name: &str, keys: &[Key]) -> bool {
     false
 }
 
-/// Adds that a list has too few or too many entries, if so. `name` is its name, and `each` what an
-/// entry is for, if that is said.
+/// Adds that a list has too few or too many entries, if it has. `name` is its name in the notes,
+/// and `each` says what an entry is for, or is empty.
 pub fn explain_count(
     notes: &mut String,
     name: &str,

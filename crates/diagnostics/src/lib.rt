@@ -1,12 +1,12 @@
-//! Why bytes are refused and requests are left, in sentences for people.
+//! Explains in sentences why bytes are refused and why requests aren't taken.
 //!
 //! - Allocates: the text, and JSON values.
 //! - Callers: any program that has read the bytes.
 //!
-//! Each call adds lines `note: ..` to a text: what the given bytes hold, where, and what they may
-//! hold. It is given what was refused, and looks for the place; if it finds none it adds nothing.
-//! Nothing is promised of the sentences but that each call ends, whatever the bytes are: tests
-//! compare them.
+//! Each call adds lines `note: ..` to a text: what the given bytes contain, where, and what they
+//! may contain. The caller says what was refused. The call looks for the place, and adds nothing if
+//! it finds none. It is proved that each call ends, whatever the bytes are. The sentences are
+//! tested.
 #![tactic(auto)]
 
 mod device_notes;

@@ -1,4 +1,4 @@
-//! What is wrong with a manifest.
+//! Explains why bytes aren't a manifest for a device.
 
 use crate::json_notes::{Key, Object, Wanted, explain_count, explain_text};
 use manifest::json::{array, json_of, number, uuid};
@@ -25,9 +25,12 @@ const COMPONENT_KEYS: [Key; 5] = [
     Key::Optional("precursor-digest", Wanted::Digest),
 ];
 
-/// Adds why bytes are no manifest for a device of this identity: where they stop being JSON, which
-/// keys are missing or not known, which value of a key isn't allowed, and what is, or which device
-/// the manifest is for. The JSON value is in memory of `alloc` meanwhile.
+/// Adds why bytes aren't a manifest for a device of this identity: where they stop being JSON,
+/// which keys are missing or unknown, which value of a key isn't allowed, or which device the
+/// manifest is for. The JSON value is in memory of `alloc`.
+///
+/// # Errors
+/// `AllocError` if memory is refused. Then `notes` has a part of the text.
 pub fn explain_manifest(
     notes: &mut String,
     alloc: Global,
@@ -40,7 +43,7 @@ pub fn explain_manifest(
     }
 }
 
-/// Adds why a JSON value is no manifest for a device of this identity.
+/// Adds why a JSON value isn't a manifest for a device of this identity.
 fn explain_value(
     notes: &mut String,
     alloc: Global,
@@ -64,7 +67,7 @@ fn explain_value(
     }
 }
 
-/// Adds that the version of the format isn't 1, if so.
+/// Adds that the version of the format isn't 1, if it isn't.
 fn explain_version(notes: &mut String, value: &Value) -> Result<(), AllocError> {
     match number(value, "manifest-version") {
         Some(version) if version != 1 => writeln!(
@@ -75,7 +78,7 @@ fn explain_version(notes: &mut String, value: &Value) -> Result<(), AllocError> 
     }
 }
 
-/// Adds that an identifier isn't the device's, if so.
+/// Adds that an identifier isn't the device's, if it isn't.
 fn explain_identifier(
     notes: &mut String,
     value: &Value,
@@ -105,7 +108,7 @@ fn explain_components(
     Ok(())
 }
 
-/// Adds what is wrong with a component, which comes after the components `before`.
+/// Adds what is wrong with a component, which follows the components `before`.
 fn explain_component(
     notes: &mut String,
     alloc: Global,

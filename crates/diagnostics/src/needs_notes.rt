@@ -1,4 +1,4 @@
-//! Dependencies that a set of images doesn't meet.
+//! Explains which dependencies a set of images doesn't meet.
 
 use crate::versions::{NEEDS, NEEDS_ONE, Versions, is_taken};
 use certificate::{Entry, Request, Table};
@@ -7,12 +7,15 @@ use version_order::Version;
 
 /// Adds a sentence for each dependency and group of the running images of a table that the running
 /// versions don't meet.
+///
+/// # Errors
+/// `AllocError` if memory is refused. Then `notes` has a part of the text.
 pub fn explain_running(notes: &mut String, table: &Table) -> Result<(), AllocError> {
     explain_set(notes, table, 0)
 }
 
-/// Adds a sentence for each dependency and group that a set of the images of a table doesn't meet:
-/// bit i of `taken` says whether the request of image i is in the set.
+/// Adds a sentence for each dependency and group that a set of the images of a table doesn't meet.
+/// If bit i of `taken` is set, the request of image i is in the set.
 pub fn explain_set(notes: &mut String, table: &Table, taken: u8) -> Result<(), AllocError> {
     let versions = Versions::of_set(table, taken);
     for (number, image) in table.images.iter().enumerate() {
@@ -25,7 +28,7 @@ pub fn explain_set(notes: &mut String, table: &Table, taken: u8) -> Result<(), A
     Ok(())
 }
 
-/// Adds the dependencies and the groups of an image that versions don't meet.
+/// Adds the dependencies and the groups of an image that these versions don't meet.
 fn explain_entry(
     notes: &mut String,
     versions: &Versions,
@@ -47,7 +50,7 @@ fn explain_entry(
     Ok(())
 }
 
-/// Begins a sentence on the version of an image.
+/// Adds the start of a sentence on the version of an image.
 pub fn add_owner(notes: &mut String, number: usize, version: Version) -> Result<(), AllocError> {
     write!(notes, "note: image {number}: {version} ")
 }

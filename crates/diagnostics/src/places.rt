@@ -1,4 +1,4 @@
-//! Lines of a text by their numbers.
+//! Finds lines of a text by their numbers.
 
 use crate::shown::Shown;
 use common::lines::first_line;
@@ -13,7 +13,7 @@ pub struct Place<'a> {
     pub line: &'a [u8],
 }
 
-/// The line of this number, counted from 1, if the text has that many.
+/// The line of this number, from 1. `None` if the text has fewer lines.
 pub fn line_at(text: &[u8], number: usize) -> Option<Place<'_>> {
     let mut rest = text;
     for count in 1..=number {
@@ -30,8 +30,8 @@ pub fn line_at(text: &[u8], number: usize) -> Option<Place<'_>> {
     None
 }
 
-/// Adds the contents of the first wrong line of a text of this kind, which has this number, counted
-/// from 1, and begins the list of what is allowed there. Returns the lines before it. If the text
+/// Adds the contents of the first wrong line of a text of this kind, and the start of the list of
+/// what is allowed there. The lines are numbered from 1. Returns the lines before it. If the text
 /// has no such line, adds `empty`.
 pub fn add_wrong_line<'t>(
     notes: &mut String,
@@ -49,7 +49,7 @@ pub fn add_wrong_line<'t>(
     Ok(Some(place.before))
 }
 
-/// Adds the contents of a line, of a text of this kind.
+/// Adds the contents of a line of a text of this kind.
 pub fn add_line(
     notes: &mut String,
     kind: &str,

@@ -1,4 +1,4 @@
-//! Why requests are refused.
+//! Explains why a report refuses requests.
 
 use crate::needs_notes::add_owner;
 use crate::versions::{NEEDS, NEEDS_ONE, Versions};
@@ -6,7 +6,11 @@ use certificate::{Entry, Image, Reason, Refusal, Report, Request, Table};
 use std::alloc::AllocError;
 use version_order::Dependency;
 
-/// Adds a sentence for each request that a report refuses, with the versions that it compares.
+/// Adds a sentence for each request that a report refuses, with the versions that the reason
+/// compares.
+///
+/// # Errors
+/// `AllocError` if memory is refused. Then `notes` has a part of the text.
 pub fn explain_refusals(
     notes: &mut String,
     table: &Table,
@@ -52,8 +56,8 @@ fn explain_refusal(
     )
 }
 
-/// Adds why the intact request of an image is refused, on a device with `count` images of which
-/// these are the best versions.
+/// Adds why the intact request of an image is refused, on a device with `count` images. `best` are
+/// the best versions of its images.
 fn add_reason(
     notes: &mut String,
     best: &Versions,

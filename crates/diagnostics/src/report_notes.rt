@@ -1,4 +1,4 @@
-//! The first wrong line of a report.
+//! Explains the first wrong line of a report.
 
 use crate::places::add_wrong_line;
 use crate::table_notes::WORDS;
@@ -6,18 +6,21 @@ use certificate::{MOST_REFUSALS, Report};
 use common::limits::MOST_IMAGES;
 use std::alloc::AllocError;
 
-/// What is said of a report without lines.
+/// The note on a report without lines.
 const EMPTY: &str =
     "note: the report is empty; it begins with `run 0 VERSION` or `take 0 VERSION`\n";
 
-/// What may follow `refuse I`.
+/// What may follow `refuse I` in a line.
 const REASONS: &str =
     "note: a REASON is damaged, older, counter, no-such-image J, needs J VERSION, or needs-one with
 note: one to four pairs J VERSION
 ";
 
-/// Adds the contents of the line of this number, counted from 1, which is the first wrong one, and
-/// what is allowed there.
+/// Adds the contents of the first wrong line of a report, which has this number, from 1, and what
+/// is allowed there.
+///
+/// # Errors
+/// `AllocError` if memory is refused. Then `notes` has a part of the text.
 pub fn explain_report_line(
     notes: &mut String,
     text: &[u8],
@@ -34,7 +37,7 @@ pub fn explain_report_line(
     notes.push_str(WORDS)
 }
 
-/// Adds what may follow a report.
+/// Adds the lines that may follow a report.
 fn add_choices(notes: &mut String, report: &Report) -> Result<(), AllocError> {
     let count = report.images.len();
     if count < MOST_IMAGES && report.refusals.is_empty() {

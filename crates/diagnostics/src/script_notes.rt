@@ -1,4 +1,4 @@
-//! What is wrong with a line of a script.
+//! Explains what is wrong with a line of a script.
 
 use crate::places::{add_line, line_at};
 use crate::shown::Shown;
@@ -8,7 +8,7 @@ use common::texts::STANDARD_INPUT;
 use script::{Event, FileText, Line, PartText, line_of};
 use std::alloc::AllocError;
 
-/// What follows the first word of a line.
+/// The fields after the first word of a line.
 #[derive(Clone, Copy)]
 enum Fields {
     Cut,
@@ -18,7 +18,7 @@ enum Fields {
     Nothing,
 }
 
-/// The words that a line may begin with, and what follows each.
+/// The first words of lines, and the fields after each.
 const FIELDS: [(&str, Fields); 8] = [
     ("cut", Fields::Cut),
     ("accept", Fields::File),
@@ -30,10 +30,15 @@ const FIELDS: [(&str, Fields); 8] = [
     ("reset", Fields::Nothing),
 ];
 
-/// Adds the contents of the line of this number, counted from 1, and why it is wrong: its spelling,
-/// its place, or the part of a file that it names. `may_cut` says whether the script may cut
-/// writes. `length` is the length of the file that the line names, in bytes, if it is known. That
-/// of standard input isn't known if an argument of the command names standard input too.
+/// Adds the contents of the line of this number, from 1, and why it is wrong: its spelling, its
+/// place, or the part of a file that it names.
+///
+/// `may_cut` says whether the script may cut writes. `length` is the length in bytes of the file
+/// that the line names, if it is known. The length of standard input isn't known if an argument of
+/// the command names standard input too.
+///
+/// # Errors
+/// `AllocError` if memory is refused. Then `notes` has a part of the text.
 pub fn explain_script_line(
     notes: &mut String,
     text: &[u8],
@@ -55,7 +60,7 @@ pub fn explain_script_line(
     }
 }
 
-/// Adds why a cut of this write can't follow these lines.
+/// Adds why the line that cuts this write can't follow these lines.
 fn explain_order(notes: &mut String, before: &[u8], write: u32) -> Result<(), AllocError> {
     let mut rest = before;
     let mut last = 0;
@@ -76,7 +81,7 @@ fn explain_order(notes: &mut String, before: &[u8], write: u32) -> Result<(), Al
     )
 }
 
-/// The name of the file that the line of this number names, counted from 1, if it names one.
+/// The name of the file that the line of this number, from 1, names, if it names one.
 pub fn file_named_at(text: &[u8], number: usize) -> Option<&str> {
     match line_of(line_at(text, number)?.line) {
         Some(Line::Event(Event::Accept(file) | Event::Piece(_, file))) => Some(file.name),
@@ -84,7 +89,7 @@ pub fn file_named_at(text: &[u8], number: usize) -> Option<&str> {
     }
 }
 
-/// Adds what is wrong with the file of an event, which follows these lines.
+/// Adds what is wrong with the file of an event, which follows the lines `before`.
 fn explain_event(
     notes: &mut String,
     before: &[u8],
@@ -121,7 +126,7 @@ fn name_input(text: &[u8]) -> bool {
     false
 }
 
-/// Adds what is wrong with a part of a file of this length, if it is known.
+/// Adds what is wrong with a part of a file, if the length of the file is known.
 fn explain_part(
     notes: &mut String,
     name: &str,
@@ -169,7 +174,7 @@ fn explain_spelling(notes: &mut String, line: &[u8]) -> Result<(), AllocError> {
     }
 }
 
-/// What follows a word, if a line may begin with it.
+/// The fields after a word. `None` if no line begins with the word.
 fn fields_of(word: &[u8]) -> Option<Fields> {
     for (own, fields) in &FIELDS {
         if word == own.as_bytes() {
@@ -179,7 +184,7 @@ fn fields_of(word: &[u8]) -> Option<Fields> {
     None
 }
 
-/// Adds what is wrong after `cut`.
+/// Adds what is wrong with the fields after `cut`.
 fn explain_cut(notes: &mut String, fields: &[u8]) -> Result<(), AllocError> {
     let (write, torn) = cut(fields, b' ');
     match number(write) {
@@ -201,7 +206,7 @@ fn explain_cut(notes: &mut String, fields: &[u8]) -> Result<(), AllocError> {
     )
 }
 
-/// Adds what is wrong after `piece`.
+/// Adds what is wrong with the fields after `piece`.
 fn explain_piece(notes: &mut String, fields: &[u8]) -> Result<(), AllocError> {
     let (image, _) = cut(fields, b' ');
     if number_u8(image).is_none() {
@@ -213,7 +218,7 @@ fn explain_piece(notes: &mut String, fields: &[u8]) -> Result<(), AllocError> {
     )
 }
 
-/// Adds that a word is no number of an image.
+/// Adds that a word isn't the number of an image.
 fn explain_number(notes: &mut String, word: &[u8]) -> Result<(), AllocError> {
     let word = Shown(word);
     writeln!(

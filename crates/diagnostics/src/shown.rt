@@ -1,12 +1,12 @@
-//! Bytes from outside, safe to print in one line.
+//! Prints bytes from outside safely in one line.
 
 use std::fmt;
 
-/// The most characters that are printed, or bytes if they are no text.
+/// The largest number of characters to print, or of bytes if they aren't text.
 const MOST: usize = 120;
 
-/// Bytes to print in one line, cut off if they are long. Visible ASCII characters stay as they are,
-/// and others are escaped: `\n`, `\u{e4}`, or `\xff` if the bytes are no text.
+/// Bytes to print in one line, shortened if they are long. Visible ASCII characters are unchanged.
+/// Others are escaped: `\n`, `\u{e4}`, or `\xff` if the bytes aren't text.
 #[derive(Clone, Copy)]
 pub struct Shown<'a>(pub &'a [u8]);
 

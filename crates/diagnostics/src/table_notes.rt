@@ -1,21 +1,24 @@
-//! The first wrong line of a table.
+//! Explains the first wrong line of a table.
 
 use crate::places::add_wrong_line;
 use certificate::{Entry, Request, Table};
 use common::limits::{MOST_DEPENDENCIES, MOST_GROUPS, MOST_IMAGES};
 use std::alloc::AllocError;
 
-/// How the words of tables and reports are written.
+/// The note on how versions and numbers are written in tables and reports.
 pub const WORDS: &str =
     "note: a VERSION is major.minor.revision+build, of which last parts may be left out; numbers are
 note: decimal, without leading zeros; one space parts two words
 ";
 
-/// What is said of a table without lines.
+/// The note on a table without lines.
 const EMPTY: &str = "note: the table is empty; it begins with `image 0 VERSION COUNTER FLOOR`\n";
 
-/// Adds the contents of the line of this number, counted from 1, which is the first wrong one, and
-/// what is allowed there.
+/// Adds the contents of the first wrong line of a table, which has this number, from 1, and what is
+/// allowed there.
+///
+/// # Errors
+/// `AllocError` if memory is refused. Then `notes` has a part of the text.
 pub fn explain_table_line(
     notes: &mut String,
     text: &[u8],
@@ -29,7 +32,7 @@ pub fn explain_table_line(
     notes.push_str(WORDS)
 }
 
-/// Adds what may follow a table.
+/// Adds the lines that may follow a table.
 fn add_choices(notes: &mut String, table: &Table) -> Result<(), AllocError> {
     let images = table.images.as_slice();
     if let Some(image) = images.last() {
@@ -53,7 +56,7 @@ fn add_choices(notes: &mut String, table: &Table) -> Result<(), AllocError> {
     }
 }
 
-/// Adds which dependencies may follow those of an entry.
+/// Adds the dependencies that may follow those of an entry.
 fn add_needs(notes: &mut String, entry: &Entry) -> Result<(), AllocError> {
     if entry.groups.is_empty() && entry.dependencies.len() < MOST_DEPENDENCIES {
         notes.push_str(" `needs J VERSION`,")?;

@@ -1,4 +1,4 @@
-//! Why a report isn't right for a table.
+//! Explains why a report isn't right for a table.
 
 use crate::needs_notes::explain_set;
 use crate::versions::{Versions, is_taken, version_in};
@@ -7,8 +7,11 @@ use std::alloc::AllocError;
 use version_order::{Dependency, Version};
 
 /// Adds the first thing that makes a report wrong for a table: the number of its images, a version,
-/// a request that isn't decided once, a set that isn't valid, or a reason that doesn't hold. A line
-/// of the report is named by its number, from 1.
+/// a request that isn't decided exactly once, a set that isn't valid, or a reason that doesn't
+/// hold. Lines of the report are numbered from 1.
+///
+/// # Errors
+/// `AllocError` if memory is refused. Then `notes` has a part of the text.
 pub fn explain_no(notes: &mut String, table: &Table, report: &Report) -> Result<(), AllocError> {
     let empty = notes.len();
     explain_count(notes, table, report)?;
@@ -30,7 +33,7 @@ pub fn explain_no(notes: &mut String, table: &Table, report: &Report) -> Result<
     Ok(())
 }
 
-/// Which requests a report takes.
+/// The set of the requests that a report takes. Bit i is for image i.
 fn taken_in(report: &Report) -> u8 {
     let mut set = 0;
     for (number, image) in report.images.iter().enumerate() {
@@ -41,7 +44,7 @@ fn taken_in(report: &Report) -> u8 {
     set
 }
 
-/// Adds that the numbers of images differ, if so.
+/// Adds that the table and the report have different numbers of images, if they have.
 fn explain_count(notes: &mut String, table: &Table, report: &Report) -> Result<(), AllocError> {
     let (here, there) = (table.images.len(), report.images.len());
     if here == there {
@@ -53,7 +56,7 @@ fn explain_count(notes: &mut String, table: &Table, report: &Report) -> Result<(
     )
 }
 
-/// Adds the versions that aren't those of the table.
+/// Adds the versions of a report that aren't those of the table.
 fn explain_versions(notes: &mut String, table: &Table, report: &Report) -> Result<(), AllocError> {
     let taken = taken_in(report);
     for (number, reported) in report.images.iter().enumerate() {
@@ -65,7 +68,7 @@ fn explain_versions(notes: &mut String, table: &Table, report: &Report) -> Resul
     Ok(())
 }
 
-/// Adds that a report has another version of an image than would run, if so.
+/// Adds that a report has another version of an image than would run, if it has.
 fn explain_version(
     notes: &mut String,
     number: usize,
@@ -82,7 +85,7 @@ fn explain_version(
     )
 }
 
-/// Adds the requests that aren't taken or refused once.
+/// Adds the requests that aren't taken or refused exactly once.
 fn explain_requests(notes: &mut String, table: &Table, report: &Report) -> Result<(), AllocError> {
     explain_strangers(notes, table, report)?;
     let taken = taken_in(report);
@@ -94,7 +97,8 @@ fn explain_requests(notes: &mut String, table: &Table, report: &Report) -> Resul
     Ok(())
 }
 
-/// Adds that the request of an image isn't decided once, or that there is none to decide.
+/// Adds that the request of an image isn't decided exactly once, or that there is no request to
+/// decide.
 fn explain_times(
     notes: &mut String,
     number: usize,
@@ -134,7 +138,7 @@ fn explain_strangers(notes: &mut String, table: &Table, report: &Report) -> Resu
     Ok(())
 }
 
-/// How often a report refuses the request of image `number`.
+/// The number of times that a report refuses the request of image `number`.
 fn times_refused(report: &Report, number: usize) -> usize {
     let mut times: usize = 0;
     for refusal in report.refusals.iter() {
@@ -145,12 +149,12 @@ fn times_refused(report: &Report, number: usize) -> usize {
     times
 }
 
-/// The line of a report, from 1, that has the refusal at this place, from 0.
+/// The line of a report, from 1, with the refusal of this index, from 0.
 fn line_of(report: &Report, place: usize) -> usize {
     place.saturating_add(report.images.len()).saturating_add(1)
 }
 
-/// Adds the requests that are taken though they have to be refused.
+/// Adds the requests that are taken but have to be refused.
 fn explain_members(notes: &mut String, table: &Table, report: &Report) -> Result<(), AllocError> {
     let taken = taken_in(report);
     for (number, image) in table.images.iter().enumerate() {
@@ -161,7 +165,7 @@ fn explain_members(notes: &mut String, table: &Table, report: &Report) -> Result
     Ok(())
 }
 
-/// Adds why the request of an image has to be refused, if so.
+/// Adds why the request of an image has to be refused, if it has.
 fn explain_member(notes: &mut String, number: usize, image: &Image) -> Result<(), AllocError> {
     let line = number.saturating_add(1);
     let Request::Entry(entry) = &image.request else {
@@ -187,7 +191,7 @@ fn explain_member(notes: &mut String, number: usize, image: &Image) -> Result<()
     Ok(())
 }
 
-/// Adds the first reason that doesn't hold at its place.
+/// Adds the first reason that doesn't hold after the refusals before it.
 fn explain_reasons(notes: &mut String, table: &Table, report: &Report) -> Result<(), AllocError> {
     let refusals = report.refusals.as_slice();
     for (place, refusal) in refusals.iter().enumerate() {

@@ -1,23 +1,23 @@
-//! The versions that dependencies are compared with.
+//! Compares the needs of images with the versions of a set.
 
 use certificate::{Image, Refusal, Request, Table};
 use common::limits::MOST_IMAGES;
 use std::alloc::AllocError;
 use version_order::{Dependency, Group, Version};
 
-/// The words for a dependency.
+/// The text before a dependency.
 pub const NEEDS: &str = "needs";
 
-/// The words for a group.
+/// The text before a group.
 pub const NEEDS_ONE: &str = "needs one of these:";
 
-/// A version for each image of a device. There is none if the device has no such image.
+/// A version for each image of a device. `None` if the device has no such image.
 #[derive(Clone, Copy, Default)]
 pub struct Versions([Option<Version>; MOST_IMAGES]);
 
 impl Versions {
     /// The versions of a set of the images of a table. If bit i of `taken` is set and the request
-    /// of image i is intact, the version of image i is the requested one, and else the running one.
+    /// of image i is intact, image i has the requested version, else the running one.
     pub fn of_set(table: &Table, taken: u8) -> Versions {
         let mut versions = Versions::default();
         for (number, image) in table.images.iter().enumerate() {
@@ -26,9 +26,9 @@ impl Versions {
         versions
     }
 
-    /// The best versions that may run together with the request of image `own`, after these
-    /// refusals: its own; the running one of an image whose request is refused; and else the newer
-    /// of the requested and the running one.
+    /// The best versions that may run together with the request of image `own`, after the refusals
+    /// `before`. Image `own` has its requested version. An image whose request is refused has the
+    /// running version. Any other image has the newer of the requested and the running version.
     pub fn at_best(table: &Table, before: &[Refusal], own: u8) -> Versions {
         let mut versions = Versions::default();
         for (number, image) in table.images.iter().enumerate() {
@@ -57,7 +57,7 @@ impl Versions {
         *self.0.get(usize::from(image))?
     }
 
-    /// Whether they meet a dependency.
+    /// Whether these versions meet a dependency.
     pub fn meet(&self, need: &Dependency) -> bool {
         match self.of(need.image) {
             Some(version) => version >= need.minimum,
@@ -65,7 +65,7 @@ impl Versions {
         }
     }
 
-    /// Whether they meet one alternative of a group at least.
+    /// Whether these versions meet at least one alternative of a group.
     pub fn meet_one(&self, group: &Group) -> bool {
         for need in group.alternatives.iter() {
             if self.meet(need) {
@@ -75,8 +75,8 @@ impl Versions {
         false
     }
 
-    /// Ends a sentence on the version of an image by what it needs of these dependencies, in the
-    /// words of `needs`, and the versions there.
+    /// Adds the end of a sentence on the version of an image: what it needs, in the words of
+    /// `needs`, and the versions of this set.
     pub fn explain_needs(
         &self,
         notes: &mut String,
@@ -94,7 +94,7 @@ impl Versions {
         notes.push_str("\n")
     }
 
-    /// Adds what a dependency asks for, and the version there.
+    /// Adds a dependency, and the version of its image in this set.
     fn add_need(
         &self,
         notes: &mut String,
@@ -111,12 +111,12 @@ impl Versions {
     }
 }
 
-/// Whether bit `number` of a set is one.
+/// Whether bit `number` of a set is set.
 pub fn is_taken(set: u8, number: usize) -> bool {
     number < MOST_IMAGES && set >> number & 1 == 1
 }
 
-/// The version of an image: that of its request, if it is taken and intact, and else the running
+/// The version of an image: the requested one if the request is taken and intact, else the running
 /// one.
 pub fn version_in(image: &Image, is_taken: bool) -> Version {
     match &image.request {

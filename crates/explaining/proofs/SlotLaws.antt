@@ -1,4 +1,4 @@
--- Where the slots of a flash lie.
+-- The slots of a flash, as ranges of its bytes.
 use Rattle.std.proofs.Common.{◌≡◌, ℕ, ◌+◌, ◌*◌, ◌<◌, ◌≤◌, List, ap, arith, slice_range, sym}
 use Rattle.device_texts.specs.FlashOf.{flash_of}
 use Rattle.image_reading.specs.Slot.{slot_bytes}
@@ -11,7 +11,7 @@ use Rattle.sector_map.proofs.PartBytes.{end_of}
 use Rattle.sector_map.proofs.Places.{before_within}
 use Rattle.sector_map.proofs.Products.{mul_le}
 
--- the sectors of a slot are some of the map's
+-- The sectors of a slot are sectors of the map.
 sectors_within : (map : SectorMap) (image : ℕ) (side : Side) → IsMap map → image < map.images
     → first_of map (Slot image side) + slot_sectors map image ≤ sectors_of map
 sectors_within map image Primary fits there = omega (arith, before_within map image fits there)
@@ -28,7 +28,7 @@ slot_within map image side fits there =
           (sectors_within map image side fits there),
     )
 
--- It is the bytes from its start on.
+-- The bytes of a slot are those of the flash from the slot's start on.
 pub slot_range : (map : SectorMap) (bytes : List ℕ) (image : ℕ) (side : Side)
     → slice_range bytes (start_of map (Slot image side))
     (start_of map (Slot image side) + length_of map (Slot image side))

@@ -1,4 +1,4 @@
-//! Why an answer is a no or a refusal.
+//! Explains answers that are a no or a refusal.
 
 use crate::choices::explain_verdict;
 use crate::faults::explain_no_state;
@@ -14,7 +14,7 @@ use diagnostics::{explain_manifest, explain_map, explain_running};
 use host::Host;
 use std::alloc::{AllocError, Global};
 
-/// Adds why an answer is a no or a refusal.
+/// Adds why the answer to an order is a no or a refusal.
 pub fn explain_answer<H: Host>(
     alloc: Global,
     notes: &mut String,
@@ -45,7 +45,7 @@ pub fn explain_answer<H: Host>(
     }
 }
 
-/// Adds why an answer about a device and its flash is a refusal.
+/// Adds why the answer to an order about a device and its flash is a refusal.
 fn explain_device_answer<H: Host>(
     alloc: Global,
     notes: &mut String,

@@ -1,4 +1,4 @@
-//! Why requests are refused by a choice, and why a report isn't right.
+//! Explains why a decision refuses requests, and why a report isn't right.
 
 use crate::flash_states::{FlashState, flash_state};
 use crate::order_sources::OrderSources;
@@ -11,8 +11,8 @@ use diagnostics::{explain_no, explain_refusals};
 use host::Host;
 use std::alloc::{AllocError, Global};
 
-/// Adds why each request is refused by the choice that was printed: over a table, or over that of a
-/// flash.
+/// Adds why the printed decision refuses each request. It is a decision over a table, or over the
+/// table of a flash.
 pub fn explain_choice<H: Host>(
     alloc: Global,
     notes: &mut String,
@@ -31,7 +31,7 @@ pub fn explain_choice<H: Host>(
     }
 }
 
-/// The table of a flash that was read, if its device is at rest.
+/// The table of the flash that was read. `None` if its device isn't at rest.
 fn table_of_flash<H: Host>(
     alloc: Global,
     sources: OrderSources<'_>,

@@ -1,4 +1,4 @@
-//! Why a command ended as it did.
+//! Explains how a command ended.
 
 use crate::answers::explain_answer;
 use crate::choices::explain_choice;
@@ -14,8 +14,10 @@ use host::{Answer, Host, Refusal};
 use std::alloc::{AllocError, Global};
 use std::io::Write;
 
-/// Writes to `err` why the command of `order`, which was run over `host`, ended so. The notes are
-/// in memory of `alloc`. There are none if memory for the log of what was read ran out.
+/// Writes to `err` why the command of `order`, which was run over `host`, ended with `outcome`.
+///
+/// The notes are in memory of `alloc`. There are none if memory ran out for the log of what was
+/// read.
 pub fn explain_end<H: Host, E: Write>(
     alloc: Global,
     order: &Order<'_>,
@@ -39,7 +41,7 @@ pub fn explain_end<H: Host, E: Write>(
     let _ = err.flush();
 }
 
-/// Adds why a command refuses.
+/// Adds why a command refuses an order.
 fn explain_refusal<H: Host>(
     alloc: Global,
     notes: &mut String,

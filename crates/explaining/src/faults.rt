@@ -1,4 +1,4 @@
-//! Why a device refuses an event of a run.
+//! Explains why a device refuses an event of a run.
 
 use common::event::Event;
 use device_texts::DeviceFile;
@@ -14,7 +14,7 @@ pub fn explain_no_state(notes: &mut String) -> Result<(), AllocError> {
     )
 }
 
-/// Adds what a device has to do first, if it refuses an event because of its state.
+/// Adds what a device has to do first, if its state doesn't allow an event.
 pub fn explain_state(
     notes: &mut String,
     device: &DeviceFile,
@@ -37,7 +37,7 @@ pub fn explain_state(
     }
 }
 
-/// Adds why an event can't be done for its image.
+/// Adds why the image of an event doesn't allow the event.
 fn explain_image_of(
     notes: &mut String,
     device: &DeviceFile,

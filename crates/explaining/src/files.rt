@@ -1,4 +1,4 @@
-//! Why a file can't be read or written.
+//! Explains why a file can't be read or written.
 
 use crate::order_sources::OrderSources;
 use crate::remembering::Remembering;
@@ -7,11 +7,11 @@ use command_line::{DeviceOrder, Order};
 use host::{Host, Source, SourceFault, SourceRefusal};
 use std::alloc::AllocError;
 
-/// The error number of a write to a file that is open for reading only (`EBADF`).
+/// The system's error number (`EBADF`) for a write to a file that is open only for reading.
 const BAD_FILE: i32 = 9;
 
 /// Adds why a source is refused: the system's reason, the first script line that names a file which
-/// can't be read, and how a file that holds no image can be replaced.
+/// can't be read, and how to replace a file that isn't an image.
 pub fn explain_source<H: Host>(
     notes: &mut String,
     order: &Order<'_>,
@@ -31,7 +31,7 @@ pub fn explain_source<H: Host>(
     }
 }
 
-/// Adds how a file that holds no image can be replaced, and the order of the names of `make-image`.
+/// Adds how to replace a file that isn't an image, and the order of the names of `make-image`.
 fn explain_names(
     notes: &mut String,
     order: &Order<'_>,
@@ -49,7 +49,7 @@ fn explain_names(
     }
 }
 
-/// Adds the system's reason for which a file can't be read or written.
+/// Adds the system's reason why a file can't be read or written.
 fn explain_error<H: Host>(
     notes: &mut String,
     source: Source<'_>,
@@ -61,7 +61,7 @@ fn explain_error<H: Host>(
     }
 }
 
-/// Adds which file another program has locked, if the order names it.
+/// Adds which file another program has locked, if the name is known.
 pub fn explain_lock(notes: &mut String, name: Option<&str>) -> Result<(), AllocError> {
     match name {
         Some(name) => {
@@ -76,7 +76,7 @@ pub fn explain_lock(notes: &mut String, name: Option<&str>) -> Result<(), AllocE
     }
 }
 
-/// Adds the system's reason for which a flash file can't be made or written.
+/// Adds the system's reason why a flash file can't be made or written.
 pub fn explain_flash<H: Host>(
     notes: &mut String,
     order: &Order<'_>,
@@ -98,8 +98,8 @@ pub fn explain_flash<H: Host>(
     }
 }
 
-/// Whether the last error of the system is that a file is open for reading only. A flash that can't
-/// be opened for writing is opened so.
+/// Whether the system's last error is that a file is open only for reading. A flash that can't be
+/// opened for writing is opened so.
 fn is_read_only<H: Host>(host: &Remembering<H>) -> bool {
     match host.error.get() {
         Some(error) => error.raw_os_error() == Some(BAD_FILE),

@@ -1,4 +1,4 @@
-//! What the bytes of a flash say of its device.
+//! Reads the state of a device from the bytes of its flash.
 
 ghost use Rattle.std.specs.Prelude.{◌≡◌};
 ghost use Rattle.device_texts.specs.FlashOf.{IsFlashOf};
@@ -11,19 +11,19 @@ use std::alloc::{AllocError, Global};
 use std::marker::Brand;
 use std::sync::ledger::{Blank, Ledger};
 
-/// What the bytes of a flash say of its device.
+/// The state of a device, as far as notes need it.
 #[derive(Drop)]
 pub enum FlashState {
-    /// Nothing: the log holds no state.
+    /// The log holds no state.
     NoState,
     /// The device is at rest, and this is its table.
     AtRest(Table),
-    /// The device isn't at rest, or what runs can't be read.
+    /// The device isn't at rest, or a running image can't be read.
     NoTable,
 }
 
-/// What a flash of these bytes says of its device. It says nothing unless they are as many as the
-/// map has.
+/// The state of a device whose flash has these bytes. It is `NoTable` if the number of bytes isn't
+/// that of the map.
 pub fn flash_state(alloc: Global, map: &SectorMap, bytes: &[u8]) -> Result<FlashState, AllocError> {
     if bytes.len() != map.bytes_in_all() as usize {
         return Ok(FlashState::NoTable);
@@ -32,7 +32,7 @@ pub fn flash_state(alloc: Global, map: &SectorMap, bytes: &[u8]) -> Result<Flash
     Ok(state_of_flash::<Brand>(alloc, Blank::new(2), map, bytes))
 }
 
-/// What a flash of these bytes says of its device.
+/// The state of a device whose flash has these bytes.
 fn state_of_flash<L: Ledger>(
     alloc: Global,
     blank: Blank,

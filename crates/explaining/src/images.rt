@@ -1,4 +1,4 @@
-//! Why images are damaged, or don't run together.
+//! Explains why images are damaged, or don't run together.
 
 use crate::remembering::Remembering;
 use crate::slots::{begins_intact, explain_slot};
@@ -11,7 +11,7 @@ use image_reading::{ImageError, describe};
 use sector_map::{SectorMap, Side};
 use std::alloc::AllocError;
 
-/// Adds why bytes are no intact image, if they are none.
+/// Adds why bytes aren't an intact image, if they aren't.
 pub fn explain_bytes(notes: &mut String, bytes: &[u8]) -> Result<(), AllocError> {
     match describe(bytes) {
         Ok(_) => Ok(()),
@@ -19,7 +19,7 @@ pub fn explain_bytes(notes: &mut String, bytes: &[u8]) -> Result<(), AllocError>
     }
 }
 
-/// Adds why files are no images that run together.
+/// Adds why files aren't images that run together.
 pub fn explain_files<H: Host>(
     notes: &mut String,
     images: &[&str],
@@ -33,7 +33,7 @@ pub fn explain_files<H: Host>(
         let bytes = host.bytes_of(Some(source));
         match describe(bytes) {
             Ok(description) => {
-                // A table has room for as many images as a device may have.
+                // A table can hold all images of a device.
                 let _ = table.images.try_push(Image {
                     running: entry_of(description),
                     request: Request::None,

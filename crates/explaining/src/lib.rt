@@ -1,18 +1,18 @@
-//! The notes of `--explain`, which say on standard error why a command answers so.
+//! Writes the notes of `--explain` to standard error: why a command gave its answer.
 //!
 //! - Promises: A host that remembers what is read gives what the host below it gives.
 //! - Main calls: `Remembering` as a `Host`
 //! - Allocates: a copy of what was read, and the text.
 //! - Callers: `boot_cli`
 //!
-//! A command is run over a host that remembers what was read ([`Remembering`]), and once it has
-//! ended the notes are made of that ([`explain_end`]); those of a run's replies follow each reply
-//! ([`ReplyNotes`]). So nothing is read twice, and an input held what a note says of it when the
-//! command read it; only the length of a file that is too short or too long is asked for
-//! afterwards. Most sentences are made by `diagnostics`.
+//! A command runs over a host that remembers what was read ([`Remembering`]). After its end, the
+//! notes are made from that ([`explain_end`]). Notes on a reply of a run follow the reply
+//! ([`ReplyNotes`]). So nothing is read twice, and a note speaks of the bytes that the command
+//! read. Only the length of a file that is too short or too long is read afterwards. `diagnostics`
+//! makes most sentences.
 //!
-//! What the notes say is tested. If memory for a note runs out, or standard error takes no more,
-//! the rest is left out, and the exit status stays.
+//! Tests check the notes. If memory for a note runs out, or standard error takes no more, the other
+//! notes are left out. The exit status doesn't change.
 #![tactic(auto)]
 
 mod answers;

@@ -1,4 +1,4 @@
-//! Why a device file, an image or a manifest can't be made.
+//! Explains why a device file, an image or a manifest can't be made.
 
 use crate::slots::{begins_intact, explain_slot};
 use command_line::{NewComponent, NewDevice, NewImage, NewManifest};
@@ -10,7 +10,7 @@ use image_header::{ACCEPTED_FLAGS, HEADER_LENGTH};
 use sector_map::{SectorMap, Side};
 use std::alloc::AllocError;
 
-/// Adds which sizes that `make-device` is given don't make a map.
+/// Adds which sizes in the arguments of `make-device` make no map.
 pub fn explain_new_device(notes: &mut String, asked: &NewDevice<'_>) -> Result<(), AllocError> {
     let (sector, sectors) = (asked.sector_size, asked.sectors.as_slice());
     match SectorMap::new(sector, sectors) {
@@ -19,7 +19,8 @@ pub fn explain_new_device(notes: &mut String, asked: &NewDevice<'_>) -> Result<(
     }
 }
 
-/// Adds which values that `make-image` is given no image can have, by the first check that fails.
+/// Adds which values in the arguments of `make-image` no image can have, by the first check that
+/// fails.
 pub fn explain_new_image(notes: &mut String, asked: &NewImage) -> Result<(), AllocError> {
     match asked.header_size {
         Some(size) if usize::from(size) < HEADER_LENGTH => {
@@ -71,9 +72,9 @@ fn explain_groups(notes: &mut String, asked: &NewImage) -> Result<(), AllocError
     Ok(())
 }
 
-/// Adds which files that `make-manifest` is given can't be in a manifest for the device. A file is
-/// for an image that the device doesn't have, or for the image of an earlier file. If there is no
-/// such file, adds which image on the flash, which the files would follow, isn't intact.
+/// Adds which files in the arguments of `make-manifest` can't be in a manifest for the device: a
+/// file for an image that the device doesn't have, or for the image of an earlier file. If there is
+/// no such file, adds which running image on the flash isn't intact.
 pub fn explain_new_manifest(
     notes: &mut String,
     device: &DeviceFile,
@@ -97,7 +98,7 @@ pub fn explain_new_manifest(
     Ok(())
 }
 
-/// Adds what is wrong with the image number of a file, which comes after the files `before`.
+/// Adds what is wrong with the image number of a file, which follows the files `before`.
 fn explain_component(
     notes: &mut String,
     device: &DeviceFile,

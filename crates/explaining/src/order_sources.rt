@@ -1,20 +1,20 @@
-//! The files that an order names, by what they are to the command.
+//! Lists the files that an order names, by their roles.
 
 use command_line::{DeviceOrder, Order, ReadOrder};
 use host::Source;
 
-/// The sources that an order reads, as far as notes are about them.
+/// The sources that an order reads, as far as notes need them.
 #[derive(Clone, Copy, Default)]
 pub struct OrderSources<'a> {
     /// The table.
     pub table: Option<Source<'a>>,
     /// The report.
     pub report: Option<Source<'a>>,
-    /// The file that is described: an image or a manifest.
+    /// The file to describe: an image or a manifest.
     pub described: Option<Source<'a>>,
     /// The device file.
     pub device: Option<Source<'a>>,
-    /// The flash that is read.
+    /// The flash to read.
     pub flash: Option<Source<'a>>,
     /// The script.
     pub script: Option<Source<'a>>,
@@ -32,7 +32,7 @@ impl<'a> OrderSources<'a> {
         sources
     }
 
-    /// Adds the sources of an order to read.
+    /// Adds the sources of an order of a read-only command.
     fn add_read(&mut self, order: &ReadOrder<'a>) {
         match order {
             ReadOrder::Choose { table } => self.table = named(table),
@@ -70,7 +70,7 @@ impl<'a> OrderSources<'a> {
         }
     }
 
-    /// Adds the sources of another order that names a device file.
+    /// Adds the sources of any other order that names a device file.
     fn add_device(&mut self, order: &Order<'a>) {
         match order {
             Order::MakeManifest { device, manifest } => {
@@ -94,7 +94,7 @@ fn named(word: &str) -> Option<Source<'_>> {
     Some(Source::named(word))
 }
 
-/// The name of the flash of an order.
+/// The name of the flash file of an order, if it has one.
 pub fn flash_name<'a>(order: &Order<'a>) -> Option<&'a str> {
     match order {
         Order::Device(DeviceOrder::Provision { flash, .. } | DeviceOrder::Run { flash, .. })
@@ -105,7 +105,7 @@ pub fn flash_name<'a>(order: &Order<'a>) -> Option<&'a str> {
     }
 }
 
-/// The name of the file that an order makes, if it makes an image.
+/// The name of the image file that an order makes, if it makes one.
 pub fn image_name<'a>(order: &Order<'a>) -> Option<&'a str> {
     match order {
         Order::MakeImage { image: file, .. } | Order::Extract { out: file, .. } => Some(file.name),

@@ -1,4 +1,4 @@
-//! The bytes that a command read, which its notes are made of.
+//! Keeps the bytes that a command read, for its notes.
 
 use std::alloc::{AllocError, Global};
 
@@ -9,7 +9,7 @@ struct ReadFile {
     bytes: Vec<u8>,
 }
 
-/// What was read of files and of standard input.
+/// The bytes that were read of files and of standard input.
 #[derive(Drop)]
 pub struct ReadLog {
     alloc: Global,
@@ -50,12 +50,12 @@ impl ReadLog {
         }
     }
 
-    /// Whether the log has everything that was read: no memory was lacking for it.
+    /// Whether the log has everything that was read. It hasn't if memory ran out.
     pub fn is_whole(&self) -> bool {
         self.is_whole
     }
 
-    /// The bytes of the file of this name, if it was read.
+    /// The bytes of the file of this name. `None` if the file wasn't read.
     pub fn file(&self, name: &str) -> Option<&[u8]> {
         for file in self.files.as_slice() {
             if file.name.as_str() == name {
@@ -65,7 +65,7 @@ impl ReadLog {
         None
     }
 
-    /// The bytes of standard input.
+    /// The bytes that were read of standard input.
     pub fn input(&self) -> &[u8] {
         self.input.as_slice()
     }

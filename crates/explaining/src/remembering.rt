@@ -1,4 +1,4 @@
-//! A host that remembers what a command read from it.
+//! Passes a command's calls on to a host, and remembers what the command read.
 
 ghost use Rattle.std.specs.Prelude.{◌≡◌};
 
@@ -8,22 +8,24 @@ use std::alloc::Global;
 use std::cell::Cell;
 use std::io;
 
-/// A host that logs what is read from it, of files, flashes and standard input, and remembers the
-/// last error of the system. The log is in memory of its own, beside that of the command.
+/// A host that logs what is read from it, and remembers the last error of the system. The log
+/// covers files, flashes and standard input. It is in memory of its own, beside that of the
+/// command.
 #[derive(Drop)]
 pub struct Remembering<H> {
-    /// The host below.
+    /// The host that it passes all calls to.
     pub host: H,
-    /// What was read.
+    /// The bytes that were read.
     pub log: ReadLog,
-    /// The last error of the system. Calls through a shared reference report errors too.
+    /// The last error of the system. It is a cell, since calls through a shared reference report
+    /// errors too.
     pub error: Cell<Option<io::Error>>,
-    /// The length of the last file that is shorter or longer than was asked for.
+    /// The length in bytes of the last file that was shorter or longer than it had to be.
     pub length: Cell<Option<u64>>,
 }
 
 impl<H: Host> Remembering<H> {
-    /// A host over `host`, of which nothing was read yet. Its log is in memory of `alloc`.
+    /// A host over `host` that has read nothing yet. Its log is in memory of `alloc`.
     pub fn over(alloc: Global, host: H) -> Self
         ensures { result.host ≡ host }
     {
@@ -44,12 +46,13 @@ impl<H: Host> Remembering<H> {
         }
     }
 
-    /// Remembers the length of the file of this name, which isn't the one that is asked for.
+    /// Remembers the length of the file of this name, which is shorter or longer than it has to be.
     fn remember_length(&self, name: &str) {
         self.length.set(self.host.length_of(name).ok());
     }
 
-    /// What was read of a source. There are no bytes if it wasn't read, or if there is no source.
+    /// The bytes that were read of a source. They are empty if it wasn't read, or if there is no
+    /// source.
     pub fn bytes_of(&self, source: Option<Source<'_>>) -> &[u8] {
         match source {
             Some(Source::StandardInput) => self.log.input(),

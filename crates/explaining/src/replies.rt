@@ -1,4 +1,4 @@
-//! Why the replies of a run are as they are.
+//! Explains the replies of a run.
 
 use crate::faults::explain_state;
 use crate::trials::Trials;
@@ -13,7 +13,7 @@ use manifest::Manifest;
 use std::alloc::{AllocError, Global};
 use std::io::Write;
 
-/// Writes to standard error why the replies of a run are as they are.
+/// Writes to standard error why a run has its replies.
 #[derive(Drop)]
 pub struct ReplyNotes<'e, E> {
     alloc: Global,
@@ -29,7 +29,7 @@ impl<E: Write> RunNotes for ReplyNotes<'_, E> {
         self.trials = Trials::on(&device.map, flash);
     }
 
-    /// Writes why this is the reply to the event of this number, if there is something to say.
+    /// Writes why the event of this number has this reply, if there is a note on it.
     fn tell(&mut self, number: usize, event: &Event<Vec<u8>>, reply: &Reply) {
         let Some(device) = self.device else {
             return;
@@ -48,8 +48,8 @@ impl<E: Write> RunNotes for ReplyNotes<'_, E> {
 }
 
 impl<'e, E: Write> ReplyNotes<'e, E> {
-    /// The notes of a run, which are written to `err`. They are made in memory of `alloc`, which
-    /// also holds JSON values and the bytes of open uploads.
+    /// The notes of a run, to be written to `err`. They are made in memory of `alloc`, which also
+    /// holds JSON values and the bytes of open uploads.
     pub fn new(alloc: Global, err: &'e mut E) -> Self {
         ReplyNotes {
             alloc,
@@ -60,7 +60,7 @@ impl<'e, E: Write> ReplyNotes<'e, E> {
         }
     }
 
-    /// Adds why this is the reply to the event, and logs what the event brings, for later notes.
+    /// Adds why the event has this reply, and logs the bytes of the event for later notes.
     fn explain(
         &mut self,
         notes: &mut String,
@@ -85,8 +85,8 @@ impl<'e, E: Write> ReplyNotes<'e, E> {
         }
     }
 
-    /// Logs how an image is requested whose upload was finished. If a power cut interrupted the
-    /// finish, the image may be requested too.
+    /// Logs the kind of the request after an upload was finished. If a power cut interrupted
+    /// `finish`, the image may be requested too.
     fn log_request(&mut self, event: &Event<Vec<u8>>, reply: &Reply) {
         let Event::Finish(image) = event else {
             return;

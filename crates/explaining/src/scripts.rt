@@ -1,4 +1,4 @@
-//! Why a line of a script is refused, and which line names a file.
+//! Explains why a line of a script is refused, and finds the line that names a file.
 
 use crate::order_sources::OrderSources;
 use crate::remembering::Remembering;
@@ -22,8 +22,8 @@ pub fn explain_line<H: Host>(
     explain_script_line(notes, text, number, may_cut, length)
 }
 
-/// The length of the file that the script line of this number names, if it is known. That of
-/// standard input is known unless an argument of the command names standard input too.
+/// The length in bytes of the file that the script line of this number names, if it is known. The
+/// length of standard input is known unless an argument of the command names standard input too.
 fn named_length<H: Host>(
     order: &Order<'_>,
     script: &[u8],
@@ -40,7 +40,7 @@ fn named_length<H: Host>(
     Some(host.log.input().len() as u64)
 }
 
-/// Whether an argument of an order that takes a script is standard input.
+/// Whether an argument of an order with a script is standard input.
 fn names_standard_input(order: &Order<'_>) -> bool {
     let sources = OrderSources::of(order);
     let is_image = match order {
@@ -58,7 +58,7 @@ fn is_standard_input(source: Option<Source<'_>>) -> bool {
     source.is_some_and(|source| source.is_standard_input())
 }
 
-/// Adds the first line of a script that names a file, if one does.
+/// Adds the first line of a script that names this source, if one does.
 pub fn explain_place(
     notes: &mut String,
     source: Source<'_>,

@@ -1,4 +1,4 @@
-//! Which sizes and counts a device file asks for.
+//! Explains which sizes and counts a device file requires.
 
 use crate::order_sources::{OrderSources, flash_name};
 use crate::remembering::Remembering;
@@ -7,8 +7,8 @@ use device_texts::DeviceFile;
 use host::{Host, Refusal, Source};
 use std::alloc::{AllocError, Global};
 
-/// Adds the size or the count that the device file asks for, and the length of a flash of another
-/// one.
+/// Adds the size or the count that the device file requires. Adds the length of the flash if that
+/// is wrong.
 pub fn explain_size<H: Host>(
     alloc: Global,
     notes: &mut String,
@@ -35,7 +35,7 @@ pub fn explain_size<H: Host>(
 }
 
 /// Adds the length of the flash of an order, if it is known, and `wanted`, the length that it has
-/// to have. Of standard input one byte more than that is read at most.
+/// to have, in bytes. At most `wanted` + 1 bytes of standard input are read.
 fn explain_flash_size<H: Host>(
     notes: &mut String,
     order: &Order<'_>,

@@ -1,4 +1,4 @@
-//! Why a slot doesn't begin with an intact image.
+//! Explains why a slot doesn't begin with an intact image.
 
 ghost use Rattle.std.specs.Prelude.{◌≡◌, ◌<◌};
 ghost use Rattle.device_texts.specs.FlashOf.{IsFlashOf, flash_of};
@@ -9,7 +9,7 @@ use image_reading::{ImageError, describe};
 use sector_map::{SectorMap, Side};
 use std::alloc::AllocError;
 
-/// The bytes of a slot on a flash of these bytes. There are none if the flash has no such slot.
+/// The bytes of a slot on a flash of these bytes. They are empty if the flash has no such slot.
 fn slot_of<'f>(map: &SectorMap, flash: &'f [u8], image: u8, side: Side) -> &'f [u8]
     ensures { image < map.now.images → IsFlashOf map.now flash.now
         → result.now ≡ slot_bytes map.now (flash_of map.now flash.now) image side }
@@ -33,7 +33,7 @@ pub fn begins_intact(map: &SectorMap, flash: &[u8], image: u8, side: Side) -> bo
     )
 }
 
-/// Adds why a slot of a flash of these bytes doesn't begin with an intact image: it is erased, or a
+/// Adds why a slot on a flash of these bytes doesn't begin with an intact image: it is erased, or a
 /// check of its bytes fails.
 pub fn explain_slot(
     notes: &mut String,

@@ -1,18 +1,18 @@
-//! Which images are on trial though they were requested permanently.
+//! Explains which images are on trial though they were requested permanently.
 
 use certificate::Report;
 use common::limits::MOST_IMAGES;
 use sector_map::{SectorMap, Side, is_member};
 use std::alloc::AllocError;
 
-/// The distance of the unit `image_ok` from the end of its trailer's sector, in bytes. The unit is
+/// The distance in bytes of the unit `image_ok` from the end of its trailer's sector. The unit is
 /// set if the request is permanent.
 const IMAGE_OK: usize = 24;
 
 /// The length of a unit in bytes.
 const UNIT: usize = 8;
 
-/// Which requests of a device are permanent, as far as the run shows it.
+/// The permanent requests of a device, as far as the run shows them.
 #[derive(Clone, Copy, Default)]
 pub struct Trials {
     /// Whether the request of each image is permanent.
@@ -22,7 +22,7 @@ pub struct Trials {
 }
 
 impl Trials {
-    /// The requests on the flash of these bytes, and no trial.
+    /// The requests on the flash of these bytes. No image is on trial.
     pub fn on(map: &SectorMap, flash: &[u8]) -> Trials {
         let mut trials = Trials::default();
         for image in 0..map.images {
@@ -31,15 +31,15 @@ impl Trials {
         trials
     }
 
-    /// The image is requested, permanently or for a test.
+    /// Notes that the image is requested, permanently or for a test.
     pub fn request(&mut self, image: u8, permanent: bool) {
         if let Some(one) = self.permanent.get_mut(usize::from(image)) {
             *one = permanent;
         }
     }
 
-    /// A boot reported this, and the images that it took are permanent (`stays`) or on trial. Adds
-    /// which images are on trial though they were requested permanently.
+    /// Notes that a boot gave this report. The images that it took are permanent if `stays` is set,
+    /// else on trial. Adds which images are on trial though they were requested permanently.
     pub fn begin(
         &mut self,
         notes: &mut String,
@@ -63,7 +63,7 @@ impl Trials {
         Ok(())
     }
 
-    /// The images of a set reverted. Adds which of them were requested permanently.
+    /// Notes that the images of a set reverted. Adds which of them were requested permanently.
     pub fn revert(&mut self, notes: &mut String, set: u8) -> Result<(), AllocError> {
         for image in 0..MOST_IMAGES as u8 {
             let tried = self.tried.get(usize::from(image)).copied().unwrap_or(false);
@@ -80,7 +80,7 @@ impl Trials {
     }
 }
 
-/// Whether the request of an image is permanent on the flash of these bytes, if there is one.
+/// Whether the flash of these bytes holds a permanent request for an image.
 fn is_permanent(map: &SectorMap, flash: &[u8], image: u8) -> bool {
     if image >= map.images {
         return false;

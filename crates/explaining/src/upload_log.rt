@@ -1,4 +1,4 @@
-//! The uploads of a run, which notes on its replies are made of.
+//! Keeps the uploads of a run, for notes on its replies.
 ghost use Rattle.std.specs.Prelude.{◌<◌, IfSome, length};
 
 use crate::uploads::explain_upload;
@@ -6,14 +6,14 @@ use manifest::{Component, Manifest};
 use std::alloc::{AllocError, Global};
 use upload::UploadError;
 
-/// What a manifest says of an upload, and the bytes that arrived so far.
+/// The component of an upload's manifest, and the bytes that arrived so far.
 #[derive(Drop)]
 struct LoggedUpload {
     component: Component,
     bytes: Vec<u8>,
 }
 
-/// The uploads that manifests opened, of each image the last.
+/// The uploads that manifests opened, the last one for each image.
 #[derive(Drop)]
 pub struct UploadLog {
     alloc: Global,
@@ -29,7 +29,7 @@ impl UploadLog {
         }
     }
 
-    /// A manifest opened its uploads.
+    /// Logs that a manifest opened its uploads.
     pub fn open(&mut self, manifest: &Manifest) -> Result<(), AllocError> {
         for component in manifest.components.as_slice() {
             let upload = LoggedUpload {
@@ -44,7 +44,7 @@ impl UploadLog {
         Ok(())
     }
 
-    /// These bytes arrived for an image.
+    /// Logs that these bytes arrived for an image.
     pub fn add(&mut self, image: u8, bytes: &[u8]) -> Result<(), AllocError> {
         match self.place_of(image) {
             Some(place) => self.uploads[place].bytes.extend_from_slice(bytes),
@@ -52,7 +52,7 @@ impl UploadLog {
         }
     }
 
-    /// Whether the upload of an image is for a permanent request.
+    /// Whether the upload of an image is for a permanent request. `None` if no upload is logged.
     pub fn is_permanent(&self, image: u8) -> Option<bool> {
         let place = self.place_of(image)?;
         Some(self.uploads[place].component.permanent)
@@ -74,7 +74,7 @@ impl UploadLog {
         }
     }
 
-    /// The place of the upload of an image.
+    /// The index of the upload of an image.
     fn place_of(&self, image: u8) -> Option<usize>
         ensures { IfSome result (λ place. place < length self.now.uploads.items) }
     {

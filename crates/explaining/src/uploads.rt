@@ -1,4 +1,4 @@
-//! Why uploads are refused.
+//! Explains why uploads are refused.
 
 use diagnostics::{add_digits, explain_image};
 use manifest::{Component, Manifest};
@@ -48,7 +48,7 @@ fn explain_sizes(
     Ok(())
 }
 
-/// Adds which images have to run before the files of a manifest are accepted.
+/// Adds which images have to run before a device accepts the files of a manifest.
 fn explain_precursors(notes: &mut String, manifest: &Manifest) -> Result<(), AllocError> {
     for component in manifest.components.as_slice() {
         if let Some(precursor) = component.precursor {
@@ -61,7 +61,7 @@ fn explain_precursors(notes: &mut String, manifest: &Manifest) -> Result<(), All
     Ok(())
 }
 
-/// Adds what is wrong with the bytes of an upload for this component.
+/// Adds what is wrong with the uploaded bytes for this component.
 pub fn explain_upload(
     notes: &mut String,
     component: &Component,

@@ -88,7 +88,7 @@ loop-lines-preserved-in-Event g c =
           ));
     }
 
--- The line names a cut, and was passed over.
+-- A line `cut` brings no event, and was passed over.
 pub loop-lines-preserved : goal.loop-lines-preserved
 loop-lines-preserved g c =
     let before = c.loop-lines.invariant in
