@@ -1,7 +1,7 @@
-//! Reads device files, and prints the replies of a device and what is refused.
+//! Reads device files, and makes the texts of a device's replies and refusals.
 //!
-//! - Promises: A device file is read exactly, or refused for the reason that applies. Replies and
-//!   refusals are printed exactly; if a write fails, a prefix is.
+//! - Promises: A device file is read exactly, or refused for the reason that applies. The texts of
+//!   replies and refusals are exact. If a write fails, the writer has taken a prefix.
 //! - Main calls: `DeviceFile::read`, `reply_text`, `refused_fault_text`, `write_all`
 //! - Allocates: JSON values, the text of a reply.
 //! - Callers: any program that has read the bytes.

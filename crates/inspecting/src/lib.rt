@@ -1,4 +1,4 @@
-//! The read-only commands: `choose`, `check`, `image`, `manifest`, `show`, `slots` and `codes`.
+//! Runs the read-only commands `choose`, `check`, `image`, `manifest`, `show`, `slots` and `codes`.
 //!
 //! - Promises: Exactly the text of the answer is written, or of the refusal. If a write fails, a
 //!   prefix of the text is. A command answers `Done` only if its answer is the one for the contents
