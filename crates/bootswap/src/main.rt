@@ -2,8 +2,8 @@
 //!
 //! - Allocates: the arguments.
 //!
-//! It decides from a table which requested images run together, checks and makes images and
-//! manifests, and runs a device on a file that boots, takes uploads and survives power cuts.
+//! It decides from a table which requested images run together, and checks and makes images and
+//! manifests. It runs a device on a file that boots, takes uploads and survives power cuts.
 #![tactic(auto)]
 
 use boot_cli::{cli, note_reading};

@@ -76,9 +76,9 @@ fn is_told(asked: &[NewComponent<'_>], image: u8, reason: &Reason) -> bool {
     is_named(asked, image) && !matches!(reason, Reason::Damaged)
 }
 
-/// Adds to the notes why each boot of a device with this number of images would refuse a file, with
-/// the first reason of a report: the image needs an image that the device doesn't have, or a higher
-/// version of itself.
+/// Adds to the notes why every boot of a device with this number of images would refuse a file. The
+/// reason is the first of a report: the image needs an image that the device doesn't have, or a
+/// higher version of itself.
 pub fn write_lack(
     notes: &mut String,
     images: u8,

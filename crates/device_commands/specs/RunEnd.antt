@@ -34,7 +34,8 @@ pub record IsMadeOf (map : SectorMap) (bytes : List ℕ) (cuts : List Armed) (he
 
 -- A device of this file gave these replies to the events, one to each. Its flash had these bytes
 -- and was armed with these cuts. From each state that the device holds at the start, the replies
--- are a run of the machine of whole images, to a state that the device holds at the end.
+-- are a run of the machine of whole images. The run ends in a state that the device holds at the
+-- end.
 pub record IsPlayed (device : DeviceFile) (bytes : List ℕ) (cuts : List Armed)
     (events : List DeviceEvent) (replies : List Reply) : Type 0 where
   pub old : DeviceView

@@ -108,8 +108,8 @@ pub record BreaksText (refusal : Refusal) (setup : Setup) (old new : DeviceView)
   pub tells : TellsSome refusal setup old new came before after
   pub whole : refusal ≡ FlashFile → lines ≡ length (lines_of text)
 
--- The answer of a run of all events of a text on a device of this file, whose flash has these bytes
--- and is armed with these cuts. A writer took the replies.
+-- The answer of a run of all events of a text, whose replies a writer took. The device is of this
+-- file. Its flash has these bytes and is armed with these cuts.
 pub record PlaysText (answer : Answer) (device : DeviceFile) (bytes : List ℕ)
     (cuts : List Armed) (text : List ℕ) (buffered : List BufferedInput) (files : FileBytes)
     (old new : Option (List ℕ)) : Type 0 where
@@ -117,8 +117,8 @@ pub record PlaysText (answer : Answer) (device : DeviceFile) (bytes : List ℕ)
   pub comes : LoadsAll text buffered files came
   pub plays : Plays answer device bytes cuts came old new
 
--- What a writer took of a run of a text that ended without an answer, on a device of this file,
--- whose flash has these bytes and is armed with these cuts.
+-- What a writer took of a run of a text that ended without an answer. The device is of this file.
+-- Its flash has these bytes and is armed with these cuts.
 pub record TellsFirst (refusal : Refusal) (device : DeviceFile) (bytes : List ℕ)
     (cuts : List Armed) (text : List ℕ) (buffered : List BufferedInput) (files : FileBytes)
     (before after : Option (List ℕ)) : Type 0 where

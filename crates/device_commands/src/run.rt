@@ -53,9 +53,9 @@ struct Run<'d, 't> {
     text: &'t [u8],
 }
 
-/// Reads a device file, the flash of the device and a script from `host`, runs the script's events
-/// on the device, and writes each reply to `out` when its event is done. Each change of the flash
-/// is written to its file immediately. `notes` is called after each reply.
+/// Runs the events of a script on a device, and writes each reply to `out` when its event is done.
+/// The device file, the flash and the script are read from `host`. Each change of the flash is
+/// written to its file immediately. `notes` is called after each reply.
 ///
 /// All files are checked before the first event, and the file of the flash is locked from then on.
 /// The file that a line names is read when its event comes. So memory of `alloc` holds only the

@@ -80,8 +80,8 @@ impl DeviceFile {
     /// read. The result doesn't allocate.
     ///
     /// # Errors
-    /// `Malformed` if the value of the text isn't such an object, `Map` with the first check that
-    /// fails if its sizes make no map, `NoMemory` if memory is refused.
+    /// `Malformed` if the value of the text isn't such an object. `Map` if its sizes make no map,
+    /// with the first check that fails. `NoMemory` if memory is refused.
     pub fn read(alloc: Global, bytes: &[u8]) -> Result<DeviceFile, DeviceFault>
         ensures read { IfOk result (IsDeviceFile bytes.now) }
         ensures fault { IfErr result (IsDeviceFault bytes.now) }

@@ -29,8 +29,8 @@ pub fn refused_group_text(
     format!(in alloc; "refused {group} {code} {name}\n")
 }
 
-/// The line `refused map CODE NAME`, with the number and the name of the first check that the sizes
-/// of a device file fail, in memory of `alloc`.
+/// The line `refused map CODE NAME`, in memory of `alloc`. It has the number and the name of the
+/// first check that the sizes of a device file fail.
 ///
 /// # Errors
 /// `AllocError` if memory is refused.

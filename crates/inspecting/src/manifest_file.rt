@@ -14,8 +14,8 @@ use manifest::{Component, Identity, Manifest, ManifestError};
 use std::alloc::{AllocError, Global};
 use std::io::Write;
 
-/// Reads a device file and a manifest from `host`, and writes to `out` the contents of the
-/// manifest, or why it isn't a manifest for the device.
+/// Reads a device file and a manifest from `host`. Writes to `out` the contents of the manifest, or
+/// why it isn't one for the device.
 ///
 /// Both files and their JSON values are in memory of `alloc`. The device file is checked before the
 /// manifest is read. If its sizes make no map, that is written.

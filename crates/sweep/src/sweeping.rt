@@ -21,8 +21,8 @@ use std::marker::Brand;
 use std::sync::ledger::{Blank, Ledger};
 use version_order::Version;
 
-/// The versions that run at the end of a scenario if one event is left out, or the power fails in
-/// place of it or after it. `None` if an image is damaged.
+/// The versions that run at the end of a scenario without one of its events, or with a power
+/// failure in place of it or after it. `None` if an image is damaged.
 #[derive(Drop)]
 struct EndsBeside {
     /// The number of the event, from 0.
@@ -229,8 +229,7 @@ impl<W: Watch> Runs<'_, '_, W> {
         Ok(writes)
     }
 
-    /// Whether a run ended neither like the run without a power cut, nor like one without the event
-    /// of the first cut, nor like one in which power fails in place of that event or after it.
+    /// Whether a run had an unexpected end, as [`Found::others`] defines it.
     fn is_other(&mut self, cut: &CutNote, end: &ScenarioEnd) -> Result<bool, AllocError> {
         if let Some(uncut) = self.found.sets.first() {
             if is_same(&uncut.versions, &end.versions) {
