@@ -34,8 +34,8 @@ pub record SweepsDevice (device script : Source) (input : Option (List ℕ)) (fi
   pub says : IsScript text
       (known_after_each (device ∷ script ∷ []) (record { input = input; files = files })) [] came
 
--- The answer of `sweep`: it ran the script, or wrote why the sizes of the device file make no map.
--- In the second case the script doesn't matter.
+-- The answer of `sweep`: it read the device file and the script, or wrote why the sizes of the
+-- device file make no map. In the second case the script doesn't matter.
 abbrev pub AnswersSweep : Answer → Source → Source → Option (List ℕ) → FileBytes
     → Option (List ℕ) → Option (List ℕ) → Type 0
 AnswersSweep Done device script input files old new = SweepsDevice device script input files

@@ -103,8 +103,8 @@ pub record MakesDevice (answer : Answer) (device : Source) (names : List (List �
   pub made : EndsMade outcome of_device.map (new_flash of_device.map contents) held
   pub answered : AnswersMade answer outcome old new
 
--- The answer of `provision`: it made a device, or wrote why the sizes of the device file make no
--- map. In the second case the images don't matter.
+-- The answer of `provision`: it made a flash, which is a device's or refused; or it wrote why the
+-- sizes of the device file make no map. In the second case the images don't matter.
 abbrev pub AnswersProvision : Answer → Source → List (List ℕ) → Option (List ℕ) → FileBytes
     → Option (List ℕ) → Option (List ℕ) → Option (List ℕ) → Type 0
 AnswersProvision Done device names input files held old new =
