@@ -24,9 +24,6 @@ use Rattle.sweep.specs.Scenario.{HasVersion, RunsEvents, RunsEvent, Reboots, Run
 
 -- ---- boots
 
-pub reboots_none : (setup : Setup) (here : DeviceView) → Reboots setup here here
-reboots_none setup here = record { count = 0; replies = []; runs = runs_none setup here }
-
 pub reboots_more : (setup same : Setup) (old mid new : DeviceView) (reply : Reply) → Reboots setup old mid
     → same ≡ setup → StepsCut same mid new event.Boot reply → Reboots setup old new
 reboots_more setup same old mid new reply before is steps =

@@ -48,11 +48,21 @@ pub struct Found {
     pub sets: Vec<SetTally>,
     /// All runs.
     pub all: Tally,
-    /// The runs that ended neither like the run without a power cut, nor like one without the event
-    /// of the first cut, nor like one in which power fails in place of that event or after it.
+    /// The runs with an unexpected end. Expected are the end of the run without a power cut, and
+    /// the ends beside the first cut: without the event of the cut, and with a power failure in
+    /// place of that event or after it.
     pub others: Tally,
     /// The runs in which a boot was refused.
     pub refused: Tally,
+}
+
+/// The writes of an event.
+#[derive(Clone, Copy)]
+pub(crate) struct EventWrites<'f> {
+    /// The number of writes before the event.
+    pub before: u32,
+    /// The mark of each write.
+    pub marks: &'f [Mark],
 }
 
 impl Mark {
@@ -91,26 +101,21 @@ impl Tally {
 }
 
 impl Found {
-    /// Whether no boot was refused, and each run ended as expected: like the run without a power
-    /// cut, like one without the event of the first cut, or like one in which power fails in place
-    /// of that event or after it.
+    /// Whether no boot was refused, and no run had an unexpected end, as `others` defines it.
     pub fn is_good(&self) -> bool {
         self.others.runs == 0 && self.refused.runs == 0
     }
 
-    /// The number of writes before this event. Events are counted from 0.
-    pub(crate) fn writes_before(&self, event: usize) -> u32 {
-        match event.checked_sub(1) {
+    /// The writes of this event. Events are counted from 0.
+    pub(crate) fn writes_of(&self, event: usize) -> EventWrites<'_> {
+        let before = match event.checked_sub(1) {
             Some(last) => self.writes.get(last).copied().unwrap_or(0),
             None => 0,
-        }
-    }
-
-    /// The marks of the writes of this event. Events are counted from 0.
-    pub(crate) fn marks_of(&self, event: usize) -> Option<&[Mark]> {
-        let before = self.writes_before(event);
+        };
         let end = self.writes.get(event).copied().unwrap_or(before);
-        self.marks.get(before as usize..end as usize)
+        let marks = self.marks.get(before as usize..end as usize);
+        let marks = marks.unwrap_or(&[]);
+        EventWrites { before, marks }
     }
 
     /// Counts a run with these cuts and this end.

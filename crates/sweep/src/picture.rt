@@ -1,6 +1,6 @@
 //! Draws a sweep: a row for each event, with a square for each write.
 
-use crate::found::{Found, Mark};
+use crate::found::{EventWrites, Found, Mark};
 use crate::notes::BootOutcome;
 use crate::scenario::Scenario;
 use crate::text::write_event;
@@ -37,17 +37,20 @@ pub fn picture_of(
     scenario: &Scenario<'_>,
     found: &Found,
 ) -> Result<String, AllocError> {
-    let mut text = String::new(alloc);
     let width = width_of(&found.writes);
     let rows = scenario.events.len() as u64;
     let height = height_of(rows.saturating_add(MARKS.len() as u64 + 1));
+    let mut text = String::new(alloc);
     writeln!(
         text,
         "<svg xmlns=\"http://www.w3.org/2000/svg\" width=\"{width}\" height=\"{height}\" \
          font-family=\"sans-serif\" font-size=\"12\">\n\
          <rect width=\"100%\" height=\"100%\" fill=\"white\"/>"
     )?;
-    draw_events(&mut text, scenario.events, found)?;
+    for (row, event) in scenario.events.iter().enumerate() {
+        draw_event(&mut text, row, event)?;
+        draw_writes(&mut text, row, found.writes_of(row))?;
+    }
     draw_legend(&mut text, rows.saturating_add(1))?;
     text.push_str("</svg>\n")?;
     Ok(text)
@@ -71,31 +74,20 @@ fn height_of(row: u64) -> u64 {
     row.saturating_mul(ROW).saturating_add(ROW / 2)
 }
 
-/// Draws the rows of the events.
-fn draw_events(
-    text: &mut String,
-    events: &[Event<Vec<u8>>],
-    found: &Found,
-) -> Result<(), AllocError> {
-    for (place, event) in events.iter().enumerate() {
-        let number = place.saturating_add(1);
-        let top = height_of(place as u64);
-        let base = top.saturating_add(13);
-        write!(text, "<text x=\"8\" y=\"{base}\">{number} ")?;
-        write_event(text, event)?;
-        text.push_str("</text>\n")?;
-        if let Some(marks) = found.marks_of(place) {
-            draw_writes(text, marks, found.writes_before(place), top)?;
-        }
-    }
-    Ok(())
+/// Draws the event of a row.
+fn draw_event(text: &mut String, row: usize, event: &Event<Vec<u8>>) -> Result<(), AllocError> {
+    let base = height_of(row as u64).saturating_add(13);
+    write!(text, "<text x=\"8\" y=\"{base}\">")?;
+    write_event(text, row, event)?;
+    text.push_str("</text>\n")
 }
 
-/// Draws a square for each write of an event, after the `before` writes of earlier events.
-fn draw_writes(text: &mut String, marks: &[Mark], before: u32, top: u64) -> Result<(), AllocError> {
+/// Draws a square for each write of the event of a row.
+fn draw_writes(text: &mut String, row: usize, writes: EventWrites<'_>) -> Result<(), AllocError> {
+    let top = height_of(row as u64);
     let mut left = LEFT;
-    let mut write = u64::from(before);
-    for mark in marks {
+    let mut write = u64::from(writes.before);
+    for mark in writes.marks {
         write = write.saturating_add(1);
         draw_square(text, *mark, left, top)?;
         let name = name_of(*mark);

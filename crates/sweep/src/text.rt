@@ -1,6 +1,6 @@
 //! Prints the findings of a sweep.
 
-use crate::found::{Found, Mark, SetTally, Tally};
+use crate::found::{EventWrites, Found, Mark, SetTally, Tally};
 use crate::notes::BootOutcome;
 use crate::scenario::Scenario;
 use common::event::Event;
@@ -18,7 +18,11 @@ pub fn found_text(
     found: &Found,
 ) -> Result<String, AllocError> {
     let mut text = String::new(alloc);
-    write_events(&mut text, scenario.events, found)?;
+    for (place, event) in scenario.events.iter().enumerate() {
+        write_event(&mut text, place, event)?;
+        write_marks(&mut text, found.writes_of(place))?;
+        text.push_str("\n")?;
+    }
     let runs = found.all.runs;
     writeln!(text, "runs {runs}")?;
     write_sets(&mut text, &found.sets)?;
@@ -27,26 +31,15 @@ pub fn found_text(
     Ok(text)
 }
 
-/// Adds a line for each event.
-fn write_events(
+/// Adds the number of an event, from 1, and the event as the line of a script, without its files.
+/// `place` is the index of the event, from 0.
+pub(crate) fn write_event(
     text: &mut String,
-    events: &[Event<Vec<u8>>],
-    found: &Found,
+    place: usize,
+    event: &Event<Vec<u8>>,
 ) -> Result<(), AllocError> {
-    for (place, event) in events.iter().enumerate() {
-        let number = place.saturating_add(1);
-        write!(text, "{number} ")?;
-        write_event(text, event)?;
-        if let Some(marks) = found.marks_of(place) {
-            write_marks(text, marks, found.writes_before(place))?;
-        }
-        text.push_str("\n")?;
-    }
-    Ok(())
-}
-
-/// Adds an event as the line of a script, without its files.
-pub(crate) fn write_event(text: &mut String, event: &Event<Vec<u8>>) -> Result<(), AllocError> {
+    let number = place.saturating_add(1);
+    write!(text, "{number} ")?;
     let (word, image) = match event {
         Event::Accept(_) => return text.push_str("accept"),
         Event::Piece(image, _) => ("piece", *image),
@@ -60,14 +53,13 @@ pub(crate) fn write_event(text: &mut String, event: &Event<Vec<u8>>) -> Result<(
 }
 
 /// Adds the number of the first write of an event and a character for each write, if it has writes.
-/// The events before it made `before` writes.
-fn write_marks(text: &mut String, marks: &[Mark], before: u32) -> Result<(), AllocError> {
-    if marks.is_empty() {
+fn write_marks(text: &mut String, writes: EventWrites<'_>) -> Result<(), AllocError> {
+    if writes.marks.is_empty() {
         return Ok(());
     }
-    let first = before.saturating_add(1);
+    let first = writes.before.saturating_add(1);
     write!(text, " from {first} ")?;
-    for mark in marks {
+    for mark in writes.marks {
         text.push_str(character_of(*mark))?;
     }
     Ok(())
