@@ -1,34 +1,31 @@
 //! Explains answers that are a no or a refusal.
 
 use crate::choices::explain_verdict;
+use crate::ended::Ended;
 use crate::faults::explain_no_state;
 use crate::flash_states::{FlashState, flash_state};
 use crate::images::{explain_bytes, explain_damaged, explain_files};
 use crate::new_files::{explain_new_device, explain_new_image, explain_new_manifest};
-use crate::order_sources::OrderSources;
-use crate::remembering::Remembering;
 use crate::slots::explain_slot;
 use command_line::{DeviceOrder, Order, ReadOrder};
 use device_texts::{DeviceFault, DeviceFile};
 use diagnostics::{explain_manifest, explain_map, explain_running};
 use host::Host;
-use std::alloc::{AllocError, Global};
+use std::alloc::AllocError;
 
 /// Adds why the answer to an order is a no or a refusal.
 pub fn explain_answer<H: Host>(
-    alloc: Global,
     notes: &mut String,
-    order: &Order<'_>,
-    host: &Remembering<H>,
+    ended: &Ended<'_, '_, '_, H>,
 ) -> Result<(), AllocError> {
-    let sources = OrderSources::of(order);
-    let device = host.bytes_of(sources.device);
+    let (alloc, host, sources) = (ended.alloc, ended.host, ended.sources());
+    let device = ended.device_bytes();
     if sources.device.is_some()
         && let Err(DeviceFault::Map(fault)) = DeviceFile::read(alloc, device)
     {
         return explain_map(notes, alloc, device, fault);
     }
-    match order {
+    match ended.order {
         Order::Read(ReadOrder::Check { .. }) => explain_verdict(notes, sources, host),
         Order::Read(ReadOrder::Image { .. }) => {
             explain_bytes(notes, host.bytes_of(sources.described))
@@ -39,7 +36,7 @@ pub fn explain_answer<H: Host>(
             explain_files(notes, images.as_slice(), host)
         }
         _ => match DeviceFile::read(alloc, device) {
-            Ok(device) => explain_device_answer(alloc, notes, order, &device, host),
+            Ok(device) => explain_device_answer(notes, ended, &device),
             Err(_) => Ok(()),
         },
     }
@@ -47,17 +44,15 @@ pub fn explain_answer<H: Host>(
 
 /// Adds why the answer to an order about a device and its flash is a refusal.
 fn explain_device_answer<H: Host>(
-    alloc: Global,
     notes: &mut String,
-    order: &Order<'_>,
+    ended: &Ended<'_, '_, '_, H>,
     device: &DeviceFile,
-    host: &Remembering<H>,
 ) -> Result<(), AllocError> {
-    let sources = OrderSources::of(order);
-    let (map, flash) = (&device.map, host.bytes_of(sources.flash));
-    match order {
+    let (alloc, sources) = (ended.alloc, ended.sources());
+    let (map, flash) = (&device.map, ended.host.bytes_of(sources.flash));
+    match ended.order {
         Order::Read(ReadOrder::Manifest { .. }) => {
-            let manifest = host.bytes_of(sources.described);
+            let manifest = ended.host.bytes_of(sources.described);
             explain_manifest(notes, alloc, manifest, &device.identity)
         }
         Order::MakeManifest { manifest, .. } => {

@@ -1,5 +1,6 @@
 //! Explains why a decision refuses requests, and why a report isn't right.
 
+use crate::ended::Ended;
 use crate::flash_states::{FlashState, flash_state};
 use crate::order_sources::OrderSources;
 use crate::remembering::Remembering;
@@ -9,20 +10,18 @@ use command_line::{Order, ReadOrder};
 use device_texts::DeviceFile;
 use diagnostics::{explain_no, explain_refusals};
 use host::Host;
-use std::alloc::{AllocError, Global};
+use std::alloc::AllocError;
 
 /// Adds why the printed decision refuses each request. It is a decision over a table, or over the
 /// table of a flash.
 pub fn explain_choice<H: Host>(
-    alloc: Global,
     notes: &mut String,
-    order: &Order<'_>,
-    host: &Remembering<H>,
+    ended: &Ended<'_, '_, '_, H>,
 ) -> Result<(), AllocError> {
-    let sources = OrderSources::of(order);
-    let table = match order {
+    let (host, sources) = (ended.host, ended.sources());
+    let table = match ended.order {
         Order::Read(ReadOrder::Choose { .. }) => Table::parse(host.bytes_of(sources.table)).ok(),
-        Order::Read(ReadOrder::Slots { .. }) => table_of_flash(alloc, sources, host)?,
+        Order::Read(ReadOrder::Slots { .. }) => table_of_flash(ended)?,
         _ => None,
     };
     match table {
@@ -32,15 +31,12 @@ pub fn explain_choice<H: Host>(
 }
 
 /// The table of the flash that was read. `None` if its device isn't at rest.
-fn table_of_flash<H: Host>(
-    alloc: Global,
-    sources: OrderSources<'_>,
-    host: &Remembering<H>,
-) -> Result<Option<Table>, AllocError> {
-    let Ok(device) = DeviceFile::read(alloc, host.bytes_of(sources.device)) else {
+fn table_of_flash<H: Host>(ended: &Ended<'_, '_, '_, H>) -> Result<Option<Table>, AllocError> {
+    let Ok(device) = DeviceFile::read(ended.alloc, ended.device_bytes()) else {
         return Ok(None);
     };
-    match flash_state(alloc, &device.map, host.bytes_of(sources.flash))? {
+    let flash = ended.host.bytes_of(ended.sources().flash);
+    match flash_state(ended.alloc, &device.map, flash)? {
         FlashState::AtRest(table) => Ok(Some(table)),
         _ => Ok(None),
     }

@@ -2,8 +2,9 @@
 
 use crate::answers::explain_answer;
 use crate::choices::explain_choice;
+use crate::ended::Ended;
 use crate::files::{explain_flash, explain_lock, explain_source};
-use crate::order_sources::{OrderSources, flash_name, image_name};
+use crate::order_sources::{flash_name, image_name};
 use crate::remembering::Remembering;
 use crate::scripts::explain_line;
 use crate::sizes::explain_size;
@@ -29,12 +30,13 @@ pub fn explain_end<H: Host, E: Write>(
         return;
     }
     let mut notes = String::new(alloc);
+    let ended = Ended { alloc, order, host };
     // If memory runs out, the notes so far are written.
     let _ = match outcome {
-        Ok(Answer::Done) => explain_choice(alloc, &mut notes, order, host),
-        Ok(Answer::Refused) => explain_answer(alloc, &mut notes, order, host),
+        Ok(Answer::Done) => explain_choice(&mut notes, &ended),
+        Ok(Answer::Refused) => explain_answer(&mut notes, &ended),
         Ok(Answer::Cut) => Ok(()),
-        Err(refusal) => explain_refusal(alloc, &mut notes, order, refusal, host),
+        Err(refusal) => explain_refusal(&mut notes, &ended, refusal),
     };
     // The notes are no part of the answer, so a failed write changes nothing.
     let _ = err.write_all(notes.as_bytes());
@@ -43,13 +45,11 @@ pub fn explain_end<H: Host, E: Write>(
 
 /// Adds why a command refuses an order.
 fn explain_refusal<H: Host>(
-    alloc: Global,
     notes: &mut String,
-    order: &Order<'_>,
+    ended: &Ended<'_, '_, '_, H>,
     refusal: &Refusal,
-    host: &Remembering<H>,
 ) -> Result<(), AllocError> {
-    let sources = OrderSources::of(order);
+    let (order, host, sources) = (ended.order, ended.host, ended.sources());
     match *refusal {
         Refusal::TableLine(number) => {
             explain_table_line(notes, host.bytes_of(sources.table), number)
@@ -61,14 +61,14 @@ fn explain_refusal<H: Host>(
             Ok(table) => explain_running(notes, &table),
             Err(_) => Ok(()),
         },
-        Refusal::DeviceFile => explain_device(notes, alloc, host.bytes_of(sources.device)),
+        Refusal::DeviceFile => explain_device(notes, ended.alloc, ended.device_bytes()),
         Refusal::ScriptLine(number) => explain_line(notes, order, number, host),
         Refusal::OfSource(ref refused) => explain_source(notes, order, refused, host),
         Refusal::FlashFile => explain_flash(notes, order, host),
         Refusal::FlashInUse => explain_lock(notes, flash_name(order)),
         Refusal::ImageInUse => explain_lock(notes, image_name(order)),
         Refusal::FlashSize | Refusal::ImageCount | Refusal::NoImage(_) | Refusal::ImageTooBig(_) =>
-            explain_size(alloc, notes, order, refusal, host),
+            explain_size(notes, ended, refusal),
         _ => Ok(()),
     }
 }

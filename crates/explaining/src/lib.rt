@@ -17,6 +17,7 @@
 
 mod answers;
 mod choices;
+mod ended;
 mod ends;
 mod faults;
 mod files;

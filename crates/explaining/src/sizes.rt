@@ -1,28 +1,24 @@
 //! Explains which sizes and counts a device file requires.
 
-use crate::order_sources::{OrderSources, flash_name};
-use crate::remembering::Remembering;
-use command_line::Order;
+use crate::ended::Ended;
+use crate::order_sources::flash_name;
 use device_texts::DeviceFile;
 use host::{Host, Refusal, Source};
-use std::alloc::{AllocError, Global};
+use std::alloc::AllocError;
 
 /// Adds the size or the count that the device file requires. Adds the length of the flash if that
 /// is wrong.
 pub fn explain_size<H: Host>(
-    alloc: Global,
     notes: &mut String,
-    order: &Order<'_>,
+    ended: &Ended<'_, '_, '_, H>,
     refusal: &Refusal,
-    host: &Remembering<H>,
 ) -> Result<(), AllocError> {
-    let device = host.bytes_of(OrderSources::of(order).device);
-    let Ok(device) = DeviceFile::read(alloc, device) else {
+    let Ok(device) = DeviceFile::read(ended.alloc, ended.device_bytes()) else {
         return Ok(());
     };
     let map = device.map;
     match *refusal {
-        Refusal::FlashSize => explain_flash_size(notes, order, map.bytes_in_all(), host),
+        Refusal::FlashSize => explain_flash_size(notes, ended, map.bytes_in_all()),
         Refusal::ImageTooBig(image) if image < map.images => {
             let bytes = map.slot_length(image);
             writeln!(notes, "note: the slot of image {image} has {bytes} bytes")
@@ -38,11 +34,11 @@ pub fn explain_size<H: Host>(
 /// to have, in bytes. At most `wanted` + 1 bytes of standard input are read.
 fn explain_flash_size<H: Host>(
     notes: &mut String,
-    order: &Order<'_>,
+    ended: &Ended<'_, '_, '_, H>,
     wanted: u32,
-    host: &Remembering<H>,
 ) -> Result<(), AllocError> {
-    let Some(name) = flash_name(order) else {
+    let host = ended.host;
+    let Some(name) = flash_name(ended.order) else {
         return Ok(());
     };
     let source = Source::named(name);
