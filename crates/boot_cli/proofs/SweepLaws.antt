@@ -1,5 +1,5 @@
 -- The result of a sweep from what it read in turn, and the files that it keeps.
-use Rattle.std.proofs.Common.{◌≡◌, ◌⊎◌, ◌≤◌, ℕ, Bool, List, [], ◌∷◌, None, Option, Some, arith, inl, inr, length, subst, sym}
+use Rattle.std.proofs.Common.{◌≡◌, ◌⊎◌, ◌≤◌, ℕ, Bool, List, [], ◌∷◌, None, Option, Some, arith, inl, inr, subst, sym}
 use Rattle.common.specs.Lines.{lines_of}
 use Rattle.script.specs.LineText.{IsLineText}
 use Rattle.script.specs.Said.{Said, said}
@@ -7,7 +7,7 @@ use Rattle.script.specs.declared.line.Line.{Line}
 use Rattle.script.proofs.LineLaws.{one_line}
 use Rattle.inputs.specs.Loading.{IsNextLine}
 use Rattle.inputs.specs.declared.lines.Lines.{Lines}
-use Rattle.std.specs.Prelude.{IfSome, IsSomeAnd}
+use Rattle.std.specs.Prelude.{IsSomeAnd}
 use Rattle.std.specs.Borrow.{Bor}
 use Rattle.host.specs.declared.answer.Answer.{Answer}
 use Rattle.host.specs.declared.answer.Answer.TheVariants.{Done, Refused, Cut}
@@ -18,10 +18,10 @@ use Rattle.inputs.specs.DeviceInput.{GivesDevice}
 use Rattle.host.specs.declared.source.Source.TheVariants.{StandardInput, File}
 use Rattle.host.specs.Doings.{KeepsSource}
 use Rattle.host.specs.Input.{FileBytes, Gives, IsKnownAs, KeepsFiles, KeepsOthers}
-use Rattle.boot_cli.specs.SweepEnd.{AnswersSweep, IsNamedBy, IsNamedIn, IsNoInput, IsOther, KeepsBesides, KeepsInputs, KeepsRead, LineNames, SaysFile, SomeNames, SweepsDevice}
+use Rattle.boot_cli.specs.SweepEnd.{AnswersSweep, IsNamedBy, IsNamedIn, IsOther, KeepsInputs, KeepsRead, LineNames, SaysFile, SomeNames, SweepsDevice}
 use Rattle.inputs.specs.Script.{IsScript, Known, StaysKnown, known_after}
 use Rattle.host.specs.Status.{status_of_answer}
-use Rattle.host.proofs.InputLaws.{IsKnownAs-kept, GiveEach-one, GiveEach-read, KeepsFiles-twice, KeepsSource-apart, KeepsSource-kept, kept_twice}
+use Rattle.host.proofs.InputLaws.{IsKnownAs-kept, GiveEach-one, GiveEach-read, KeepsFiles-twice, KeepsSource-kept, kept_twice}
 use Rattle.inputs.proofs.ScriptLaws.{StaysKnown-itself, StaysKnown-read}
 
 AnswersSweep-swept : (answer : Answer) (device script : Source) (input : Option (List ℕ)) (file : FileBytes)
@@ -66,23 +66,6 @@ inputs_kept device script images IsNamed picture old new kept = record {
   images_kept = λ place word at differs. kept word.now;
   named_kept = λ name named. kept name;
   all_kept = λ none. kept;
-}
-
--- If then the picture was replaced, which is apart from the inputs, they were still kept.
-pub inputs_besides : (device script : Source) (images : List (Bor (List ℕ))) (text : List ℕ)
-    (picture : Option (Bor (List ℕ))) (apart : List ℕ → List ℕ → Bool) (old mid new : FileBytes) → KeepsFiles old mid
-    → IfSome picture (λ name. IsNoInput apart name.now device script images text)
-    → KeepsBesides picture apart mid new → KeepsRead device script images (IsNamedBy text) picture old new
-inputs_besides device script images text None apart old mid new kept others after =
-    inputs_kept device script images (IsNamedBy text) None old new (KeepsFiles-twice old mid new kept after)
-inputs_besides device script images text (Some name) apart old mid new kept others after = record {
-  device_kept = KeepsSource-apart device name.now apart old mid new kept others.not_device after;
-  script_kept = KeepsSource-apart script name.now apart old mid new kept others.not_script after;
-  images_kept = λ place word at differs. kept_twice (old word.now) (mid word.now) (new word.now) (kept word.now)
-      (after word.now (others.no_image place word at differs));
-  named_kept = λ other named. kept_twice (old other) (mid other) (new other) (kept other)
-      (after other (others.not_named other named));
-  all_kept = λ none. absurd (cc none);
 }
 
 source_later : (source : Source) (old mid new : FileBytes) → KeepsFiles old mid → KeepsSource source mid new
@@ -154,15 +137,3 @@ pub apart_more : (apart : List ℕ → List ℕ → Bool) (picture text : List �
     → AreApartBefore apart picture text old.rest.now → AreApartBefore apart picture text new.rest.now
 apart_more apart picture text old new line next others before name named =
     apart_on apart picture old new line next others name (before name named)
-
-apart_now : (apart : List ℕ → List ℕ → Bool) (picture name : List ℕ)
-    → IsOther apart picture name ⊎ IsNamedBy [] name → IsOther apart picture name
-apart_now apart picture name (inl is) = is
-apart_now apart picture name (inr named) = absurd named
-
--- After the last line, each file that the text names is apart.
-pub apart_all : (apart : List ℕ → List ℕ → Bool) (picture text rest : List ℕ) → length rest ≡ 0
-    → AreApartBefore apart picture text rest
-    → (name : List ℕ) → IsNamedBy text name → IsOther apart picture name
-apart_all apart picture text [] none before name named = apart_now apart picture name (before name named)
-apart_all apart picture text (byte ∷ rest) none before name named = absurd (cc none)
