@@ -1,4 +1,4 @@
--- The slot that an image is laid into.
+-- Laws of the slot that an image is put into.
 use Rattle.std.proofs.Common.{◌≡◌, ◌+◌, ◌*◌, ◌^◌, ◌<◌, ◌∙◌, [], ◌∷◌, length, take, ap, arith}
 use Rattle.std.specs.List.{slice_range}
 use Rattle.flash_model.specs.Chip.{Chip}

@@ -1,4 +1,4 @@
--- The length that a description names.
+-- Laws of the length in a description.
 use Rattle.std.proofs.Common.{◌≡◌, ◌+◌, ◌≤◌, ◌∙◌, ℕ, List, [], ◌++◌, length, ap, arith, rules}
 use Rattle.std.proofs.lemmas.List.{length-append}
 use Rattle.image_reading.specs.declared.desc.Desc.{Desc}
@@ -11,7 +11,7 @@ length-intact bytes description intact =
     let described = intact.2.length_of in
     search rules
 
--- What begins with an intact image is as long at least.
+-- A slot that begins with an intact image has at least its length.
 pub length-begins : (slot : List ℕ) (description : Desc) → BeginsIntact slot description → description.length ≤ length slot
 length-begins slot description (front, rest, parts, intact) =
     let long : length slot ≡ length front + length rest = ap length parts ∙ length-append front rest in

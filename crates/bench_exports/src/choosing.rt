@@ -1,4 +1,4 @@
-//! Tables: which requests are taken, and whether a report is right.
+//! The calls for tables and reports: a choice, and the check of one.
 
 ghost use Rattle.std.specs.Prelude.{◌≡◌, ◌↔◌, ◌<◌, ◌≤◌, ◌^◌, IsTrue, length};
 ghost use Rattle.bench_exports.specs.Answers.{IsChooseAnswer, IsRightText, taken_mask};
@@ -7,16 +7,17 @@ use certificate::{Report, ReportedImage, Table, check, is_valid};
 use chooser::choose;
 use common::limits::MOST_IMAGES;
 
-/// The answer to a text that is no table.
+/// The result for a text that isn't a table.
 const NO_TABLE: u64 = 1 << 63;
 
-/// The answer to a table whose running images don't fit each other.
+/// The result for a table whose running images don't fit each other.
 const NOT_VALID: u64 = (1 << 63) + 1;
 
-/// The choice among the requests of the table that a text spells: in the lowest eight bits, from
-/// the lowest on, which images' requests are taken, and above them the number of refusals; below
-/// 2^12. It is 2^63 where the text spells no table, and 2^63 + 1 where the running images don't fit
-/// each other. Does not allocate.
+/// Chooses among the requests of a table, which is a text in the format of docs/FORMATS.md.
+///
+/// Returns a number below 2^12: bit j, from 0 to 7, is 1 if the request of image j is taken, and
+/// the bits above count the refusals. Returns 2^63 if the text isn't a table, and 2^63 + 1 if the
+/// running images don't fit each other. Doesn't allocate.
 #[unsafe(no_mangle)]
 pub extern "C" fn bench_choose(text: &[u8]) -> u64
     ensures { IsChooseAnswer text.now result }
@@ -33,8 +34,9 @@ pub extern "C" fn bench_choose(text: &[u8]) -> u64
     taken_mask(&report.images) + 256 * report.refusals.len() as u64
 }
 
-/// Whether the texts spell a table and a report that is right for it; no also where either spells
-/// nothing. Does not allocate.
+/// Checks whether `report` is the text of a report that is right for the table in the text `table`.
+///
+/// Returns false if either text is malformed. Doesn't allocate.
 #[unsafe(no_mangle)]
 pub extern "C" fn bench_check(table: &[u8], report: &[u8]) -> bool
     ensures { IsTrue result ↔ IsRightText table.now report.now }
@@ -45,7 +47,7 @@ pub extern "C" fn bench_check(table: &[u8], report: &[u8]) -> bool
     }
 }
 
-// The number whose bit j says whether the request of the j-th of these images is taken.
+// The number whose bit j is 1 if the request of image j is taken. Images are numbered from 0.
 fn taken_mask(images: &[ReportedImage]) -> u64
     requires { length images.now ≤ MOST_IMAGES }
     ensures mask { result ≡ taken_mask images.now }

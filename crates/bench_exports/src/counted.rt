@@ -1,8 +1,8 @@
-//! A flash that counts what is read of it.
+//! A flash that counts the bytes that are read.
 
 use flash_model::{Flash, Result};
 
-/// A flash that tells how many bytes were read of it. The count stops at 2^64 - 1.
+/// A flash over another one that counts the bytes that are read, up to 2^64 - 1.
 #[derive(Drop)]
 pub(crate) struct Counted<F> {
     pub(crate) flash: F,
@@ -41,7 +41,7 @@ impl<F: Flash> Flash for Counted<F> {
         ensures erases { OnOk result
             ((F.chip self.new.flash).erases ≡ (F.chip self.old.flash).erases) }
         ensures ends { Ends result (F.chip self.old.flash) (F.chip self.new.flash) }
-        // Each byte that is asked for is counted.
+        // Each requested byte is counted, also if the read fails.
         ensures counted { self.new.read ≡ min (self.old.read + length out.old) (2 ^ 64 - 1) }
     {
         self.read = self.read.saturating_add(out.len() as u64);

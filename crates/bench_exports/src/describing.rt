@@ -1,4 +1,4 @@
-//! Images: what bytes are described by, and their digest.
+//! The calls for the bytes of an image: its description, and its digest.
 
 ghost use Rattle.std.specs.Prelude.{◌≡◌};
 ghost use Rattle.byteorder.specs.Endian.{big_number};
@@ -11,16 +11,18 @@ use byteorder::{BigEndian, ByteOrder};
 use image_reading::describe;
 use sha2::{Digest, Sha256};
 
-/// The answer above which a refusal has the number of its check.
+/// What a refusal adds to the number of its check.
 const REFUSED: u64 = 1 << 63;
 
-/// Whether bytes are an intact image: its length in bytes, which is below 2^63, where they are one,
-/// else 2^63 and the number, 1 to 15, of the first check that fails. Does not allocate.
+/// Checks whether bytes are an intact image.
+///
+/// Returns its length in bytes, which is below 2^63; or 2^63 plus the number, 1 to 15, of the first
+/// check that fails. Doesn't allocate.
 #[unsafe(no_mangle)]
 pub extern "C" fn bench_describe(bytes: &[u8]) -> u64
-    // What the answer says of the bytes.
+    // What the result says of the bytes.
     ensures answer { IsDescribeAnswer bytes.now result }
-    // Each intact image is answered by its length.
+    // For each intact image the result is its length.
     ensures only { (description : Desc) → IsIntact bytes.now description
         → result ≡ description.length }
 {
@@ -31,8 +33,8 @@ pub extern "C" fn bench_describe(bytes: &[u8]) -> u64
     }
 }
 
-/// The first eight bytes of the SHA-256 of bytes, as a number, the highest byte first. Does not
-/// allocate.
+/// Returns the first eight bytes of the SHA-256 of bytes (FIPS 180-4), as a big-endian number.
+/// Doesn't allocate.
 #[unsafe(no_mangle)]
 pub extern "C" fn bench_digest(bytes: &[u8]) -> u64
     ensures { result ≡ big_number 8 (sha256 bytes.now) }

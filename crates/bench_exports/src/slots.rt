@@ -1,5 +1,5 @@
-//! Slots: what an image in a slot of a flash in memory is described by, and how many bytes are read
-//! for it.
+//! The calls for a slot of a flash in memory: the description of its image, and the number of bytes
+//! that this reads.
 
 ghost use Rattle.std.specs.Prelude.{◌≡◌, ◌≤◌, length, vec_len, IfOk, IfSome, true};
 ghost use Rattle.flash_model.specs.Memory.{chip_of};
@@ -19,29 +19,31 @@ use std::sync::ledger::{Blank, Ledger};
 /// The length in bytes of a sector of the flash.
 const SECTOR_SIZE: u32 = 131_072;
 
-/// How many sectors the slot has: room for an image of a megabyte.
+/// The number of sectors of the slot, enough for an image of 1 MiB.
 const SLOT_SECTORS: u32 = 9;
 
 /// The length of the slot in bytes.
 const SLOT_LENGTH: usize = 1_179_648;
 
-/// The length of the flash in bytes: two slots, each with a trailer, scratch, and three sectors of
+/// The length of the flash in bytes: two slots with a trailer each, scratch, and three sectors of
 /// the log.
 const FLASH_LENGTH: usize = 3_145_728;
 
-/// The answer where no slot was described.
+/// The result if no slot was described.
 const NO_SLOT: u64 = 1 << 63;
 
-/// The answer above which a refusal has the number of its check.
+/// What a refusal adds to the number of its check.
 const REFUSED: u64 = 1 << 63;
 
-/// What a slot of 1179648 bytes is described by that begins with these bytes and is erased behind
-/// them: the length of the image that it begins with, which is below 2^63, or 2^63 and the number
-/// of the first check that fails. It is 2^63 where the bytes don't fit the slot, or where memory
-/// for the flash, twice 3 MiB at most, is refused.
+/// Describes the image at the front of a slot of 1179648 bytes. The slot begins with `bytes`, and
+/// the bytes after them are erased.
 ///
-/// The flash is made once, and the slot is described `again` times more, so that a time without the
-/// flash's making is that of some calls less that of none more.
+/// Returns the length of the image in bytes, which is below 2^63; or 2^63 plus the number of the
+/// first check that fails. Returns 2^63 if the bytes don't fit in the slot, or if memory for the
+/// flash, at most twice 3 MiB, is refused.
+///
+/// The flash is made once, and the slot is described `again` + 1 times. So the bench gets the time
+/// of `again` descriptions without the making: it subtracts the time of a call with `again` 0.
 #[unsafe(no_mangle)]
 pub extern "C" fn bench_describe_slot(alloc: Global, bytes: &[u8], again: u32) -> u64
     ensures { IsSlotAnswer bytes.now result }
@@ -49,9 +51,11 @@ pub extern "C" fn bench_describe_slot(alloc: Global, bytes: &[u8], again: u32) -
     slot_answer::<Brand>(alloc, Blank::new(2), bytes, again)
 }
 
-/// How many bytes of the flash are read to describe that slot once; 2^63 where no slot was
-/// described. What it answers is tested: a contract of `describe_slot` speaks of what is answered,
-/// and not of how often it reads.
+/// Returns the number of bytes of the flash that one description of this slot reads, or 2^63 if no
+/// slot was described.
+///
+/// This number is tested and not proved: the contract of `describe_slot` says what it returns, not
+/// how much it reads.
 #[unsafe(no_mangle)]
 pub extern "C" fn bench_slot_reads(alloc: Global, bytes: &[u8]) -> u64 {
     bytes_read::<Brand>(alloc, Blank::new(2), bytes)
@@ -82,8 +86,8 @@ fn bytes_read<L: Ledger>(alloc: Global, blank: Blank, bytes: &[u8]) -> u64
     counted.read
 }
 
-// A flash whose first slot begins with these bytes, and which is erased behind them; none where
-// they don't fit the slot or memory is refused.
+// A flash whose first slot begins with these bytes. All bytes after them are erased. `None` if they
+// don't fit in the slot, or if memory is refused.
 fn device<L: Ledger>(alloc: Global, blank: Blank, bytes: &[u8]) -> Option<(SectorMap, MemFlash<L>)>
     requires name { blank.name ≡ L.name }
     requires parts { blank.parts ≡ L.parts }
@@ -111,7 +115,7 @@ fn device<L: Ledger>(alloc: Global, blank: Blank, bytes: &[u8]) -> Option<(Secto
     }
 }
 
-// The bytes of the flash.
+// The bytes of the flash: these, then erased ones.
 fn erased_behind(alloc: Global, bytes: &[u8]) -> Result<Vec<u8>, AllocError>
     requires { length bytes.now ≤ 1179648 }
     ensures contents { IfOk result (λ contents. contents.items ≡ flash_of bytes.now) }
@@ -124,7 +128,7 @@ fn erased_behind(alloc: Global, bytes: &[u8]) -> Result<Vec<u8>, AllocError>
     Ok(contents)
 }
 
-// What the first slot of a flash that is on is described by.
+// Describes the first slot of a flash with power.
 fn front_answer<F: Flash>(flash: &mut F, map: &SectorMap) -> u64
     requires laid_out { IsLaidOut map.now (F.chip flash.old) }
     requires one { map.now.images ≡ 1 }
@@ -139,7 +143,7 @@ fn front_answer<F: Flash>(flash: &mut F, map: &SectorMap) -> u64
     }
 }
 
-// The same, which is asked for so many times more.
+// The same, `again` + 1 times.
 fn last_answer<F: Flash>(flash: &mut F, map: &SectorMap, again: u32) -> u64
     requires laid_out { IsLaidOut map.now (F.chip flash.old) }
     requires one { map.now.images ≡ 1 }

@@ -1,4 +1,4 @@
--- The bytes that the writes of a call make, with the cuts that its caller asks for.
+-- Laws of the bytes that the writes of a call make, with the cuts that its caller lists.
 use Rattle.std.proofs.Common.{◌≡◌, ℕ, zero, suc, ◌<◌, ◌≤◌, ◌==◌, true, false, List, [], ◌∷◌, length, map, take, Result, Ok, Err}
 use Rattle.std.proofs.Common.{Some, refl, sym, ◌∙◌, ap, subst, inl, inr, ◌⊎◌, arith, ⊎_elim}
 use Rattle.std.specs.List.{list_any}
@@ -79,7 +79,7 @@ rows_leave (suc n) (row ∷ rows) (cut ∷ table) is few are =
     ∙ ap (λ (rest : List Cutting). cutting_by row ∷ rest)
     (rows_leave n rows table (omega (arith, is)) (omega (arith, few)) (rest_of row rows cut table are))
 
--- A table asks for the same cuts as the rows that it was made of.
+-- A table has the same cuts as the rows that it was made of.
 pub same_asked : (rows : List CutRow) (table : List ArmedCut) → AreCutsOf rows table → length rows ≤ length table
     → fixed_by (take (length rows) table) [] 0 ≡ asked_by rows
 same_asked rows table are few =
@@ -98,7 +98,7 @@ cut_or_not (reply_is.TrialAgain set left) = inl refl
 cut_or_not (reply_is.Refused fault) = inl refl
 cut_or_not reply_is.Cut = inr refl
 
--- Where none was reached, none of the numbers from 1 on is among them.
+-- If none of the first n writes was reached, no number from 1 to n is on the list.
 reached_zero : (numbers : List ℕ) (n : ℕ) → reached numbers n ≡ 0 → (k : ℕ) → 1 ≤ k → k ≤ n
     → list_any (λ number. number == k) numbers ≡ false
 reached_zero numbers zero none k some within = absurd (omega (arith, some, within))
@@ -114,7 +114,7 @@ reached_zero numbers (suc n) none k some within = ⊎_elim
     (cases_lt k (suc n)))
     (cases_Bool (list_any (λ number. number == suc n) numbers))
 
--- One that is reached is the last, where the last is among them.
+-- If one write was reached, and the last write is on the list, no earlier write is on it.
 last_alone : (numbers : List ℕ) (writes : ℕ) → reached numbers writes ≡ 1
     → list_any (λ number. number == writes) numbers ≡ true → (k : ℕ) → 1 ≤ k → k < writes
     → list_any (λ number. number == k) numbers ≡ false

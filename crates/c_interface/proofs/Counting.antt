@@ -1,4 +1,4 @@
--- How many writes a call makes, and whether one of them was to be cut.
+-- Laws of the number of writes that a call makes, and of whether one of them was to be cut.
 use Rattle.std.proofs.Common.{◌≡◌, ◌<◌, ◌≤◌, ◌+◌, ℕ, List, [], Result, Ok, Err, length, map, take, get_or, sym, ◌∙◌, ap, subst, arith}
 use Rattle.std.proofs.lemmas.List.{ext_get_or, get_or-take, length-map, length-take-le, take-map}
 use Rattle.std.proofs.lemmas.Option.{get_or_from_slice_get, slice_get-get_or, slice_get-map}
@@ -54,7 +54,7 @@ same_numbers rows table are few =
 
 -- ---- cuts
 
--- A call counts a cut where its reply is one.
+-- A call counts a cut if its reply is `Cut`.
 pub cuts_of : (map : SectorMap) (identity : Identity) (boots : ℕ) (call : DeviceCall) (a b : DeviceView) (reply : Reply)
     → IsCallOf map identity boots call a b reply → b.flash.cuts ≡ a.flash.cuts + cut_of reply
 cuts_of map identity boots (Accept manifest) a b reply (result, same, is) =
@@ -93,7 +93,7 @@ pub cuts_provided : (map : SectorMap) (a b : Chip) (result : Result Unit Fault) 
 cuts_provided map a b result reply is same =
     subst (λ r. b.cuts ≡ a.cuts + cut_of r) (sym same) (cuts_made map a b result is)
 
--- What was reached of a flash that was just made is what was counted of it.
+-- On a flash that was just made, the number of reached cuts is the number of counted ones.
 pub cut_as_asked : (before left : Chip) (reply : Reply) (writes size count : ℕ) (all : List ℕ) (fixed : Fixed)
     → before ≡ record (new_chip size count all) { fixed = fixed } → left.fixed ≡ before.fixed
     → left.cuts ≡ before.cuts + cut_of reply → left.cuts ≡ reached left.fixed.numbers left.writes

@@ -1,4 +1,4 @@
--- The image in a slot of borrowed bytes.
+-- Laws of the image in a slot of borrowed bytes.
 use Rattle.std.proofs.Common.{◌≡◌, ◌/◌, ℕ, List, length}
 use Rattle.flash_model.specs.Chip.{Chip, Fixed}
 use Rattle.flash_model.specs.Memory.{new_chip}
@@ -11,7 +11,7 @@ use Rattle.c_interface.specs.Setup.{HasRoom}
 use Rattle.c_interface.specs.Slots.{DescribesSlot}
 use Rattle.c_interface.proofs.StepLaws.{borrowed_flash}
 
--- a flash that was just made of bytes, which has them still, and what is answered for a slot of it
+-- The result for a slot of a flash that was just made of the bytes and still has them.
 pub describes_slot : (map : SectorMap) (old : List ℕ) (image : ℕ) (side : Side) (new : List ℕ) (description : Description)
     (number : ℕ) (chip : Chip) (fixed : Fixed) → HasRoom map old
     → chip ≡ record (new_chip map.sector_size (length old / map.sector_size) old) { fixed = fixed } → new ≡ old

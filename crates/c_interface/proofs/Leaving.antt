@@ -1,4 +1,4 @@
--- What a call changes of the bytes.
+-- Laws of what a call changes in the bytes.
 use Rattle.std.proofs.Common.{◌≡◌, ℕ, true, false, List, Result, Ok, Err, refl, sym, ◌∙◌, ap, subst}
 use Rattle.std.specs.Prelude.{IfErr}
 use Rattle.std.proofs.lemmas.Bool.{true≢false}
@@ -25,7 +25,7 @@ cut_refused fault e = cc
 done_refused : (fault : Fault) → Done ≡ Refused fault → ⊥
 done_refused fault e = cc
 
--- On a flash with power a refusal is not of the flash: it changes nothing of it.
+-- A refused call on a flash with power leaves the flash unchanged.
 refused_flash : (result : Result Unit Fault) (old new : DeviceView)
     → IfErr result (λ fault. is_stop fault ≡ false → new.flash ≡ old.flash)
     → EndsCall (reply_of_result result) old new → old.flash.is_on ≡ true → (fault : Fault)

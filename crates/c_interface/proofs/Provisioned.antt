@@ -1,4 +1,4 @@
--- Provisioning: making the flash of a device.
+-- Laws of provisioning: each flash of the same bytes holds the provisioned state.
 use Rattle.std.proofs.Common.{◌≡◌, ℕ, List, Result, subst, sym, ◌∙◌}
 use Rattle.std.proofs.lemmas.Result.{on_ok_weaker}
 use Rattle.flash_model.specs.Chip.{Chip, Fixed}

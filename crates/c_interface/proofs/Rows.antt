@@ -1,7 +1,7 @@
--- Rows that a loop fills from blank ones.
+-- The invariant of a loop that fills blank rows.
 use Rattle.std.proofs.Common.{◌≡◌, ◌<◌, ◌≤◌, ℕ, List, Some, length, slice_get}
 
--- Up to a place there is a row for each item, and from there on the rows are blank.
+-- Before a place each item has its row, and from this place on the rows are blank.
 abbrev pub AreFilledTo : {T R : Type 0} → (T → R → Type 0) → R → ℕ → ℕ → List T → List R → Type 0
 AreFilledTo {T} {R} IsRow blank size place items rows = record {
   long : length rows ≡ size;

@@ -1,4 +1,4 @@
--- The state on a flash depends only on its bytes, and the state of a device only on these and on its saved state.
+-- The state on a flash depends only on its bytes. The state of a device depends only on these and on its saved state.
 use Rattle.std.proofs.Common.{◌≡◌, ℕ, ◌+◌, ◌*◌, Bool, true, false, List, length, slice_range, Option, Some, None, refl, sym, ◌∙◌, ap, subst, inl, inr, arith}
 use Rattle.std.proofs.lemmas.Bool.{true≢false}
 use Rattle.flash_model.specs.Chip.{Chip, Fixed, SectorIs}
@@ -31,7 +31,7 @@ pub record SameFlash (old new : Chip) : Type 0 where
   pub sectors : new.sectors ≡ old.sectors
   pub bytes : new.bytes ≡ old.bytes
 
--- ---- what is fixed of a flash
+-- ---- the fixed part of a flash
 
 abbrev with_fixed : Chip → Fixed → Chip
 with_fixed chip fixed = record chip { fixed = fixed }
@@ -150,7 +150,7 @@ module _ (map : SectorMap) (old new : Chip) (laid : IsLaidOut map old) (same : S
 
 -- ---- uploads
 
--- Two uploads are the same, but for how what is held back is stored.
+-- Two uploads are the same, except for how the bytes that are held back are stored.
 pub record SameUpload (old new : Upload) : Type 0 where
   pub size : new.size ≡ old.size
   pub digest : new.digest ≡ old.digest

@@ -1,4 +1,4 @@
--- A call on a device in bytes, from the old bytes to the new ones.
+-- Laws of a call on a device in bytes, from the old bytes to the new ones.
 use Rattle.std.proofs.Common.{◌≡◌, ℕ, ◌-◌, ◌*◌, ◌/◌, ◌<◌, ◌≤◌, Bool, true, false, List, [], length, slice_index_or, Option, Some, None, Result, refl, sym, ◌∙◌, ap, subst, arith}
 use Rattle.std.proofs.Math.Nat.{div-mul-le_self, le-div_iff_mul-le, mod-eq-sub-div-mul, mul-div_cancel}
 use Rattle.std.proofs.lemmas.Bool.{true≢false}

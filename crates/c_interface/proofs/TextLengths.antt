@@ -1,4 +1,4 @@
--- The lengths of texts in the result of a call.
+-- Laws of the lengths of texts in the result of a call.
 use Rattle.std.proofs.Common.{ℕ, List, sym, subst}
 use Rattle.certificate.specs.ReportText.{report_text}
 use Rattle.certificate.specs.TableText.{table_text}

@@ -81,13 +81,13 @@ pub record IsRefusalRow (refusal : Refusal) (row : RefusalRow) : Type 0 where
 abbrev pub no_refusal : RefusalRow
 no_refusal = record { image = 0; reason = 0; count = 0; needs = replicate 4 no_need }
 
--- The rows of a report's versions, and blank rows after them; ..
+-- The rows of a report's versions, and blank rows after them.
 pub record AreVersionRows (images : List ReportedImage) (rows : List VersionRow) : Type 0 where
   pub each : (k : ℕ) (image : ReportedImage) → slice_get images k ≡ Some image
       → slice_get rows k ≡ Some (version_row image.version)
   pub rest : IsBlankFrom (length images) rows (version_row no_version)
 
--- .. and those of its refusals.
+-- The rows of a report's refusals, and blank rows after them.
 pub record AreRefusalRows (refusals : List Refusal) (rows : List RefusalRow) : Type 0 where
   pub each : (k : ℕ) (refusal : Refusal) → slice_get refusals k ≡ Some refusal
       → (row : RefusalRow) × (slice_get rows k ≡ Some row) × IsRefusalRow refusal row
@@ -98,7 +98,7 @@ abbrev pub taken_mask : List ReportedImage → ℕ
 taken_mask [] = 0
 taken_mask (image ∷ images) = (if image.is_taken then 1 else 0) + 2 * taken_mask images
 
--- The result of a boot that decided, but for the count of writes and the lengths of texts. The
+-- The result of a boot that decided, except for the number of writes and the lengths of texts. The
 -- fields of a fault and of a trial are 0.
 pub record IsResultOfReport (report : Report) (is_permanent : Bool) (call_result : CallResult)
     : Type 0 where
@@ -113,7 +113,7 @@ pub record IsResultOfReport (report : Report) (is_permanent : Bool) (call_result
   pub check : call_result.check ≡ 0
   pub left : call_result.left ≡ 0
 
--- The number of the error behind a fault, or of the image that it names.
+-- The number of the error that caused a fault, or of the image that it names.
 abbrev pub detail_of : Fault → ℕ
 detail_of (RunningDamaged image) = image
 detail_of (Flash error) = flash.code_of error
@@ -126,7 +126,7 @@ abbrev pub check_of : Fault → ℕ
 check_of (Upload (NotAnImage check)) = image.code_of check
 check_of other = 0
 
--- The result where no call was made: all zero.
+-- The result if no call was made: all zero.
 abbrev pub no_result : CallResult
 no_result = record {
   writes = 0;
@@ -144,7 +144,7 @@ no_result = record {
   refused = replicate 8 no_refusal;
 }
 
--- All zero but for the number of writes that the call began.
+-- All zero except for the number of writes that the call began.
 abbrev pub only_writes : ℕ → CallResult
 only_writes count = record no_result { writes = count }
 

@@ -32,9 +32,9 @@ use Rattle.c_interface.specs.SavedState.{IsDeviceOf, IsLeftIn}
 use Rattle.c_interface.specs.Numbers.{MOST_CUTS, TOO_MANY}
 use Rattle.c_interface.specs.Setup.{IsCheckedSetup, IsRefusedSetup}
 
--- A call is a step of the machine. One that takes a manifest is the step that takes any text which
--- means the manifest to this device; whatever the manifest asks for, a device that held a state
--- holds one then.
+-- A call is a step of the machine. A call that accepts a manifest is the step that accepts any text
+-- with the meaning of this manifest for this device. Whatever the manifest says, a device that held
+-- a state before the call holds one after it.
 abbrev pub IsStepOf : device.Setup → DeviceCall → DeviceView → DeviceView → Reply → Type 0
 IsStepOf setup (Accept manifest) old new reply =
     ((text : Bor (List ℕ)) → IsManifest setup.identity text.now manifest.now
@@ -48,17 +48,17 @@ IsStepOf setup (Withdraw image) old new reply =
 IsStepOf setup (Confirm image) old new reply = StepsTo setup old new (event.Confirm image) reply
 IsStepOf setup Boot old new reply = StepsTo setup old new event.Boot reply
 
--- A call has a result that this is the reply to, and of which something is so.
+-- A call has a result for which `says` holds, and this is the reply to it.
 abbrev pub HasResult : Reply → (Result Unit Fault → Type 0) → Type 0
 HasResult reply says = (result : Result Unit Fault) × (reply ≡ reply_of_result result) × says result
 
--- A boot has one, with the number of boots that are left to a new trial.
+-- A boot has such a result, with the number of boots that are left to a new trial.
 abbrev pub HasBootResult : Reply → ℕ → (ℕ → Result Reply Fault → Type 0) → Type 0
 HasBootResult reply boots says = (left : ℕ) × (left + 1 ≡ boots)
     × (result : Result Reply Fault) × (reply ≡ reply_of_boot result) × says left result
 
--- Each call does all that the call of a device in Rust promises: which parts of the flash it
--- touches, what a refusal leaves, how it ends.
+-- A call keeps the promises of its counterpart in Rust: which parts of the flash it touches, what a
+-- refusal leaves, and how the call ends.
 abbrev pub IsCallOf : SectorMap → Identity → ℕ → DeviceCall → DeviceView → DeviceView → Reply → Type 0
 IsCallOf map identity boots (Accept manifest) old new reply =
     HasResult reply (TakesManifestHere map identity manifest.now old new)
@@ -76,19 +76,19 @@ IsCallOf map identity boots Boot old new reply =
 -- A call is made on a device whose flash has power.
 pub record MakesCall (map : SectorMap) (identity : Identity) (boots : ℕ) (call : DeviceCall)
     (old new : DeviceView) (reply : Reply) : Type 0 where
-  -- What is fixed of the flash stays,
+  -- The fixed part of the flash stays.
   pub fixed : new.flash.fixed ≡ old.flash.fixed
-  -- the map is still laid out on it,
+  -- The map is still laid out on the flash.
   pub laid : IsLaidOut map new.flash
-  -- the open uploads match it,
+  -- The open uploads match the flash.
   pub opens : AllOpenAt (view map new.flash) new.sessions
-  -- the call is a step of the machine,
+  -- The call is a step of the machine.
   pub steps : IsStepOf (made map identity boots) call old new reply
-  -- and keeps the other promises of its counterpart in Rust.
+  -- The call keeps the other promises of its counterpart in Rust.
   pub is : IsCallOf map identity boots call old new reply
 
--- A refusal leaves the bytes unchanged, with two exceptions: `finish` writes the last bytes of an
--- upload before they are checked, and the result of a boot says what it wrote.
+-- A refusal leaves the bytes unchanged, with two exceptions. `finish` writes the last bytes of an
+-- upload before it checks them, and the result of a boot says what it wrote.
 abbrev pub RefusesUnchanged : DeviceCall → List ℕ → List ℕ → Reply → Type 0
 RefusesUnchanged (Finish image) old new reply = Unit {0}
 RefusesUnchanged Boot old new reply = Unit {0}
@@ -106,21 +106,21 @@ pub record LeavesBytes (map : SectorMap) (call : DeviceCall) (old new : List ℕ
 -- this number of writes.
 pub record StepsOn (checked : CheckedSetup) (asked : Fixed) (call : DeviceCall) (old : List ℕ)
     (was : SavedState) (new : List ℕ) (is : SavedState) (reply : Reply) (writes : ℕ) : Type 0 where
-  -- It is made on a device that is in the bytes, whose flash has power,
+  -- The call is made on a device in the old bytes. Its flash has power.
   pub before : DeviceView
   pub is_before : IsDeviceOf checked.map old was before
-  -- and leaves one that is in the new bytes, whose flash may be off after a cut.
+  -- It leaves a device in the new bytes. Its flash may be off if power failed.
   pub left : DeviceView
   pub is_left : IsLeftIn checked.map new is left
-  -- Between these two it keeps every promise of a call.
+  -- Between these two devices it keeps every promise of a call.
   pub makes : MakesCall checked.map checked.identity checked.boots call before left reply
   pub leaves : LeavesBytes checked.map call old new reply
-  -- It is cut exactly where the caller asks for it.
+  -- It is cut exactly in the writes that the caller lists.
   pub cut_as_asked : IsCutAsAsked asked.numbers before.flash left.flash reply writes
-  -- The new bytes are what exactly these writes make of the old ones, torn as the caller asks.
+  -- The new bytes are what exactly these writes make of the old ones, torn as the caller says.
   pub writes_as_asked : WritesAsAsked asked checked.map.sector_size old new writes
-  -- From each device in the old bytes it is a step to one in the new bytes. The flash of that one
-  -- has power, also after a cut.
+  -- From each device in the old bytes the call is a step to a device in the new bytes. The flash of
+  -- the latter has power, also after a power cut.
   pub each : (device : DeviceView) → IsDeviceOf checked.map old was device
       → (next : DeviceView) × IsDeviceOf checked.map new is next
       × IsStepOf (made checked.map checked.identity checked.boots) call device next reply

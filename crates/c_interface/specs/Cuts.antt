@@ -59,23 +59,23 @@ asked_by rows = record unarmed { numbers = numbers_of rows; cuttings = map cutti
 -- The new bytes are what exactly this number of writes makes of the old ones, in sectors of this
 -- size.
 pub record WritesAsAsked (asked : Fixed) (size : ℕ) (old new : List ℕ) (writes : ℕ) : Type 0 where
-  -- Each of these writes is one that a driver accepts. The ones on the list are torn as it says,
-  -- and all others are done.
+  -- A driver accepts each of these writes. The writes on the list are torn as it says, and all
+  -- others are complete.
   pub made : ∥ IsWrittenBy size (record asked { first = old }) new writes ∥₁
-  -- A write that is cut is the last one.
+  -- If a write is cut, it is the last one.
   pub last : (k : ℕ) → 1 ≤ k → k < writes
       → list_any (λ number. number == k) asked.numbers ≡ false
 
--- A call is cut in exactly these of its writes, and makes this number of writes.
+-- Power fails in exactly the listed writes of a call. The call makes this number of writes.
 pub record IsCutAsAsked (numbers : List ℕ) (before left : Chip) (reply : Reply) (writes : ℕ)
     : Type 0 where
-  -- Its flash is made for the call: no write was counted before, and none was cut.
+  -- The flash is made for the call: before it no write was counted and none was cut.
   pub unwritten : before.writes ≡ 0
   pub uncut : before.cuts ≡ 0
-  -- Exactly these of its writes are to be cut, and still are after the call.
+  -- The listed writes are to be cut, before the call and after it.
   pub armed : before.fixed.numbers ≡ numbers
   pub still : left.fixed.numbers ≡ numbers
-  -- It counts the programs and erases of the call.
+  -- The flash counts the programs and erases of the call.
   pub counted : left.writes ≡ writes
-  -- The reply is `Cut` exactly if one of these was to be cut.
+  -- The reply is `Cut` exactly if one of these writes is listed.
   pub cut : cut_of reply ≡ reached numbers writes

@@ -25,7 +25,7 @@ pub record AreGroupRows (groups : List Group) (rows : List GroupRow) : Type 0 wh
       → (row : GroupRow) × (slice_get rows k ≡ Some row) × IsGroupRow group row
   pub rest : IsBlankFrom (length groups) rows no_group
 
--- The description where there is no intact image: all zero.
+-- The description if there is no intact image: all zero.
 abbrev pub no_description : Description
 no_description = record {
   length = 0;

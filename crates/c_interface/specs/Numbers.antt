@@ -1,7 +1,7 @@
 -- The numbers that the calls return, as C has them in its `enum bootswap_number`.
 use Rattle.std.specs.Prelude.{ℕ}
 
--- Of a call that was made.
+-- What a call that was made returns.
 abbrev pub DONE : ℕ
 DONE = 0
 
@@ -20,7 +20,7 @@ REFUSED = 4
 abbrev pub CUT : ℕ
 CUT = 5
 
--- Why no call was made.
+-- What a call returns if it wasn't made.
 abbrev pub NO_MAP : ℕ
 NO_MAP = 16
 
@@ -36,7 +36,7 @@ NO_IMAGE = 19
 abbrev pub TOO_MANY : ℕ
 TOO_MANY = 20
 
--- Of texts.
+-- What the calls for texts return.
 abbrev pub NO_TABLE : ℕ
 NO_TABLE = 24
 
@@ -56,6 +56,6 @@ NO_ROOM = 28
 abbrev pub MOST_CUTS : ℕ
 MOST_CUTS = 16
 
--- How many components a manifest has at most.
+-- The largest number of components of a manifest.
 abbrev pub MOST_COMPONENTS : ℕ
 MOST_COMPONENTS = 8

@@ -23,7 +23,7 @@ use Rattle.c_interface.specs.CallResult.{IsResultOf, no_result, number_of}
 -- Bytes are provisioned as the flash of a device, with cuts for some of the writes.
 pub record ProvisionsOn (map : SectorMap) (asked : Fixed) (old new : List ℕ) (reply : Reply)
     (writes : ℕ) : Type 0 where
-  -- The flash that they are is provisioned,
+  -- The flash of these bytes is provisioned.
   pub before : Chip
   pub after : Chip
   pub result : Result Unit Fault
@@ -31,11 +31,11 @@ pub record ProvisionsOn (map : SectorMap) (asked : Fixed) (old new : List ℕ) (
   pub is_after : after.bytes ≡ new
   pub provisions : Provisions map before after result
   pub replies : reply ≡ reply_of_result result
-  -- it is cut exactly where the caller asks for it,
+  -- It is cut exactly in the writes that the caller lists.
   pub cut_as_asked : IsCutAsAsked asked.numbers before after reply writes
-  -- the new bytes are what exactly these writes make of the old ones, torn as the caller asks,
+  -- The new bytes are what exactly these writes make of the old ones, torn as the caller says.
   pub writes_as_asked : WritesAsAsked asked map.sector_size old new writes
-  -- and if it succeeds, each flash of the new bytes holds the first state of a device.
+  -- If it succeeds, each flash of the new bytes holds the first state of a device.
   pub stands : OnOk result ((state : DeviceState) × IsFirstState map before state
       × ((chip : Chip) → IsFlashOf map new chip → Stands map chip state))
 

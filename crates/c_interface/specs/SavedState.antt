@@ -1,4 +1,4 @@
--- The saved state of a device, and which device it is.
+-- The saved state of a device, and the device that it restores.
 use Rattle.std.specs.Prelude.{◌≡◌, ℕ, ◌≤◌, ◌==◌, Bool, true, false, List, replicate, take, slice_index_or}
 use Rattle.std.specs.Prelude.{Option, Some, None, if◌then◌else◌}
 use Rattle.flash_model.specs.Chip.{Chip}
@@ -58,8 +58,8 @@ pub record IsSavedBooted (map : SectorMap) (chip : Chip) (saved : SavedState)
   pub each : SaveUploads saved.uploads sessions
   pub stands : AllOpenAt (view map chip) sessions
 
--- The saved state over a flash is this device: a booted one with the saved uploads, if they match
--- the flash; else one that isn't booted and has no uploads.
+-- The saved state over a flash restores this device: a booted one with the saved uploads, if they
+-- match the flash; else one that isn't booted and has no uploads.
 pub data IsSaved (map : SectorMap) (saved : SavedState) (device : DeviceView) : Type 0 where
   Booted : device.up ≡ true → IsSavedBooted map device.flash saved device.sessions
       → IsSaved map saved device
@@ -94,7 +94,7 @@ pub record SavesDevice (saved : SavedState) (sessions : List (Option Upload)) (i
 abbrev pub IsNotBooted : SavedState → Type 0
 IsNotBooted saved = saved ≡ no_device
 
--- The device that a call left is in these bytes and in this saved state. Its flash may be off.
+-- The device that a call left has these bytes and this saved state. Its flash may be off.
 pub record IsLeftIn (map : SectorMap) (bytes : List ℕ) (state : SavedState) (device : DeviceView)
     : Type 0 where
   pub laid_out : IsLaidOut map device.flash

@@ -9,7 +9,7 @@ use Rattle.c_interface.specs.Numbers.{NO_FLASH, NO_MAP, NO_TRIAL}
 use Rattle.c_interface.specs.declared.setup.Setup.{Setup}
 use Rattle.c_interface.specs.declared.setup.CheckedSetup.{CheckedSetup}
 
--- How many sectors each slot of a setup's images has.
+-- The numbers of sectors of each slot of a setup's images.
 abbrev pub counts_of : Setup → List ℕ
 counts_of setup = take setup.images setup.sectors
 
@@ -18,7 +18,7 @@ pub record IsMapOf (setup : Setup) (map : SectorMap) : Type 0 where
   pub images : map.images ≡ setup.images
   pub sizes : HasSizes setup.sector_size (counts_of setup) map
 
--- The sizes make none.
+-- The sizes of a setup make no map.
 abbrev pub MakesNoMap : Setup → Type 0
 MakesNoMap setup = MakeMap setup.sector_size setup.images (counts_of setup) → ⊥
 
@@ -28,7 +28,7 @@ pub record IsIdentityOf (setup : Setup) (count : ℕ) (identity : Identity) : Ty
   pub class : identity.class ≡ setup.class
   pub images : identity.images ≡ count
 
--- Bytes are a flash that a map is laid out on: whole sectors, enough of them, and not 2^32 bytes.
+-- Bytes are a flash for a map: whole sectors, enough of them, and fewer than 2^32 bytes.
 pub record HasRoom (map : SectorMap) (bytes : List ℕ) : Type 0 where
   pub whole : length bytes % map.sector_size ≡ 0
   pub addressed : length bytes < 2 ^ 32
@@ -39,7 +39,7 @@ pub record IsTrial (boots : ℕ) : Type 0 where
   pub some : 1 ≤ boots
   pub few : boots ≤ 7
 
--- A setup that passed the check for a flash of these bytes ..
+-- A setup passed the check for a flash of these bytes.
 pub record IsCheckedSetup (setup : Setup) (bytes : List ℕ) (checked : CheckedSetup) : Type 0 where
   pub map : IsMapOf setup checked.map
   pub identity : IsIdentityOf setup checked.map.images checked.identity
@@ -47,7 +47,7 @@ pub record IsCheckedSetup (setup : Setup) (bytes : List ℕ) (checked : CheckedS
   pub trial : IsTrial setup.trial_boots
   pub room : HasRoom checked.map bytes
 
--- .. or why it didn't: the sizes are checked first, then the trial, then the bytes.
+-- A setup failed the check. The sizes are checked first, then the trial, then the bytes.
 pub data IsRefusedSetup (setup : Setup) (bytes : List ℕ) (number : ℕ) : Type 0 where
   NoMap : number ≡ NO_MAP → MakesNoMap setup → IsRefusedSetup setup bytes number
   NoTrial : number ≡ NO_TRIAL → (map : SectorMap) → IsMapOf setup map

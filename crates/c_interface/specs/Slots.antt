@@ -13,7 +13,7 @@ use Rattle.c_interface.specs.Description.{AnswersFront, no_description}
 use Rattle.c_interface.specs.SavedState.{IsFlashOf}
 use Rattle.c_interface.specs.Setup.{IsCheckedSetup, IsRefusedSetup}
 
--- The answer is that for the slot of the flash that the bytes are, and no byte changes.
+-- The answer is that for this slot of the flash, and no byte changes.
 pub record DescribesSlot (map : SectorMap) (old : List ℕ) (image : ℕ) (side : Side) (new : List ℕ)
     (description : Description) (number : ℕ) : Type 0 where
   pub same : new ≡ old

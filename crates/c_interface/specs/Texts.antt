@@ -1,7 +1,8 @@
 -- Texts in the caller's buffer.
 use Rattle.std.specs.Prelude.{◌≡◌, ℕ, ◌^◌, ◌<◌, ◌≤◌, ◌⊎◌, ◌++◌, List, Option, Some, None, drop, length}
 
--- A buffer size that is enough for the text of a report that is right for a table that was read.
+-- A buffer of this size is large enough for the text of each report that is right for a table that
+-- was read.
 abbrev pub MOST_REPORT : ℕ
 MOST_REPORT = 2048
 

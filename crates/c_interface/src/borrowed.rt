@@ -129,7 +129,7 @@ fn resume_and_run<F: Flash>(
     reply
 }
 
-/// Makes a flash of these bytes, of which the writes in the table are cut, and runs a call on it.
+/// Runs a call on the flash of these bytes. The writes in the table are cut.
 fn run_over_bytes<L: Ledger>(
     blank: Blank,
     checked: &CheckedSetup,

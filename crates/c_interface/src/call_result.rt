@@ -29,7 +29,7 @@ pub struct VersionRow {
     pub build: u32,
 }
 
-/// An image that is needed, in a version at least.
+/// A needed image and its lowest version.
 #[repr(C)]
 #[derive(Clone, Copy)]
 pub struct NeedRow {
@@ -60,7 +60,7 @@ pub struct RefusalRow {
 #[derive(Clone, Copy)]
 pub struct CallResult {
     /// The number of writes that the call made: programs and erases. Exactly these writes, torn as
-    /// the caller's rows say, change the flash's old bytes into the new ones. A write that is cut
+    /// the caller's rows say, change the flash's old bytes into the new ones. If a write is cut, it
     /// is the last one.
     pub writes: u64,
     /// Refused: the number of the reason, 1 to 10.
@@ -111,7 +111,7 @@ const NO_REFUSAL: RefusalRow = RefusalRow {
     needs: [NO_NEED; MOST_ALTERNATIVES],
 };
 
-/// The result where no call was made.
+/// The result if no call was made.
 pub(crate) const NO_RESULT: CallResult = CallResult {
     writes: 0,
     fault: 0,
@@ -250,7 +250,7 @@ fn taken_mask(images: &[ReportedImage]) -> u32
     }
 }
 
-/// The number of the error behind a fault, or of the image that it names.
+/// The number of the error that caused a fault, or of the image that it names.
 fn detail_of(fault: Fault) -> u32
     ensures { result ≡ detail_of fault }
 {

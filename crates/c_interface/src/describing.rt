@@ -17,7 +17,7 @@ pub struct Digest {
     pub bytes: [u8; 32],
 }
 
-/// Describes an image, which is all of the bytes.
+/// Describes the image that the bytes are, from the first to the last.
 ///
 /// Returns 0 if they are an intact image, else the number of the first check that fails, 1 to 15.
 /// The description is all zero then.

@@ -8,7 +8,7 @@ use common::limits::{MOST_ALTERNATIVES, MOST_DEPENDENCIES, MOST_GROUPS};
 use image_reading::Desc;
 use version_order::Group;
 
-/// A group of alternatives, of which one has to be met.
+/// A group of alternatives, at least one of which has to be met.
 #[repr(C)]
 #[derive(Clone, Copy)]
 pub struct GroupRow {
@@ -48,7 +48,7 @@ const NO_GROUP: GroupRow = GroupRow {
     alternatives: [NO_NEED; MOST_ALTERNATIVES],
 };
 
-/// The description where there is no intact image.
+/// The description if there is no intact image.
 pub(crate) const NO_DESCRIPTION: Description = Description {
     length: 0,
     version: NO_VERSION,

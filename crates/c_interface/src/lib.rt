@@ -8,17 +8,19 @@
 //! - Allocates: no.
 //! - Callers: programs in C, and of languages that call C. `include/bootswap.h` declares the calls.
 //!
-//! What a call of `boot_core` promises of the bytes that it touches, of refusals and of cuts, the
-//! call of C promises of the caller's bytes. It returns that it was cut exactly if one of the
-//! writes that it reports is on the caller's list. The bytes after it are what exactly these writes
-//! made of those before, torn as the list says. What a returned number doesn't speak of is 0. A
-//! text is left out only if it is longer than its buffer, or than 2^32 - 1 bytes.
+//! A call from C keeps the promises of its counterpart in `boot_core`: which bytes it touches, what
+//! a refusal changes, and what a power cut leaves. It returns `CUT` exactly if one of the writes
+//! that it reports is on the caller's list. The bytes after the call are what exactly these writes
+//! make of the bytes before it, torn as the list says. A field of the result that doesn't apply to
+//! the returned number is 0. A text is left out only if it is longer than its buffer, or than
+//! 2^32 - 1 bytes.
 //!
-//! What a device keeps between two calls is in the caller's memory too: what a call wrote there is
-//! what the next one reads, and any other bytes are a device that isn't booted. Each call returns,
-//! on any contents. The caller answers for the lengths, and that nothing that it lends overlaps.
+//! The state of a device between two calls is in the caller's memory too. The next call reads what
+//! the last one wrote there. Bytes that aren't a valid state, or whose uploads don't match the
+//! flash, are a device that isn't booted. Each call returns, on any contents. The caller guarantees
+//! that the lengths are right and that no buffers overlap.
 //!
-//! A driver in C can't be called from here: the flash is bytes in memory.
+//! The flash is bytes in memory: this library doesn't call a flash driver in C.
 #![tactic(auto)]
 
 mod borrowed;

@@ -21,13 +21,13 @@ const YES: u8 = 1;
 pub struct SavedUpload {
     /// The length of the file in bytes.
     pub size: u32,
-    /// How many bytes were received.
+    /// The number of bytes that were received.
     pub received: u32,
     /// 1 if an upload is open, 0 if none is.
     pub is_open: u8,
     /// How the image will be requested: 1 for a test, 2 permanently.
     pub kind: u8,
-    /// How many bytes are held back, 0 to 7.
+    /// The number of bytes that are held back, 0 to 7.
     pub held_length: u8,
     /// 0.
     pub unused: u8,
@@ -101,7 +101,7 @@ fn held_in(bytes: &[u8]) -> ArrayVec<u8, UNIT>
     held
 }
 
-/// The upload that a row saves, if one is open. `None` if no call wrote the row.
+/// The upload that a row saves, if one is open. `None` if the row isn't valid.
 fn load_upload(row: &SavedUpload) -> Option<Option<Upload>>
     ensures some { IfSome result (SavesUpload row.now) }
     ensures none { result ≡ None → (upload : Option Upload) → SavesUpload row.now upload → ⊥ }
@@ -123,7 +123,7 @@ fn load_upload(row: &SavedUpload) -> Option<Option<Upload>>
     }))
 }
 
-/// The uploads that rows save. `None` if no call wrote the rows.
+/// The uploads that rows save. `None` if a row isn't valid.
 pub(crate) fn load_uploads(rows: &[SavedUpload]) -> Option<Uploads>
     requires { length rows.now ≡ 8 }
     ensures some { IfSome result (λ uploads. SaveUploads rows.now uploads.sessions) }

@@ -16,11 +16,11 @@ use uuid::Uuid;
 pub struct Setup {
     /// The length of a sector in bytes: a multiple of 64 from 512 to 131072.
     pub sector_size: u32,
-    /// How many images it has, 1 to 8.
+    /// The number of images, 1 to 8.
     pub images: u32,
     /// The number of sectors of each slot of an image. Entries after the last image are ignored.
     pub sectors: [u32; MOST_IMAGES],
-    /// How many boots a trial has, 1 to 7.
+    /// The number of boots of a trial, 1 to 7.
     pub trial_boots: u32,
     /// Its vendor: the 16 bytes of a UUID, in the order of its text (RFC 9562).
     pub vendor: [u8; 16],
@@ -69,8 +69,8 @@ fn is_trial(boots: u32) -> bool
     (1..=u32::from(MOST_TRIAL_BOOTS)).contains(&boots)
 }
 
-/// Whether bytes are whole sectors of the map's size, at least as many as the map has, and fewer
-/// than 2^32 bytes.
+/// Whether bytes are whole sectors of the map's size, no fewer than the map has, and fewer than
+/// 2^32 bytes.
 fn fits(map: &SectorMap, bytes: &[u8]) -> bool
     ensures { IsTrue result ↔ HasRoom map.now bytes.now }
 {
