@@ -1,9 +1,8 @@
-//! Worked runs of the program, over files in memory.
+//! Tests of the program with worked runs, over files in memory.
 //!
 //! - Allocates: files in memory.
 //!
-//! The program is tested as its user sees it: arguments, files and standard input go in, and texts
-//! and an exit status come out.
+//! A run has arguments, files and standard input. Its expected texts and exit status are constants.
 #![tactic(auto)]
 
 #[cfg(test)]

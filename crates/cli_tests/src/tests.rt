@@ -1,4 +1,4 @@
-//! What the program leaves for its words, files and standard input.
+//! Tests of what the program writes for its arguments, files and standard input.
 mod choices;
 mod decisions;
 mod devices;

@@ -1,9 +1,9 @@
-//! A flash that counts what is read of it.
+//! A flash that counts the bytes that are read.
 
 use flash_model::{Flash, Result};
 
-/// A flash that tells how many bytes were read of it below an address, and how many at once at
-/// most.
+/// A flash over another one that counts the bytes that are read below an address: of all calls, and
+/// of the longest call.
 #[derive(Drop)]
 pub(crate) struct Counting<F> {
     flash: F,
@@ -13,7 +13,7 @@ pub(crate) struct Counting<F> {
 }
 
 impl<F: Flash> Counting<F> {
-    /// A flash over another one, of which nothing was read yet below this address.
+    /// A flash over another one. It counts reads below the address `below`, and has counted none.
     pub(crate) fn new(flash: F, below: u32) -> Self {
         Counting {
             flash,

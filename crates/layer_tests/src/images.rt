@@ -1,5 +1,7 @@
-//! Images, byte for byte: a header of 32 bytes, the body ABCD, a protected area where there is a
-//! counter or a dependency, and the digest. The digests were taken by another program.
+//! Images, byte for byte.
+//!
+//! An image is a header of 32 bytes, the body ABCD, a protected area if it has a counter or a
+//! dependency, and the digest. Another program computed the digests.
 
 /// Version 1.0.0+0, which needs nothing.
 pub(crate) const RUNNING: [u8; 76] = [
@@ -63,8 +65,8 @@ pub(crate) const NEEDY: [u8; 104] = [
     0x65, 0xf3, 0xd2, 0x64, 0x11, 0x46, 0xfc, 0x05,
 ];
 
-/// Version 1.0.0+0. Behind its digest the unprotected area has an entry of type 0x20 and a
-/// dependency, which counts only in the other area.
+/// Version 1.0.0+0. After its digest the unprotected area has an entry of type 0x20 and a
+/// dependency. A dependency counts only in the protected area.
 pub(crate) const UNASKED: [u8; 101] = [
     0x3d, 0xb8, 0xf3, 0x96, 0x00, 0x00, 0x00, 0x00, 0x20, 0x00, 0x00, 0x00, 0x04, 0x00, 0x00, 0x00,
     0x00, 0x00, 0x00, 0x00, 0x01, 0x00, 0x00, 0x00, 0x00, 0x00, 0x00, 0x00, 0x00, 0x00, 0x00, 0x00,

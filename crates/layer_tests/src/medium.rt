@@ -1,5 +1,6 @@
-//! What a caller sees of the layers that all others stand on, beyond what runs of the program show,
-//! by the bytes, sectors and addresses written out.
+//! Tests of flashes and maps, the lowest layers, that no run of the program makes.
+//!
+//! Expected bytes, sectors and addresses are constants.
 mod calls;
 mod flash_files;
 mod lent_flash;

@@ -6,7 +6,7 @@ use flash_model::MemFlash;
 use std::process::Abort;
 use std::sync::ledger::{Blank, Ledger};
 
-/// A flash in memory that has these bytes.
+/// A flash in memory that has these bytes: whole sectors, and fewer than 65536 bytes.
 pub(crate) fn in_memory<L: Ledger>(
     rt: &(impl Abort + AllocGlobal),
     blank: Blank,

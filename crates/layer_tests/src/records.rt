@@ -1,4 +1,4 @@
-//! Trailers, the log and swaps, of what no run of the program shows.
+//! Tests of trailers, the log and swaps that no run of the program makes.
 mod calls;
 mod flashes;
 mod states;

@@ -1,4 +1,5 @@
-//! What no clause says, and no run of the program shows.
+//! Tests of values: headers, steps and texts that no clause specifies and no run of the program
+//! shows.
 mod headers;
 mod steps;
 mod texts;

@@ -1,4 +1,4 @@
-//! A choice over a reader and a writer, which a caller of the library makes without the program.
+//! A test of a choice over a reader and a writer, as a caller of the library makes it.
 
 use boot_cli::{ChooseEnd, choose_over};
 use std::test::Fail;

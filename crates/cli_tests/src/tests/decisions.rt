@@ -1,7 +1,8 @@
-//! Runs that decide, check, and read images and manifests. What a run has to leave was
-//! written out by the rules of docs/FORMATS.md, and never by the program.
+//! Runs of `choose`, `check`, `image` and `manifest`.
+//!
+//! The expected outcome of each run was written by hand from docs/FORMATS.md, never by the program.
 
-/// These runs, one after the other, as `running` reads them.
+/// A table of runs, in the format of `running`.
 pub(super) const DECISIONS: &str = "\
     # A choice, and the check of a report.\n\
     $ choose -\n\

@@ -1,7 +1,8 @@
-//! Runs of devices: provisioned, run by a script and shown. What a run has to leave was
-//! written out by the rules of docs/FORMATS.md, and never by the program.
+//! Runs of `provision`, `run` and `show`.
+//!
+//! The expected outcome of each run was written by hand from docs/FORMATS.md, never by the program.
 
-/// These runs, one after the other, as `running` reads them: the file `flash` is as the run before
+/// A table of runs, in the format of `running`. Each run has the file `flash` as the run before
 /// left it.
 pub(super) const DEVICES: &str = "\
     # A trial: one of its images is confirmed, and both go back.\n\

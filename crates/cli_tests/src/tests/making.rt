@@ -1,7 +1,8 @@
 //! Runs of commands that make image files, and of a sweep with a picture: which files they replace.
-//! What a run has to leave was written out by the rules of docs/FORMATS.md, and never by the program.
+//!
+//! The expected outcome of each run was written by hand from docs/FORMATS.md, never by the program.
 
-/// These runs, one after the other, as `running` reads them.
+/// A table of runs, in the format of `running`.
 pub(super) const MAKING: &str = "\
     # An image takes the place of nothing, of an image and of an empty file.\n\
     $ make-image made abcd --version=1.0.0\n\

@@ -1,4 +1,4 @@
-//! Files and standard input in memory.
+//! A host for tests: files and standard input in memory.
 
 use boot_cli::{Access, FlashFault, Host, Replaced};
 use std::alloc::{AllocError, Global};
@@ -11,7 +11,7 @@ use std::{io, mem};
 pub(super) struct File {
     /// Its name.
     pub name: String,
-    /// What it holds.
+    /// Its contents.
     pub bytes: Vec<u8>,
 }
 
@@ -20,11 +20,11 @@ pub(super) struct File {
 pub(super) struct MemoryHost {
     /// The files.
     pub files: Vec<File>,
-    /// What is left of standard input.
+    /// The part of standard input that hasn't been read.
     pub input: Vec<u8>,
-    /// The place of the file that is open as a flash.
+    /// The index in `files` of the file that is open as a flash.
     pub open: usize,
-    /// What that file holds, while it is open.
+    /// The contents of that file while it is open.
     pub flash: Cell<Option<Vec<u8>>>,
 }
 
@@ -39,7 +39,7 @@ impl MemoryHost {
         }
     }
 
-    /// Puts a file into the place of that of its name, or beside the others.
+    /// Writes a file: replaces the contents of the file of this name, or adds a file.
     pub(super) fn put(
         &mut self,
         alloc: Global,
@@ -62,7 +62,7 @@ impl MemoryHost {
             .position(|file| file.name.as_str() == name)
     }
 
-    /// What the file of this name holds.
+    /// The contents of the file of this name.
     fn bytes_of(&self, name: &str) -> io::Result<&[u8]> {
         match self.files.iter().find(|file| file.name.as_str() == name) {
             Some(file) => Ok(&file.bytes),
@@ -70,7 +70,7 @@ impl MemoryHost {
         }
     }
 
-    /// Closes the file that is open as a flash.
+    /// Closes the file that is open as a flash, and stores its contents.
     pub(super) fn close(&mut self) {
         if let Some(bytes) = self.flash.take()
             && let Some(file) = self.files.get_mut(self.open)
@@ -80,7 +80,7 @@ impl MemoryHost {
     }
 }
 
-/// These bytes where they are at most `most`, and else one more than that.
+/// The first `most` + 1 of these bytes, or all if there are fewer.
 fn start_of(alloc: Global, bytes: &[u8], most: u32) -> io::Result<Vec<u8>> {
     let count = bytes.len().min((most as usize).saturating_add(1));
     Ok(Vec::from_slice(alloc, &bytes[..count])?)

@@ -1,9 +1,14 @@
-//! Runs of the program, one after the other, over the same files, as a table has them.
+//! Makes the runs of a table, in order and over the same files, and compares their outcomes.
 //!
-//! In a table, `$` begins a run, with the words behind the program's name. `:` is what the file
-//! `text` holds and `<` is standard input. `>` and `!` are what the run has to write to standard
-//! output and standard error, and `=` is the exit status that it has to end with. A ` / ` stands
-//! between two lines of a text. Other lines of a table are comments.
+//! The first character of a line of a table says what it is:
+//!
+//! - `$`: a run begins. The arguments of the program follow.
+//! - `:`: lines of the file `text`.
+//! - `<`: lines of standard input.
+//! - `>`, `!`: the expected lines of standard output and of standard error.
+//! - `=`: the expected exit status. The run ends here.
+//!
+//! ` / ` separates two lines of a text. Other lines of a table are comments.
 
 use crate::tests::decisions::DECISIONS;
 use crate::tests::devices::DEVICES;
@@ -14,7 +19,7 @@ use boot_cli::cli;
 use std::alloc::Global;
 use std::test::Fail;
 
-/// A run, as far as a table was read.
+/// A run, with the lines of it that were read so far.
 #[derive(Drop)]
 struct Run {
     words: &'static str,
@@ -25,7 +30,7 @@ struct Run {
 }
 
 impl Run {
-    /// A run of these words, with empty files, which writes nothing.
+    /// A run with these arguments and empty texts.
     fn new(alloc: Global, words: &'static str) -> Self {
         Run {
             words,
@@ -37,7 +42,7 @@ impl Run {
     }
 }
 
-/// What a run leaves.
+/// The outcome of a run.
 #[derive(Debug, Drop)]
 struct Outcome {
     status: u8,
@@ -45,7 +50,7 @@ struct Outcome {
     err: Vec<u8>,
 }
 
-/// Runs the program with the words of a line, which stand behind its name.
+/// Runs the program with the arguments in a line.
 fn outcome_of(alloc: Global, host: &mut MemoryHost, line: &'static str) -> Result<Outcome, Fail> {
     let mut words = vec![in alloc; "bootswap"]?;
     for word in line.split(' ') {
@@ -58,7 +63,7 @@ fn outcome_of(alloc: Global, host: &mut MemoryHost, line: &'static str) -> Resul
     Ok(Outcome { status, out, err })
 }
 
-/// Makes a run, and fails unless it leaves what it has to.
+/// Makes a run. Fails unless it has the expected outcome.
 fn make(alloc: Global, mut host: MemoryHost, run: Run, status: &str) -> Result<MemoryHost, Fail> {
     host.put(alloc, "text", run.text)?;
     host.input = run.input;
@@ -80,7 +85,7 @@ fn push_lines(text: &mut Vec<u8>, lines: &str) -> Result<(), Fail> {
     Ok(())
 }
 
-/// Makes the runs of a table, which fails unless each leaves what it has to.
+/// Makes the runs of a table. Fails unless each has its expected outcome.
 fn make_each(alloc: Global, mut host: MemoryHost, table: &'static str) -> Result<MemoryHost, Fail> {
     let mut run = Run::new(alloc, "");
     for line in table.split('\n') {
@@ -101,7 +106,7 @@ fn make_each(alloc: Global, mut host: MemoryHost, table: &'static str) -> Result
     Ok(host)
 }
 
-/// Puts the files of a table into a host.
+/// Adds the files of a table to a host.
 fn put_each(alloc: Global, host: &mut MemoryHost, table: &str) -> Result<(), Fail> {
     for line in table.split('\n') {
         let (mark, rest) = line.split_once(' ').unwrap_or(("", ""));

@@ -1,6 +1,6 @@
-//! The files that runs begin with. The digests in them were taken by another program.
+//! The files that exist before the first run. Another program computed the digests in them.
 //!
-//! `% NAME HEX` is a file of these bytes, and `+ NAME TEXT` a file of this text.
+//! `% NAME HEX` is a file with these bytes, and `+ NAME TEXT` a file with this text.
 
 /// Images, by the format of docs/FORMATS.md and byte for byte; devices, manifests and other files.
 pub(super) const FILES: &str = "\

@@ -1,4 +1,5 @@
-//! Manifests that were read by other means: they are taken as by a text that means them.
+//! Tests of manifests that are given by their fields: a device accepts them as it accepts their
+//! text.
 
 ghost use Rattle.std.specs.Prelude.{◌≡◌};
 
@@ -13,7 +14,7 @@ use std::sync::ledger::{Blank, Ledger};
 use std::test::Fail;
 use upload::UploadError;
 
-/// A file of 96 bytes for an image, for a test.
+/// A component for a test: a file of 96 bytes for an image.
 fn component(image: u8, digest: [u8; 32]) -> Component {
     Component {
         image,
@@ -24,7 +25,7 @@ fn component(image: u8, digest: [u8; 32]) -> Component {
     }
 }
 
-/// A manifest of FIRST for image 0 and SECOND for another image.
+/// A manifest with FIRST for image 0 and SECOND for the image `second`.
 fn manifest(sequence: u32, second: u8) -> Result<Manifest, Fail> {
     let mut manifest = Manifest::default();
     manifest.sequence = sequence;
@@ -34,8 +35,8 @@ fn manifest(sequence: u32, second: u8) -> Result<Manifest, Fail> {
     Ok(manifest)
 }
 
-/// The reply of the boot that tries the files of a manifest that a new device took, and the bytes
-/// of its flash then.
+/// The reply of the boot that tries the files of a manifest, on a new device, and the bytes of its
+/// flash after it.
 fn upgraded<L: Ledger>(
     rt: &(impl Abort + AllocGlobal),
     blank: Blank,
@@ -76,8 +77,9 @@ fn a_manifest_that_was_read_is_taken_as_its_text_is(rt: HostRuntime) -> Result<(
     Ok(())
 }
 
-/// What a new device answers to a manifest before it booted and then, and to one with this sequence
-/// number that names image 0 and this one; and the bytes of its flash after these.
+/// The results of three calls on a new device: a manifest before the boot, the same after it, and a
+/// manifest with this sequence number for image 0 and the image `second`. Then the bytes of the
+/// flash.
 fn refused<L: Ledger>(
     rt: &(impl Abort + AllocGlobal),
     blank: Blank,
@@ -112,8 +114,8 @@ fn refused_of(
     refused::<Brand>(rt, Blank::new(2), sequence, second)
 }
 
-/// What is refused, by the sequence number and the second image. That an image is lacking is told
-/// before the sequence number is looked at.
+/// Manifests that are refused: the sequence number, the second image, and the fault. A missing
+/// image is reported before an old sequence number.
 const REFUSED: [(u32, u8, Fault); 3] = [
     (2, 2, Fault::Manifest(ManifestError::NoComponent)),
     (0, 2, Fault::Manifest(ManifestError::NoComponent)),

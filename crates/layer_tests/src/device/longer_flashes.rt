@@ -1,4 +1,4 @@
-//! Flashes that are longer than the map: what is behind the map's sectors stays as it is.
+//! A test of flashes that are longer than the map: the bytes after the map don't change.
 
 use super::devices::{PAIR, UPGRADE, outcome_of, two_images};
 use crate::images::{FIRST, SECOND};
@@ -6,7 +6,7 @@ use machine::Event;
 use std::process::Abort;
 use std::test::Fail;
 
-/// An upgrade that goes back, and a request that is withdrawn.
+/// An upgrade that is reverted, and a request that is withdrawn.
 const FIRST_EVENTS: [Event<&[u8]>; 14] = [
     Event::Boot,
     Event::Accept(PAIR),
@@ -24,10 +24,10 @@ const FIRST_EVENTS: [Event<&[u8]>; 14] = [
     Event::Boot,
 ];
 
-/// What makes an upgrade stay.
+/// The events that confirm an upgrade.
 const LAST_EVENTS: [Event<&[u8]>; 3] = [Event::Confirm(0), Event::Confirm(1), Event::Boot];
 
-/// Adds three sectors.
+/// Appends three sectors.
 fn push_more(bytes: &mut Vec<u8>) -> Result<(), Fail> {
     for at in 0..1536u16 {
         bytes.push((at % 251) as u8)?;

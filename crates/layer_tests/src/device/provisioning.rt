@@ -1,4 +1,4 @@
-//! A flash over bytes that are lent is made a device's, and its lender has the bytes again.
+//! Tests of provisioning borrowed bytes: the bytes after the flash is dropped.
 
 ghost use Rattle.std.specs.Prelude.{◌≡◌, ◌≤◌, ℕ, slice_index};
 ghost use Rattle.sector_map.specs.Map.{end_of_map};
@@ -14,8 +14,8 @@ use std::process::Abort;
 use std::sync::ledger::{Blank, Ledger};
 use std::test::Fail;
 
-/// Makes the bytes the flash of a device. What this comes to is known of the bytes once the flash
-/// is gone: nothing changes behind the map.
+/// Provisions the bytes as the flash of a device. The contract knows the bytes after the flash is
+/// dropped: those after the map don't change.
 fn make<L: Ledger>(
     rt: &impl Abort,
     blank: Blank,
@@ -34,7 +34,7 @@ fn make<L: Ledger>(
     provision(&mut flash, map)
 }
 
-/// What is answered where bytes that are lent are made the flash of a device of this map.
+/// Provisions borrowed bytes as the flash of a device with this map, and returns the result.
 fn answer_to(rt: &impl Abort, bytes: &mut [u8], map: &SectorMap) -> Result<(), Fault> {
     make::<Brand>(rt, Blank::new(2), bytes, map)
 }
@@ -43,15 +43,15 @@ fn answer_to(rt: &impl Abort, bytes: &mut [u8], map: &SectorMap) -> Result<(), F
 fn a_new_device_has_a_first_record_and_else_what_it_had(rt: HostRuntime) -> Result<(), Fail> {
     let map = SectorMap::new(512, &[2, 2])?;
     let mut wanted = provisioned(&rt, &RUNNING, &COUNTED_FIVE)?;
-    // The floor of image 1 is its counter; its secondary slot holds something, and so do three
-    // sectors behind the map.
+    // The floor of image 1 is its counter. Its secondary slot and three sectors after the map have
+    // other bytes.
     put(&rt, &mut wanted, 6668, &[0x05]);
     put(&rt, &mut wanted, 4608, &[0x5a; 1024]);
     for at in 0..1536u16 {
         wanted.push((at % 251) as u8)?;
     }
     let mut bytes = Vec::from_slice(rt.alloc(), wanted.as_slice())?;
-    // The trailers, and the log.
+    // The trailers and the log have other bytes before the call.
     for sector in [1024, 2560, 4096, 5632, 6656, 7168, 7680] {
         put(&rt, &mut bytes, sector, &[0x01; 512]);
     }
@@ -60,8 +60,9 @@ fn a_new_device_has_a_first_record_and_else_what_it_had(rt: HostRuntime) -> Resu
     Ok(())
 }
 
-/// What is written over the flash of a device, at a place, and what is answered then: the second
-/// image has no last byte, all is erased, or the first image needs what doesn't run.
+/// Bytes that are written over a provisioned flash, at an index, and the fault of the call. The
+/// last byte of image 1 is erased, all bytes are erased, or image 0 needs a version that doesn't
+/// run.
 const REFUSED: [(usize, &[u8], Fault); 3] = [
     (1611, &[0xff], Fault::RunningDamaged(1)),
     (0, &[0xff; 8192], Fault::RunningDamaged(0)),

@@ -1,4 +1,4 @@
-//! What a boot reads of the images that run.
+//! A test of how many bytes a boot reads of the running images.
 
 ghost use Rattle.std.specs.Prelude.{◌≡◌};
 
@@ -11,8 +11,8 @@ use std::process::Abort;
 use std::sync::ledger::{Blank, Ledger};
 use std::test::Fail;
 
-/// How many bytes of the primary slots and trailers a boot reads of a new device of two images
-/// without requests.
+/// The number of bytes of the primary slots and trailers that the first boot of a new device of two
+/// images reads, without requests.
 fn reads<L: Ledger>(rt: &(impl Abort + AllocGlobal), blank: Blank) -> Result<u64, Fail>
     requires name { blank.name ≡ L.name }
     requires parts { blank.parts ≡ L.parts }
@@ -32,7 +32,7 @@ fn reads_of(rt: &(impl Abort + AllocGlobal)) -> Result<u64, Fail> {
 #[test]
 fn a_plain_boot_reads_each_image_once(rt: HostRuntime) -> Result<(), Fail> {
     let read = reads_of(&rt)?;
-    // Of each image 36 bytes for the digest, then the header, the head of the area, that of its
+    // Of each image: 36 bytes for the digest, the header, the head of the area, the head of its
     // entry, and the digest.
     assert!(rt; read == 2 * (36 + 32 + 4 + 4 + 32));
     Ok(())

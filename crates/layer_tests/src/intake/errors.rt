@@ -1,4 +1,4 @@
-//! The sentences of errors, and the number and name of some that no command prints.
+//! A test of errors: their sentences, and the numbers and names that no command prints.
 
 use manifest::ManifestError;
 use std::test::Fail;

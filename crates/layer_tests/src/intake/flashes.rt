@@ -1,4 +1,4 @@
-//! What a flash in memory says of its slots where it is off, and of entries by their place.
+//! Tests of slots on a flash that is off, and of the entries on a flash, one by one.
 
 ghost use Rattle.std.specs.Prelude.{◌≡◌};
 
@@ -11,7 +11,7 @@ use std::sync::ledger::{Blank, Ledger};
 use std::test::Fail;
 use tlv::{SlotError, SlotTlv, SlotTlvs, Span, describe_file, describe_slot, digest_file};
 
-/// Asserts that of a flash that is off each call says so.
+/// Asserts that each call returns `Off` on a flash that is off.
 fn expect_off<F: Flash>(rt: &impl Abort, flash: &mut F, map: &SectorMap) {
     assert!(rt; map.images == 2 && map.fits(flash) && map.slot_length(0) == 1024);
     let off = Err(SlotError::Flash(FlashError::Off));
@@ -40,12 +40,12 @@ fn a_flash_that_is_off_is_told_as_such(rt: HostRuntime) -> Result<(), Fail> {
     told_off::<Brand>(&rt, rt.alloc(), Blank::new(2))
 }
 
-/// Two entries and a rest of three bytes, from byte 600 of a flash on.
+/// Two entries and three bytes after them, at address 600 of a flash.
 const ENTRIES: [u8; 13] = [
     0x40, 0x00, 0x02, 0x00, 0xaa, 0xbb, 0x50, 0xa0, 0x00, 0x00, 0x10, 0x00, 0x20,
 ];
 
-/// The entries, by their place.
+/// The kinds and places of these entries.
 const PLACES: [Option<SlotTlv>; 3] = [
     Some(SlotTlv {
         kind: 0x40,
@@ -58,7 +58,7 @@ const PLACES: [Option<SlotTlv>; 3] = [
     None,
 ];
 
-/// Two sectors in which these stand.
+/// Two sectors that hold the entries.
 fn two_sectors(alloc: Global) -> Result<Vec<u8>, Fail> {
     let mut bytes = vec![in alloc; 0xff; 600]?;
     bytes.extend_from_slice(&ENTRIES)?;

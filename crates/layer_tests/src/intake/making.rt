@@ -1,4 +1,4 @@
-//! Images that no command makes: with a group of no alternatives, and in little memory.
+//! Tests of images that no command makes: with a group of no alternatives, and in little memory.
 
 use crate::intake::samples::{dependency, spec};
 use common::limits::MOST_DEPENDENCIES;
@@ -7,7 +7,7 @@ use std::test::Fail;
 use tlv::{ImageSpec, MakeError, describe, make_image};
 use version_order::Version;
 
-/// The length of a header, and why no image with it has a group without alternatives.
+/// The length of a header in bytes, and the refusal of an image with it that has an empty group.
 const REFUSALS: [(u16, MakeError); 2] = [
     (32, MakeError::BadGroups),
     (31, MakeError::BadHeaderSize),
@@ -26,9 +26,9 @@ fn a_group_without_alternatives_is_refused_behind_the_header(rt: HostRuntime) {
     }
 }
 
-// A body that takes half the memory at first, or that gives up above some size, meets every
-// clause, since memory may run out at any time. So an image of every limit at once is made where
-// there is room for it once, and not for half of it beside. Its bytes are seen of the program.
+// The contract can't exclude a function that needs more memory than the image, or that fails above
+// some size, because memory may run out at any time. So this makes an image of every limit in a
+// heap that is little larger than the image. Tests of the program check its bytes.
 #[test]
 fn an_image_of_every_limit_is_made_in_room_for_one(rt: HostRuntime) -> Result<(), Fail> {
     let body = vec![in rt.alloc(); 0x5a; 3_000_000]?;

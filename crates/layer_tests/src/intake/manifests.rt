@@ -1,10 +1,10 @@
-//! A manifest for a device of more images than a device file can name.
+//! A test of a manifest for a device with more images than a device file can have.
 
 use manifest::{Identity, Manifest};
 use std::test::Fail;
 use uuid::Uuid;
 
-/// One file of three bytes, for image 254.
+/// The text of a manifest with one file of three bytes, for image 254.
 const LAST: &str = "{\"manifest-version\":1,\"sequence-number\":1,\
     \"vendor-id\":\"886313e1-3b8a-5372-9b90-0c9aee199e5d\",\
     \"class-id\":\"11111111-2222-5333-8444-555555555555\",\"components\":[\

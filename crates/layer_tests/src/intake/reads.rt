@@ -1,4 +1,4 @@
-//! How much of a flash is read to describe a slot of it.
+//! A test of how many bytes of a flash are read to describe a slot.
 
 ghost use Rattle.std.specs.Prelude.{◌≡◌, ◌≤◌};
 
@@ -23,8 +23,8 @@ fn describe_first<F: Flash>(rt: &impl Abort, flash: &mut F) -> Result<(), Fail> 
     Ok(())
 }
 
-/// How many bytes `describe_slot` reads of a slot that holds this image, and how many at once at
-/// most.
+/// The number of bytes that `describe_slot` reads from a slot with this image, in all calls and in
+/// the longest one.
 fn counted<L: Ledger>(
     rt: &(impl Abort + AllocGlobal),
     blank: Blank,
@@ -45,7 +45,7 @@ fn bytes_read(rt: &(impl Abort + AllocGlobal), image: &[u8]) -> Result<(u64, usi
     counted::<Brand>(rt, Blank::new(2), image)
 }
 
-/// An image with a counter, sixteen dependencies and so many groups of four.
+/// An image with a counter, 16 dependencies and `groups` groups of four alternatives.
 fn needing(alloc: Global, groups: usize) -> Result<Vec<u8>, Fail>
     requires { groups ≤ 4 }
 {
@@ -59,10 +59,10 @@ fn needing(alloc: Global, groups: usize) -> Result<Vec<u8>, Fail>
     Ok(make_image(alloc, &asked)?)
 }
 
-/// The length of the protected area of that image without groups.
+/// The length in bytes of the protected area of that image without groups.
 const PROTECTED: u64 = 4 + (4 + 4) + 16 * (4 + 12);
 
-/// How many bytes are read of a slot with each of five images, and how many at once at most.
+/// The number of bytes that are read for each of five images, in all calls and in the longest one.
 const READ: [(u64, usize); 5] = [
     (32 + 900 + 32 + 40, 256),
     (32 + 4 + 28 + 32 + 28 + 40, 64),
@@ -71,9 +71,9 @@ const READ: [(u64, usize); 5] = [
     (36 + 32 + 40 + 4 + 4, 36),
 ];
 
-// What is read: header, body and protected area once for the digest; and once more at most the
-// header, each area's head, the head of each entry, and the values of dependencies, groups, digest
-// and security counter. Other values aren't read.
+// The header, the body and the protected area are read once for the digest. These are read at most
+// once more: the header, the head of each area and entry, and the values of dependencies, groups,
+// digest and security counter. Other values aren't read.
 #[test]
 fn what_is_digested_is_read_once_and_each_entry_once_beside(rt: HostRuntime) -> Result<(), Fail> {
     let (long, many) = (letters(rt.alloc(), 900)?, needing(rt.alloc(), 0)?);

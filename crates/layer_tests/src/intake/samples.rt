@@ -1,11 +1,11 @@
-//! Images for tests, and what they are made of.
+//! Images for tests, and their parts.
 
 use std::alloc::Global;
 use std::test::Fail;
 use tlv::{ImageSpec, make_image};
 use version_order::{Dependency, Version};
 
-/// The version of this major number.
+/// The version with this major number and 0 in all other parts.
 pub(super) fn version(major: u8) -> Version {
     Version {
         major,
@@ -15,7 +15,7 @@ pub(super) fn version(major: u8) -> Version {
     }
 }
 
-/// On image 1 at 2.0.0+0.
+/// A dependency on image 1 with at least version 2.0.0+0.
 pub(super) fn dependency() -> Dependency {
     Dependency {
         image: 1,
@@ -23,7 +23,7 @@ pub(super) fn dependency() -> Dependency {
     }
 }
 
-/// Version 1.0.0+0 with the body ABCD, and these dependencies.
+/// The values of an image of version 1.0.0+0, with the body ABCD and these dependencies.
 pub(super) fn spec(dependencies: &[Dependency]) -> ImageSpec<'_> {
     ImageSpec {
         load_address: 0,
@@ -37,7 +37,7 @@ pub(super) fn spec(dependencies: &[Dependency]) -> ImageSpec<'_> {
     }
 }
 
-/// The image of version 1.0.0+0 with so many letters A.
+/// An image of version 1.0.0+0 whose body is `count` letters A.
 pub(super) fn letters(alloc: Global, count: usize) -> Result<Vec<u8>, Fail> {
     let body = vec![in alloc; 0x41; count]?;
     let asked = ImageSpec {

@@ -1,6 +1,8 @@
-//! Uploads on a flash that has three sectors more than its map: what is behind the map's sectors
-//! stays as it is. The map has 16 sectors of 512 bytes, for two images of two sectors. The secondary
-//! slots begin at 3072 and 4608, and no image runs.
+//! A test of uploads on a flash that has three sectors more than its map: the bytes after the map
+//! don't change.
+//!
+//! The map has 16 sectors of 512 bytes, for two images of two sectors. The secondary slots begin at
+//! the addresses 3072 and 4608, and no image runs.
 
 ghost use Rattle.std.specs.Prelude.{◌≡◌, ◌<◌, IsTrue, length};
 ghost use Rattle.flash_model.specs.Memory.{chip_of};
@@ -22,10 +24,10 @@ use std::sync::ledger::{Blank, Ledger};
 use std::test::Fail;
 use upload::{UploadError, Uploads};
 
-/// What is behind the map's sectors.
+/// The bytes after the map's sectors.
 const MORE: [u8; 1536] = [0xa5; 1536];
 
-/// A manifest of these components.
+/// A manifest with this sequence number and these components.
 fn manifest_of(sequence: u32, named: [Component; 2]) -> Result<Manifest, Fail> {
     let mut components = ArrayVec::new();
     components.try_push(named[0])?;
@@ -47,7 +49,7 @@ fn component(image: u8, size: u32, digest: [u8; 32]) -> Component {
     }
 }
 
-/// Whether the components name images of the map.
+/// Whether the map has each image that the components name.
 fn are_there(map: &SectorMap, components: &[Component]) -> bool
     ensures { IsTrue result → AreThere map.now components.now }
 {
@@ -59,7 +61,7 @@ fn are_there(map: &SectorMap, components: &[Component]) -> bool
     true
 }
 
-/// What is asked of uploads.
+/// A call on uploads.
 #[derive(Clone, Copy)]
 enum Step<'a> {
     Accept(&'a Manifest),
@@ -68,7 +70,7 @@ enum Step<'a> {
     Withdraw(u8),
 }
 
-/// Does a step.
+/// Makes the call of a step.
 fn take<F: Flash>(
     rt: &impl Abort,
     uploads: &mut Uploads,
@@ -94,8 +96,8 @@ fn take<F: Flash>(
 
 const DONE: Result<(), UploadError> = Ok(());
 
-/// Does steps, each of which has to answer what stands beside it, and to leave what is behind the
-/// map's sectors.
+/// Makes the calls of steps. Each has to return the expected result, and to leave the bytes after
+/// the map's sectors unchanged.
 fn play<L: Ledger>(
     rt: &impl Abort,
     uploads: &mut Uploads,
@@ -113,14 +115,14 @@ fn play<L: Ledger>(
     Ok(())
 }
 
-/// The bytes of a flash that is erased, and what is behind the map's sectors.
+/// The bytes of a flash: those of the map are erased, and `MORE` follows them.
 fn longer(alloc: Global) -> Result<Vec<u8>, Fail> {
     let mut bytes = vec![in alloc; 0xff; 8192]?;
     bytes.extend_from_slice(&MORE)?;
     Ok(bytes)
 }
 
-/// A flash that is longer than its map by three sectors, with a log that was begun.
+/// A flash that is longer than its map by three sectors, with a new log of sequence number 3.
 fn begun<L: Ledger>(
     rt: &(impl Abort + AllocGlobal),
     blank: Blank,
@@ -144,7 +146,7 @@ fn begun<L: Ledger>(
     Ok(flash)
 }
 
-/// Refuses a file for an image that is to follow one, where none runs.
+/// A manifest is refused if one of its files has a precursor and no image runs.
 fn refuse_follower<L: Ledger>(
     rt: &impl Abort,
     uploads: &mut Uploads,
@@ -167,7 +169,7 @@ fn refuse_follower<L: Ledger>(
     )
 }
 
-/// Uploads two images, and withdraws one.
+/// Uploads two images, then withdraws one request.
 fn upload_both<L: Ledger>(
     rt: &impl Abort,
     uploads: &mut Uploads,
@@ -191,7 +193,7 @@ fn upload_both<L: Ledger>(
     play(rt, uploads, flash, map, &steps)
 }
 
-/// Uploads others in their place, which fill their slots.
+/// Uploads files that fill their slots.
 fn upload_others<L: Ledger>(
     rt: &impl Abort,
     uploads: &mut Uploads,
@@ -213,7 +215,7 @@ fn upload_others<L: Ledger>(
     play(rt, uploads, flash, map, &steps)
 }
 
-/// Does all this on a flash that is longer than its map.
+/// Makes all these uploads on a flash that is longer than its map.
 fn uploaded<L: Ledger>(rt: &(impl Abort + AllocGlobal), blank: Blank) -> Result<(), Fail>
     requires name { blank.name ≡ L.name }
     requires parts { blank.parts ≡ L.parts }

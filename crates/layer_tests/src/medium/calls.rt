@@ -1,4 +1,4 @@
-//! Calls on a flash of four sectors of eight bytes, one after the other, and what they leave.
+//! Calls on a flash of four sectors of eight bytes, and the bytes that they leave.
 
 ghost use Rattle.std.specs.Prelude.{◌≡◌};
 
@@ -19,12 +19,12 @@ pub enum Call {
     Restart,
 }
 
-/// A call, and what it has to answer.
+/// A call and its expected result.
 pub type Answered = (Call, Result<()>);
 
 const SIXTEEN: [u8; 16] = [1, 2, 3, 4, 5, 6, 7, 8, 9, 10, 11, 12, 13, 14, 15, 16];
 
-/// What comes of a call, where the flash may be asked for it.
+/// Makes a call and returns its result. `None` if the contract of the flash doesn't allow the call.
 fn answer<F: Flash>(flash: &mut F, call: Call) -> Option<Result<()>> {
     if flash.sector_size() != 8 || flash.sectors() != 4 {
         return None;
@@ -49,7 +49,7 @@ fn answer<F: Flash>(flash: &mut F, call: Call) -> Option<Result<()>> {
     }
 }
 
-/// Makes these calls, and tells whether each answered what stands beside it.
+/// Makes these calls in order, and returns whether each had its expected result.
 pub fn are_answered<F: Flash>(flash: &mut F, calls: &[Answered]) -> bool {
     let mut are_right = true;
     for (call, wanted) in calls {
@@ -58,7 +58,7 @@ pub fn are_answered<F: Flash>(flash: &mut F, calls: &[Answered]) -> bool {
     are_right
 }
 
-/// The bytes of a flash, eight in a number, the first one on top.
+/// The bytes of a flash as numbers of eight bytes each, big-endian.
 pub fn words_of(bytes: &[u8]) -> [u64; 4] {
     let mut words = [0; 4];
     for (at, byte) in bytes.iter().enumerate() {
@@ -68,8 +68,8 @@ pub fn words_of(bytes: &[u8]) -> [u64; 4] {
     words
 }
 
-/// A sector that is erased, and one that isn't; both that are programmed; and both that are torn
-/// into the bytes 5a a5 00.
+/// The sectors of these flashes: an erased one, an old one whose bytes are 7, the two that a
+/// program writes, and these two torn into the bytes 5a a5 00, repeated.
 const FREE: u64 = 0xffff_ffff_ffff_ffff;
 
 const USED: u64 = 0x0707_0707_0707_0707;
@@ -89,8 +89,8 @@ pub const PROGRAMMED: [u64; 4] = [FREE, FIRST, SECOND, FREE];
 
 pub const TORN_PROGRAM: [u64; 4] = [FREE, TORN, TORN_TOO, FREE];
 
-/// A flash of which each byte is 7, after erases of the sectors named, after one that was torn, and
-/// after a program.
+/// A flash whose bytes were all 7: unchanged, after erases of the sectors in the name, after a torn
+/// erase, and after a program.
 pub const OLD: [u64; 4] = [USED; 4];
 
 pub const ERASED_1: [u64; 4] = [USED, FREE, USED, USED];

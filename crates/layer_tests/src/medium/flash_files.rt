@@ -1,5 +1,4 @@
-//! What a caller of a flash in a file sees, where a write of the file fails and where one is cut,
-//! by the bytes written out.
+//! A test of a flash in a file: a write of the file fails, or a write of the flash is cut.
 
 ghost use Rattle.std.specs.Prelude.{◌≡◌, ◌+◌, ◌≤◌, Some};
 
@@ -14,13 +13,13 @@ use std::io::ErrorKind;
 use std::marker::Brand;
 use std::sync::ledger::{Blank, Ledger};
 
-/// A file in memory that keeps count of its writes. One of them can fail, and then changes nothing.
+/// A file in memory that counts its writes. One of them can fail, and then changes nothing.
 #[derive(Drop)]
 struct RecordedFile {
     bytes: Vec<u8>,
-    /// How many writes came, also those that failed; where the last one began, and its length.
+    /// The number of writes, also of failed ones, and the address and the length of the last one.
     writes: [usize; 3],
-    /// Which one fails, counted from 1.
+    /// The number of the write that fails, counted from 1; 0 if none does.
     failing: usize,
 }
 
@@ -39,8 +38,9 @@ impl FlashFile for RecordedFile {
     }
 }
 
-/// A write that is cut and leaves what it was to leave, a write of the file that fails, the calls,
-/// and what is seen then: the bytes of the flash and of the file, and the writes of the file.
+/// A scenario: the write of the flash that is cut although it is complete, the write of the file
+/// that fails, and the calls. Then the expected bytes of the flash and of the file, and the writes
+/// of the file.
 struct Story {
     cut: u8,
     failing: usize,
@@ -50,7 +50,7 @@ struct Story {
     writes: [usize; 3],
 }
 
-/// Whether a flash and its file are at the end of a story.
+/// Whether a flash and its file are as expected at the end of a scenario.
 fn is_at_end<L: Ledger, M: Ledger>(flash: &FileFlash<RecordedFile, L, M>, story: &Story) -> bool {
     let file = flash.file();
     flash.has_failed()
@@ -59,7 +59,7 @@ fn is_at_end<L: Ledger, M: Ledger>(flash: &FileFlash<RecordedFile, L, M>, story:
         && file.writes == story.writes
 }
 
-/// Whether a story is seen so, of a flash over a file with other bytes than erased ones.
+/// Whether a scenario has its expected outcome, on a flash whose bytes are all 7.
 fn is_told<L: Ledger, M: Ledger>(
     alloc: Global,
     blanks: (Blank, Blank),
@@ -88,7 +88,8 @@ fn is_seen(alloc: Global, story: &Story) -> Result<bool, AllocError> {
     is_told::<Brand, Brand>(alloc, (Blank::new(2), Blank::new(2)), story)
 }
 
-/// A program that fails in the file, and a write that is cut twice over, which is cut once.
+/// A program that fails in the file; and an erase that is cut and also fails in the file: it counts
+/// as one cut.
 const STORIES: [Story; 2] = [
     Story {
         cut: 0,

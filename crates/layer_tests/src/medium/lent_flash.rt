@@ -1,5 +1,4 @@
-//! What a flash leaves in bytes that are lent to it, seen once it is gone, by the bytes written
-//! out.
+//! Tests of a flash over borrowed bytes: the bytes after the flash is dropped.
 
 ghost use Rattle.std.specs.Prelude.{◌≡◌, ◌+◌, ◌<◌, ◌≤◌, ◌⊎◌, ℕ, length, slice_index, IsTrue};
 
@@ -13,7 +12,7 @@ use std::alloc::{AllocError, Global};
 use std::marker::Brand;
 use std::sync::ledger::{Blank, Ledger};
 
-/// Makes these calls on a flash over the bytes, and tells whether each answered as it has to.
+/// Makes these calls on a flash over the bytes, and returns whether each had its expected result.
 fn play<L: Ledger>(
     blank: Blank,
     bytes: &mut [u8],
@@ -29,8 +28,7 @@ fn play<L: Ledger>(
     are_answered(&mut flash, calls)
 }
 
-/// Whether bytes that were all the same are those wanted after these calls, each of which answered
-/// as it has to.
+/// Whether the calls of a row have their expected results and leave the expected bytes.
 fn are_left(alloc: Global, row: &Played) -> Result<bool, AllocError> {
     let (before, cuts, calls, wanted) = row;
     let mut table = Vec::new(alloc);
@@ -45,8 +43,8 @@ fn are_left(alloc: Global, row: &Played) -> Result<bool, AllocError> {
     Ok(are_answered && words_of(&bytes) == *wanted)
 }
 
-/// Each byte before, the writes that are cut and what they leave, the calls, and the bytes in the
-/// end.
+/// A row: the value of each byte before, the writes that are cut and what they leave, the calls,
+/// and the bytes after them.
 type Played = (
     u8,
     &'static [(u64, Left<'static>)],
@@ -62,8 +60,8 @@ const TORN: Left<'static> = Left::Bytes(&[0x5a, 0xa5, 0x00]);
 
 const NO_BYTES: Left<'static> = Left::Bytes(&[]);
 
-/// A program and an erase that are cut in each way; writes that the table doesn't name; writes that
-/// are refused; and two rows for a write.
+/// Eight rows cut a program or an erase in each way. The others have writes that the table doesn't
+/// list, writes that are refused, and two table entries for one write.
 const PLAYED: [Played; 11] = [
     (0xff, &[(1, Left::Keep)], PROGRAM, ERASED),
     (0xff, &[(1, Left::Done)], PROGRAM, PROGRAMMED),
@@ -115,9 +113,10 @@ fn writes_are_cut_as_the_first_row_for_them_says(rt: HostRuntime) -> Result<(), 
     Ok(())
 }
 
-/// Sets the second unit of bytes that are lent, where it is erased, and tells whether it did. Both
-/// calls of the flash are generic in it, and what they leave is known of the bytes once the flash
-/// is gone.
+/// Sets the second unit of borrowed bytes if it is erased, and returns whether it did.
+///
+/// Both calls are generic in the flash. Nevertheless the contract knows the bytes after the flash
+/// is dropped.
 fn set_second_unit<L: Ledger>(blank: Blank, bytes: &mut [u8]) -> bool
     requires name { blank.name ≡ L.name }
     requires parts { blank.parts ≡ L.parts }

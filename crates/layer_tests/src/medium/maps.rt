@@ -1,11 +1,11 @@
-//! The places of small maps, masks, and what is said of sizes that make no map.
+//! Tests of the places in small maps, of masks, and of the sentences for sizes that make no map.
 
 ghost use Rattle.std.specs.Prelude.{◌<◌};
 
 use sector_map::{MapError, SectorMap, Side, is_member, is_within, mask_of, parts_lie_apart};
 use std::alloc::AllocError;
 
-/// The first sector of a slot and of its trailer, and their addresses.
+/// The first sectors of a slot and of its trailer, and their addresses in bytes.
 fn places_of(map: &SectorMap, image: u8, side: Side) -> [u32; 4]
     requires { image < map.now.images }
 {
@@ -17,8 +17,9 @@ fn places_of(map: &SectorMap, image: u8, side: Side) -> [u32; 4]
     ]
 }
 
-/// Scratch, the first sector of the log and the last one, all sectors, all bytes, the places of a
-/// sector of the log, and the addresses of scratch, of the first place and of the last unit.
+/// The other numbers of a map: the sectors of scratch and of the log's first and last sector; the
+/// numbers of sectors, of bytes, and of places in a sector of the log; and the addresses of scratch
+/// and of the last closing unit.
 fn others_of(map: &SectorMap) -> [u32; 8] {
     [
         map.scratch(),

@@ -1,4 +1,4 @@
-//! Cuts of a flash in memory, its counts, and what is erased, with the bytes written out.
+//! Tests of a flash in memory: its cuts, its counts, and the check for erased bytes.
 
 ghost use Rattle.std.specs.Prelude.{◌≡◌};
 
@@ -10,9 +10,9 @@ use std::alloc::{AllocError, Global};
 use std::marker::Brand;
 use std::sync::ledger::{Blank, Ledger};
 
-/// Each byte before, the writes that are done before any is armed, the writes that are armed then
-/// and the bytes that they leave, the calls, the bytes in the end, and the writes and erases in
-/// all.
+/// A scenario: the value of each byte before, the calls before a cut is armed, the armed writes
+/// with the bytes that they leave, and the further calls. Then the expected bytes, and the expected
+/// numbers of writes and of completed erases.
 struct Story {
     before: u8,
     done: &'static [Answered],
@@ -34,7 +34,7 @@ fn arm<L: Ledger>(
     Ok(())
 }
 
-/// Whether a story is told so.
+/// Whether a scenario has its expected outcome.
 fn is_told<L: Ledger>(alloc: Global, blank: Blank, story: &Story) -> Result<bool, AllocError>
     requires name { blank.name ≡ L.name }
     requires parts { blank.parts ≡ L.parts }
@@ -53,9 +53,9 @@ fn is_seen(alloc: Global, story: &Story) -> Result<bool, AllocError> {
     is_told::<Brand>(alloc, Blank::new(2), story)
 }
 
-/// An erase that is torn; a program and an erase that are torn into no bytes; and an erase of which
-/// the first of two arms counts, beside arms for no write and for one that is over, behind which
-/// one is refused and one more is done.
+/// The first scenario tears an erase. Two tear a program and an erase into no bytes. The last one
+/// has two arms for one erase, of which the first counts, an arm for write 0, and one for a past
+/// write; after the cut a call is refused, and after the restart an erase is done.
 const STORIES: [Story; 4] = [
     Story {
         before: 0x07,
@@ -106,7 +106,8 @@ fn cuts_leave_what_was_armed_and_are_counted(rt: HostRuntime) -> Result<(), Allo
     Ok(())
 }
 
-/// Whether so many bytes from 8 on are erased, of 264 that are but for the one at `set`.
+/// Whether `len` bytes from address 8 on are erased. Of 264 bytes only the one at `set` isn't
+/// erased.
 fn is_erased_up_to<L: Ledger>(
     alloc: Global,
     blank: Blank,

@@ -1,4 +1,4 @@
-//! Calls on trailers, on the log and on slots, on a flash in memory for two images of two sectors.
+//! Calls on trailers, the log and slots of a flash in memory, for two images of two sectors.
 
 ghost use Rattle.std.specs.Prelude.{◌≡◌};
 
@@ -14,7 +14,7 @@ use std::test::Fail;
 use swap_scratch::swap_set;
 use trailer::{Kind, Magic, Settling, clear, read_trailer, request, set_ok, settle, withdraw};
 
-/// A call, on a trailer or a slot of image 0 where it names none.
+/// A call. If it names no image, it is on a trailer or a slot of image 0.
 #[derive(Clone, Copy)]
 pub(super) enum Call {
     /// Clears the secondary trailer and requests the image.
@@ -24,14 +24,14 @@ pub(super) enum Call {
     Settle(Settling),
     /// Swaps a set of images.
     Swap(u8),
-    /// Begins a log with a steady state of this sequence number.
+    /// Starts a log with a steady state of this sequence number.
     Begin(u32),
-    /// Appends such a state, or begins a log with it where there is none.
+    /// Appends such a state, or starts a log with it if there is no log.
     Append(u32),
 }
 
-/// What calls leave: the answer of the last one, how many writes and completed erases there were,
-/// and the bytes.
+/// The outcome of calls: the result of the last one, the numbers of writes and of completed erases,
+/// and the bytes of the flash.
 pub(super) type Outcome = (Result<()>, u64, u64, Vec<u8>);
 
 /// Makes a call on a log.
@@ -72,7 +72,7 @@ fn make<F: Flash>(rt: &impl Abort, flash: &mut F, map: &SectorMap, call: Call) -
     }
 }
 
-/// Makes calls on a flash of these bytes, whose write of this number is cut and leaves this.
+/// Makes calls on a flash of these bytes. The write with the number `cut` is cut and leaves `torn`.
 fn made<L: Ledger>(
     rt: &(impl Abort + AllocGlobal),
     blank: Blank,
@@ -96,8 +96,8 @@ fn made<L: Ledger>(
     Ok((last, flash.writes(), flash.erases(), bytes))
 }
 
-/// What calls leave on a flash of these bytes, whose write of this number is cut and leaves this.
-/// Writes are counted from 1.
+/// The outcome of calls on a flash of these bytes. The write with the number `cut`, counted from 1,
+/// is cut and leaves `torn`.
 pub(super) fn torn_outcome_of(
     rt: &(impl Abort + AllocGlobal),
     bytes: Vec<u8>,
@@ -108,8 +108,8 @@ pub(super) fn torn_outcome_of(
     made::<Brand>(rt, Blank::new(2), bytes, cut, torn, calls)
 }
 
-/// What calls leave on a flash of these bytes, whose write of this number is cut and changes
-/// nothing.
+/// The outcome of calls on a flash of these bytes. The write with the number `cut`, counted from 1,
+/// is cut and changes nothing.
 pub(super) fn outcome_of(
     rt: &(impl Abort + AllocGlobal),
     bytes: Vec<u8>,
@@ -119,7 +119,7 @@ pub(super) fn outcome_of(
     torn_outcome_of(rt, bytes, cut, Torn::Keep, calls)
 }
 
-/// Reads a flash of these bytes.
+/// Reads both values of `read_of`.
 fn read<L: Ledger>(
     rt: &(impl Abort + AllocGlobal),
     blank: Blank,
@@ -143,8 +143,8 @@ fn read<L: Ledger>(
     Ok((sequence, magic))
 }
 
-/// What is read of a flash of these bytes: the sequence number of its state, and the magic of the
-/// secondary trailer of image 0.
+/// Two values that are read from a flash of these bytes: the sequence number of its state, and the
+/// magic of the secondary trailer of image 0.
 pub(super) fn read_of(
     rt: &(impl Abort + AllocGlobal),
     bytes: Vec<u8>,

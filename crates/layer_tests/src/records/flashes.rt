@@ -1,5 +1,7 @@
-//! Flashes that are longer than their map or off, logs begun on any bytes, and sets of no image. Of
-//! each image the primary trailer is in sector 2 or 5.
+//! Tests of flashes that are longer than their map or off, of logs that are started on any bytes,
+//! and of a swap of no image.
+//!
+//! The primary trailers of the two images are in sectors 2 and 5.
 
 use super::calls::{Call, outcome_of};
 use flash_model::FlashError;
@@ -7,12 +9,12 @@ use std::alloc::Global;
 use std::test::Fail;
 use trailer::{Kind, Settling};
 
-/// A byte that isn't 0xFF, by its address.
+/// The byte at an address. It isn't 0xFF.
 pub(super) fn odd_byte(at: u16) -> u8 {
     (at % 251) as u8
 }
 
-/// So many bytes, none of which is 0xFF but those of sector 2 and of sector 5.
+/// `count` bytes. Those of sectors 2 and 5 are 0xFF, and no other byte is.
 pub(super) fn odd_bytes(alloc: Global, count: u16) -> Result<Vec<u8>, Fail> {
     let mut bytes = vec![in alloc; 0; 0]?;
     for at in 0..count {
@@ -22,7 +24,7 @@ pub(super) fn odd_bytes(alloc: Global, count: u16) -> Result<Vec<u8>, Fail> {
     Ok(bytes)
 }
 
-/// Every kind of call.
+/// Each kind of call.
 const KINDS: [Call; 10] = [
     Call::Swap(0b11),
     Call::Request(Kind::Test),
@@ -36,7 +38,7 @@ const KINDS: [Call; 10] = [
     Call::Begin(1),
 ];
 
-/// Every kind of call, as many appends as pass through the whole ring, and one call more.
+/// Each kind of call, enough appends to use all sectors of the log, and one further call.
 fn every_call(alloc: Global) -> Result<Vec<Call>, Fail> {
     let mut calls = Vec::from_slice(alloc, &KINDS)?;
     calls.extend_from_slice(&[Call::Append(1); 22])?;
@@ -56,7 +58,7 @@ fn sectors_behind_those_of_the_map_stay(rt: HostRuntime) -> Result<(), Fail> {
     Ok(())
 }
 
-/// The place of a log that has a steady state, and a closing unit that is set.
+/// The place of a record with a steady state, and a closing unit that is set.
 const PLACE: [u8; 64] = [
     1, 0, 0, 0, 1, 0, 0, 0, 0, 0, 0, 0, 5, 0, 0, 0, 0, 0, 0, 0, 0, 0, 0, 0, 0, 0, 0, 0, 0, 0, 0, 0,
     0, 0, 0, 0, 0, 0, 0, 0, 0, 0, 0, 0, 0, 0, 0, 0, 0, 0, 0, 0, 0, 0, 0, 0, 1, 0xff, 0xff, 0xff,
@@ -89,7 +91,7 @@ fn a_swap_of_no_image_writes_nothing(rt: HostRuntime) -> Result<(), Fail> {
     Ok(())
 }
 
-/// Swaps one after the other.
+/// Three swaps in a row.
 const SWAPS: [Call; 3] = [Call::Swap(0b01); 3];
 
 #[test]

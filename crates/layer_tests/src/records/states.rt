@@ -1,4 +1,4 @@
-//! A state, the laws of the log and of swaps, and the errors of the log.
+//! Tests of the laws of the log and of swaps, and of the log's errors; and a state for other tests.
 
 use flash_model::FlashError;
 use sector_map::SectorMap;
@@ -9,7 +9,7 @@ use set_log::{
 use std::test::Fail;
 use swap_scratch::swap_laws;
 
-/// A device in the midst of nothing, whose second image may not have a counter below 5.
+/// A steady device. The security counter of its second image must be at least 5.
 pub(super) const STEADY: State = State {
     kind: RecordKind::Steady,
     mask: 0,

@@ -1,6 +1,7 @@
-//! Calls of which a cut tears a write, and a swap that goes on. Of image 0 the primary slot is in
-//! sectors 0 and 1, its trailer in 2, the secondary slot in 6 and 7; scratch is 12, and the log
-//! begins at 13.
+//! Tests of calls in which a power cut tears a write, and of a swap that continues.
+//!
+//! The primary slot of image 0 is in sectors 0 and 1, its trailer in sector 2, and the secondary
+//! slot in sectors 6 and 7. Scratch is sector 12, and the log begins at sector 13.
 
 use super::calls::{Call, outcome_of, read_of, torn_outcome_of};
 use super::flashes::{odd_byte, odd_bytes};
@@ -9,7 +10,7 @@ use std::alloc::Global;
 use std::test::Fail;
 use trailer::{Kind, Magic};
 
-/// A log of so many states, whose sequence numbers count on from this one.
+/// The calls that write a log of `count` states, with rising sequence numbers from `first` on.
 fn log_of(alloc: Global, first: u8, count: u8) -> Result<Vec<Call>, Fail> {
     let mut calls = vec![in alloc; Call::Begin(u32::from(first))]?;
     for later in 1..count {
@@ -20,7 +21,8 @@ fn log_of(alloc: Global, first: u8, count: u8) -> Result<Vec<Call>, Fail> {
 
 #[test]
 fn an_erase_that_leaves_later_records_leaves_the_older_state(rt: HostRuntime) -> Result<(), Fail> {
-    // The first sector has seven records, which fill it, and the second one more; or seven later.
+    // In `eight` seven records fill the first sector, and one is in the second. `later` has seven
+    // records with higher sequence numbers.
     let (eight, later) = (log_of(rt.alloc(), 1, 8)?, log_of(rt.alloc(), 11, 7)?);
     let odd = odd_bytes(rt.alloc(), 8192)?;
     let later = outcome_of(&rt, odd, 0, later.as_slice())?;
@@ -44,9 +46,10 @@ fn a_magic_that_is_torn_is_bad(rt: HostRuntime) -> Result<(), Fail> {
     Ok(())
 }
 
-/// The byte at an address of a flash on which the swap of image 0 has two steps left: index 1 is
-/// swapped, scratch has the old bytes of the secondary slot's first sector, that sector has any
-/// bytes, and four status units are set. Or that byte once the swap is done.
+/// The byte at an address of a flash on which the swap of image 0 has two steps left, or is done.
+///
+/// With two steps left, the sectors with index 1 are swapped and four status units are set. Scratch
+/// has the old bytes of the secondary slot's first sector, and that sector has any bytes.
 fn swap_byte(at: u16, is_done: bool) -> u8 {
     let set = if is_done { 48 } else { 32 };
     match at / 512 {
@@ -58,7 +61,7 @@ fn swap_byte(at: u16, is_done: bool) -> u8 {
     }
 }
 
-/// The bytes of such a flash.
+/// All bytes of such a flash.
 fn swap_bytes(alloc: Global, is_done: bool) -> Result<Vec<u8>, Fail> {
     let mut bytes = vec![in alloc; 0; 0]?;
     for at in 0..8192 {

@@ -1,18 +1,18 @@
-//! The steps that a choice counts.
+//! Tests of the steps that a choice counts.
 
 use certificate::{Table, is_valid};
 use chooser::{Steps, choose_counted};
 use std::test::Fail;
 
-/// What was counted before each choice.
+/// The counts before each choice.
 const BEFORE: Steps = Steps {
     passes: 10,
     drops: 20,
     looks: 30,
 };
 
-/// What is counted after the choice over the table of a text: as before, where its running images
-/// don't fit each other.
+/// The counts after the choice for a table, which is a text. They are unchanged if its running
+/// images don't fit each other.
 fn steps_after(text: &str) -> Result<Steps, Fail> {
     let table = Table::parse(text.as_bytes())?;
     let mut steps = BEFORE;
@@ -34,8 +34,8 @@ const DEPENDENT: &str = "image 0 1.0.0+0 0 0\n\
     request 2.0.0+0 0\n\
     needs 1 2.0.0+0\n";
 
-/// The pass marks image 2. Its drop leads to a look at image 0, which has it as an alternative, and
-/// which is dropped too.
+/// The pass marks image 2. Its drop leads to a look at image 0, which has it as an alternative.
+/// Image 0 is dropped too.
 const ALTERNATIVE: &str = "image 0 1.0.0+0 0 0\n\
     request 2.0.0+0 0\n\
     needs-one 1 2.0.0+0 2 2.0.0+0\n\
@@ -61,18 +61,18 @@ fn a_drop_leads_to_a_look_at_what_names_it(rt: HostRuntime) -> Result<(), Fail> 
     Ok(())
 }
 
-/// What runs of each image, behind its number, and its request.
+/// The lines of an image after its number: its running version, and its request.
 const IMAGE: &str = " 1 0 0\nrequest 2 0\n";
 
-/// What each request needs behind its first dependency: every image as it runs, as often as there
-/// is room.
+/// The further dependencies of each request: every running image, until the entry has its 16
+/// dependencies.
 const RUNNING: &str = "needs 0 1\nneeds 1 1\nneeds 2 1\nneeds 3 1\nneeds 4 1\nneeds 5 1\n\
     needs 6 1\nneeds 7 1\nneeds 0 1\nneeds 1 1\nneeds 2 1\nneeds 3 1\nneeds 4 1\nneeds 5 1\n\
     needs 6 1\n";
 
 #[test]
 fn eight_requests_that_fall_one_by_one_take_28_looks(rt: HostRuntime) -> Result<(), Fail> {
-    // Each request but the last needs the next one, and the last needs what can't come.
+    // Each request needs the next one. The last one needs a version that nobody requests.
     let text = format!(in rt.alloc();
         "image 0{IMAGE}needs 1 2\n{RUNNING}\
         image 1{IMAGE}needs 2 2\n{RUNNING}image 2{IMAGE}needs 3 2\n{RUNNING}\

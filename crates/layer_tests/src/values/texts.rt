@@ -1,12 +1,12 @@
-//! Texts, numbers and names that no command prints.
+//! Tests of texts, numbers and names that no command prints.
 
 use certificate::{BadReport, BadTable, Table};
 use image_header::HeaderError;
 use std::test::Fail;
 use version_order::BadVersion;
 
-/// What is said of a table from line 3 on, of a report from the last line on, of a text that spells
-/// no version, and of a header.
+/// The sentences for a table that is bad from line 3 on, for a report that is bad from the last
+/// possible line on, for a text that isn't a version, and for a header.
 const SAID: &str = "no table continues with line 3\n\
     no report continues with line 18446744073709551615\n\
     not a version: write major.minor.revision+build in decimal without leading zeros, as 1.4.0+7; \
@@ -52,12 +52,12 @@ fn a_table_is_printed(rt: HostRuntime) -> Result<(), Fail> {
     Ok(())
 }
 
-/// What runs of a full image, behind its number, and what is requested: the largest numbers.
+/// The running version of an image, after its number, and its request, with the largest numbers.
 const RUNNING: &str = " 255.255.65535+4294967295 4294967295 4294967295\n";
 
 const REQUEST: &str = "request 255.255.65535+4294967295 4294967295\n";
 
-/// What each of them needs: as many dependencies and groups as there is room for.
+/// The needs of each: the largest number of dependencies and groups.
 const NEEDS: &str = "needs 255 255.255.65535+4294967295\n\
     needs 255 255.255.65535+4294967295\n\
     needs 255 255.255.65535+4294967295\n\
