@@ -1,5 +1,5 @@
-//! Times the proved crates, as a static library, against a plain implementation, and prints ratios
-//! alone.
+//! Times the proved crates, as a static library, against a plain implementation, and prints the
+//! ratios.
 
 mod inputs;
 mod plain_choice;
@@ -14,24 +14,24 @@ use std::path::{Path, PathBuf};
 use std::process::{Command, ExitCode, Stdio};
 use timing::Rounds;
 
-/// The most that describing an image of a megabyte may take, measured by its digest alone.
+/// The largest ratio of the time to describe an image of 1 MiB to the time of its digest alone.
 const MOST_OVER_DIGEST: f64 = 1.05;
 
-/// The most that describing a slot with that image may take, measured by the same.
+/// The largest ratio of the time to describe a slot with that image to the time of the digest.
 const MOST_OVER_DIGEST_IN_SLOT: f64 = 1.1;
 
-/// How many calls a time in a slot is taken of, beside the one that comes with the flash's making.
+/// The number of timed descriptions of a slot, in addition to the one after making the flash.
 const SLOT_CALLS: u32 = 8;
 
 const MEGABYTE: usize = 1 << 20;
 
-/// How many random images, and how many random tables, both sides are asked about.
+/// The number of random images, and of random tables, for which both sides are compared.
 const RANDOM_INPUTS: usize = 100_000;
 
-/// How many megabytes the machine's `sha256sum` is given.
+/// The number of MiB that the machine's `sha256sum` hashes.
 const SHA256SUM_MEGABYTES: u32 = 200;
 
-/// How often `sha256sum` is run.
+/// The number of runs of `sha256sum`.
 const SHA256SUM_ROUNDS: usize = 5;
 
 fn main() -> ExitCode {
@@ -73,8 +73,8 @@ fn is_below(name: &str, over_digest: f64, limit: f64) -> bool {
     kept
 }
 
-/// Prints how often describing a slot with an image of a megabyte holds the time of its digest, and
-/// returns it.
+/// Prints and returns the ratio of the time to describe a slot with an image of 1 MiB to the time
+/// of its digest.
 fn time_slot() -> f64 {
     let image = inputs::image(MEGABYTE);
     let (bytes, hashed) = (&image.bytes[..], &image.bytes[..image.hashed]);
@@ -88,8 +88,8 @@ fn time_slot() -> f64 {
     ratio
 }
 
-/// Prints how many bytes are read to describe a slot with the images of the most dependencies and
-/// groups, and answers whether each slot is read as much as it has to be, and no more.
+/// Prints the number of bytes that are read to describe slots with the largest numbers of
+/// dependencies and groups. Returns whether no byte is read that isn't needed.
 fn counts_reads() -> bool {
     let full = inputs::full_image();
     let read = proved::slot_reads(&full.bytes);
@@ -119,7 +119,7 @@ fn counts_reads() -> bool {
     })
 }
 
-/// Both sides answer the same to intact and to damaged images.
+/// Checks that both sides return the same for intact and for damaged images.
 fn expect_same_answers() {
     for body_size in [0, 1, 1 << 16, MEGABYTE] {
         let image = inputs::image(body_size);
@@ -143,7 +143,7 @@ fn expect_same_answers() {
         );
     }
     let mut random = Random::new();
-    // How often each answer came: 0 for an intact image, else the number of the check that fails.
+    // The count of each result: 0 for an intact image, else the number of the check that fails.
     let mut seen = [0; 16];
     for _ in 0..RANDOM_INPUTS {
         let bytes = inputs::damaged_image(&mut random);
@@ -162,7 +162,7 @@ fn expect_same_answers() {
     );
 }
 
-/// Both sides choose the same from the full table and from random tables.
+/// Checks that both sides choose the same for the full table and for random tables.
 fn expect_same_choices() {
     let table = inputs::full_table();
     let all_refused = 8 * 256;
@@ -174,8 +174,8 @@ fn expect_same_choices() {
     assert!(proved::check(table.as_bytes(), report.as_bytes()));
     assert!(!proved::check(table.as_bytes(), table.as_bytes()));
     let mut random = Random::new();
-    // How often none and some were taken, and how often there was no table and no valid running
-    // set.
+    // The counts of choices that took no request, that took some, of malformed tables, and of
+    // invalid running sets.
     let mut seen = [0; 4];
     for _ in 0..RANDOM_INPUTS {
         let table = inputs::random_table(&mut random);
@@ -198,7 +198,7 @@ fn plain_digest_number(bytes: &[u8]) -> u64 {
     u64::from_be_bytes(digest[..8].try_into().expect("eight bytes"))
 }
 
-/// Prints the ratios of one image, and returns that of `describe` over the proved digest alone.
+/// Prints the ratios for one image, and returns that of `describe` to the proved digest alone.
 fn time_image(name: &str, body_size: usize) -> f64 {
     let image = inputs::image(body_size);
     let (bytes, hashed) = (&image.bytes[..], &image.bytes[..image.hashed]);
@@ -246,7 +246,7 @@ fn time_choice() {
     );
 }
 
-/// Prints the ratio of the proved digest to the machine's `sha256sum`, where there is one.
+/// Prints the ratio of the proved digest to the machine's `sha256sum`, if there is this command.
 fn time_sha256sum(folder: &Path) {
     let megabyte = inputs::image(MEGABYTE).bytes;
     let file = folder.join("megabytes");

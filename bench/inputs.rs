@@ -1,4 +1,4 @@
-//! What both sides are given: images, tables, and damaged ones.
+//! Inputs for both sides: images and tables, also damaged ones.
 
 use crate::plain_digest::sha256;
 use crate::plain_image::{
@@ -27,27 +27,26 @@ impl Random {
 /// An intact image.
 pub struct Image {
     pub bytes: Vec<u8>,
-    /// How many of the bytes the digest is taken of: header, body and protected area.
+    /// The number of hashed bytes: header, body and protected area.
     pub hashed: usize,
 }
 
-/// An intact image with a body of so many bytes, a security counter and two dependencies.
+/// An intact image with a body of this number of bytes, a security counter and two dependencies.
 pub fn image(body_size: usize) -> Image {
     image_of(body_size, 1, 2, 0, 1)
 }
 
-/// An intact image without a body, with a security counter and as many dependencies as an image may
-/// have.
+/// An intact image without a body, with a security counter and the largest number of dependencies.
 pub fn full_image() -> Image {
     image_of(0, 1, 16, 0, 1)
 }
 
-/// The same with as many groups, each of as many alternatives, as an image may have.
+/// The same with the largest number of groups, each with the largest number of alternatives.
 pub fn full_image_with_groups() -> Image {
     image_of(0, 1, 16, 4, 1)
 }
 
-/// An image with a body of so many bytes, and so many entries of each type that is read.
+/// An image with these numbers of body bytes and of entries of each type that is read.
 fn image_of(
     body_size: usize,
     counters: usize,
@@ -104,8 +103,8 @@ fn area(magic: u16, entries: &[(u16, &[u8])]) -> Vec<u8> {
     area
 }
 
-/// An image without a body, at times with too many entries, with up to three bytes changed, at
-/// times with the digest that then is right, cut off, or with a byte behind it.
+/// A damaged image without a body. It may have too many entries, up to three changed bytes with or
+/// without a new digest, a missing end, or a byte after its end.
 pub fn damaged_image(random: &mut Random) -> Vec<u8> {
     let mut rarely = |usual: usize, other: u64| match random.below(8) {
         0 => random.below(other) as usize,
@@ -131,9 +130,10 @@ pub fn damaged_image(random: &mut Random) -> Vec<u8> {
     bytes
 }
 
-/// A full table: eight images, 16 dependencies of each running and each requested image. The last
-/// request needs a version that no image reaches, and each other one needs, by its last dependency,
-/// the request after it, so that all eight are refused, one after the other.
+/// A full table: eight images, and 16 dependencies of each running and each requested image.
+///
+/// The last request needs a version that no image reaches. The last dependency of each other
+/// request needs the next request. So all eight are refused, one after the other.
 pub fn full_table() -> String {
     let mut table = String::new();
     for image in 0..8 {
@@ -162,10 +162,10 @@ pub fn full_table() -> String {
     table
 }
 
-/// The full table with four groups of four alternatives of each running and each requested image.
-/// Of each group the first three alternatives can't come. Each request but the last needs by its
-/// last group, and by nothing else, the request after it, so that all eight are refused, one after
-/// the other.
+/// The full table, with four groups of four alternatives for each running and each requested image.
+///
+/// The first three alternatives of each group can't be met. Only the last group of each request
+/// needs the next request. So all eight are refused, one after the other.
 pub fn full_table_with_groups() -> String {
     let mut table = String::new();
     for image in 0..8 {
@@ -187,14 +187,14 @@ pub fn full_table_with_groups() -> String {
     table
 }
 
-/// A line for each dependency that an image may have, each met by what runs.
+/// A line for each dependency that an image may have. The running images meet all.
 fn sixteen_needs(table: &mut String) {
     for needed in 0..16 {
         line(table, format_args!("needs {} 10.20.300+4000", needed % 8));
     }
 }
 
-/// A group of which the last alternative alone can be met, by this image in this version.
+/// A group of which only the last alternative can be met, by this image with this version.
 fn group(table: &mut String, image: u64, minimum: &str) {
     line(
         table,
@@ -218,7 +218,7 @@ pub fn full_report() -> String {
     report
 }
 
-/// A small table of random images, at times with a line that no table has.
+/// A small table of random images. It may have a line that makes it malformed.
 pub fn random_table(random: &mut Random) -> String {
     let images = 1 + random.below(8);
     let mut table = String::new();
@@ -260,7 +260,7 @@ pub fn random_table(random: &mut Random) -> String {
     table
 }
 
-/// Up to two lines of dependencies, on images up to this version, and rarely beyond both.
+/// Up to two lines of dependencies, on images with versions up to this one, and rarely on others.
 fn needs(table: &mut String, random: &mut Random, images: u64, highest: u64) {
     for _ in 0..random.below(3) {
         let image = match random.below(32) {

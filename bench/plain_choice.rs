@@ -1,6 +1,6 @@
 //! The choice among the requests of a table, from its text, in plain Rust.
 
-/// The answers to a text that is no table, and to running images that don't fit each other.
+/// The results for a text that isn't a table, and for running images that don't fit each other.
 const NO_TABLE: u64 = 1 << 63;
 const NOT_VALID: u64 = NO_TABLE + 1;
 
@@ -24,7 +24,7 @@ struct Entry {
     groups: Vec<Group>,
 }
 
-/// Dependencies of which one is enough.
+/// A group: one of these dependencies has to be met.
 type Group = Vec<Dependency>;
 
 enum Request {
@@ -56,7 +56,7 @@ struct Refusal {
     reason: Reason,
 }
 
-/// The answer to a text, in the numbers of the proved library.
+/// The result for a text, as a number of the proved library.
 pub fn answer(text: &[u8]) -> u64 {
     let Some(images) = parse(text) else {
         return NO_TABLE;
@@ -123,7 +123,7 @@ fn add_line(images: &mut Vec<Image>, line: &str) -> Option<()> {
     words.next().is_none().then_some(())
 }
 
-/// The entry that a line after its first one speaks of.
+/// The entry to which a line after its first one belongs.
 fn last_entry(images: &mut [Image]) -> Option<&mut Entry> {
     let last = images.last_mut()?;
     match &mut last.request {
@@ -158,7 +158,7 @@ fn entry(version: &str, counter: &str) -> Option<Entry> {
     })
 }
 
-/// `major.minor.revision+build`, of which parts may be missing from the right.
+/// Reads a version, `major.minor.revision+build`. Parts may be missing from the right.
 fn version(text: &str) -> Option<Version> {
     let (front, build) = match text.split_once('+') {
         Some((front, build)) => (front, Some(build)),
@@ -176,7 +176,7 @@ fn version(text: &str) -> Option<Version> {
     Some((major, minor, revision, build))
 }
 
-/// A decimal number without sign and leading zeros.
+/// Reads a decimal number without sign and leading zeros.
 fn number<N: std::str::FromStr>(text: &str) -> Option<N> {
     let is_plain = text.bytes().all(|byte| byte.is_ascii_digit());
     if !is_plain || (text.len() > 1 && text.starts_with('0')) {
@@ -197,8 +197,8 @@ fn is_valid(images: &[Image]) -> bool {
     })
 }
 
-/// First the requests that are refused by themselves, then again and again the lowest that needs
-/// what can't come.
+/// The refusals: first of the requests that are refused by themselves, then repeatedly of the
+/// lowest request with a need that can't be met.
 fn refusals(images: &[Image]) -> Vec<Refusal> {
     let mut refusals = Vec::new();
     for (image, told) in images.iter().enumerate() {
@@ -243,8 +243,7 @@ fn next_refusal(images: &[Image], refusals: &[Refusal]) -> Option<Refusal> {
 }
 
 fn needs_reason(images: &[Image], refusals: &[Refusal], entry: &Entry) -> Option<Reason> {
-    // A request that isn't refused is at least the running version, so it is the best that can
-    // come.
+    // A request that isn't refused has at least the running version, so it is the best version.
     let is_reached = |needed: &Dependency| {
         let number = usize::from(needed.image);
         images

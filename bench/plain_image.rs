@@ -1,4 +1,4 @@
-//! The check of a whole image, in plain Rust, by the format alone.
+//! The check of a complete image, in plain Rust, by the format alone.
 
 use crate::plain_digest::sha256;
 
@@ -11,7 +11,7 @@ pub const COUNTER_KIND: u16 = 0x50;
 pub const GROUP_KIND: u16 = 0xa0;
 const ACCEPTED_FLAGS: u32 = 0x111;
 
-/// What is added to the number of a check to answer that it failed.
+/// What the result adds to the number of a check that failed.
 const REFUSED: u64 = 1 << 63;
 
 /// The first check that fails, by its number.
@@ -37,7 +37,7 @@ pub enum Fault {
 /// The number of an image, and the bytes of a version.
 type Dependency = (u8, [u8; 8]);
 
-/// What an intact image says of itself.
+/// The description of an intact image.
 #[allow(dead_code, reason = "it holds what the proved description holds")]
 pub struct Description {
     version: [u8; 8],
@@ -49,7 +49,7 @@ pub struct Description {
     length: u64,
 }
 
-/// The answer to bytes, in the numbers of the proved library.
+/// The result for bytes, as a number of the proved library.
 pub fn answer(bytes: &[u8]) -> u64 {
     match std::hint::black_box(describe(bytes)) {
         Ok(description) => description.length,
@@ -57,7 +57,7 @@ pub fn answer(bytes: &[u8]) -> u64 {
     }
 }
 
-/// What the image says of itself that these bytes are.
+/// The description of the image that these bytes are.
 pub fn describe(bytes: &[u8]) -> Result<Description, Fault> {
     if bytes.len() < 32 {
         return Err(Fault::Short);
@@ -99,9 +99,8 @@ pub fn describe(bytes: &[u8]) -> Result<Description, Fault> {
     })
 }
 
-/// The bytes of a flash that have to be read to describe this intact image: what the digest is
-/// taken of once, and once more the header, the head of each area and entry, and the values that
-/// are needed.
+/// The number of bytes that have to be read from a flash to describe this intact image: the hashed
+/// bytes once, and once more the header, the head of each area and entry, and the needed values.
 pub fn needed_reads(bytes: &[u8]) -> u64 {
     let protected_at = usize::from(read_u16(bytes, 8)) + read_u32(bytes, 12) as usize;
     let protected_size = usize::from(read_u16(bytes, 10));
@@ -117,7 +116,8 @@ pub fn needed_reads(bytes: &[u8]) -> u64 {
     (hashed_end + 32 + protected + unprotected) as u64
 }
 
-/// The bytes of an area's head, of its entries' heads, and of the values of these types.
+/// The number of bytes in the heads of an area and of its entries, and in the values of these
+/// types.
 fn area_reads(area: &[u8], needed: &[u16]) -> usize {
     let entries = entries(&area[4..]).expect("entries fill the area");
     let reads = entries
@@ -129,7 +129,7 @@ fn area_reads(area: &[u8], needed: &[u16]) -> usize {
     4 + reads.sum::<usize>()
 }
 
-/// The types and values of the entries of an area.
+/// Returns the types and values of the entries of an area.
 fn area(
     bytes: &[u8],
     at: usize,

@@ -1,4 +1,4 @@
-//! The exports of the proved static library `bench_exports`. A slice crosses as a pointer and a
+//! The exports of the proved static library `bench_exports`. A slice is passed as a pointer and a
 //! length.
 
 #[link(name = "bench_exports", kind = "static")]
@@ -17,7 +17,7 @@ unsafe extern "C" {
     fn bench_slot_reads(bytes: *const u8, length: usize) -> u64;
 }
 
-/// The length of the intact image that the bytes are, or 2^63 and the number of the first check
+/// The length of the intact image that the bytes are, or 2^63 plus the number of the first check
 /// that fails.
 pub fn describe(bytes: &[u8]) -> u64 {
     // SAFETY: the pointer and the length are those of a slice, which is only read.
@@ -30,29 +30,29 @@ pub fn digest(bytes: &[u8]) -> u64 {
     unsafe { bench_digest(bytes.as_ptr(), bytes.len()) }
 }
 
-/// The taken requests in the lowest eight bits and the number of refusals above them, 2^63 for a
-/// text that is no table, or 2^63 + 1 for running images that don't fit each other.
+/// The taken requests in the lowest eight bits and the number of refusals above them; 2^63 for a
+/// text that isn't a table, or 2^63 + 1 for running images that don't fit each other.
 pub fn choose(text: &[u8]) -> u64 {
     // SAFETY: as in `describe`.
     unsafe { bench_choose(text.as_ptr(), text.len()) }
 }
 
-/// Whether the report is right for the table, both as texts.
+/// Whether the report is right for the table. Both are texts.
 pub fn check(table: &[u8], report: &[u8]) -> bool {
     // SAFETY: as in `describe`, for two slices.
     unsafe { bench_check(table.as_ptr(), table.len(), report.as_ptr(), report.len()) }
 }
 
-/// What a slot is described by that begins with the bytes: the length of its image, or 2^63 and the
-/// number of the first check that fails; 2^63 where the bytes don't fit the slot or memory is
-/// refused. It is described once, and `again` times more.
+/// Describes a slot that begins with the bytes, `again` + 1 times: the length of its image, or 2^63
+/// plus the number of the first check that fails; 2^63 if the bytes don't fit in the slot or memory
+/// is refused.
 pub fn describe_slot(bytes: &[u8], again: u32) -> u64 {
     // SAFETY: as in `describe`. No signal handler calls it, and what it allocates is freed when it
     // returns.
     unsafe { bench_describe_slot(bytes.as_ptr(), bytes.len(), again) }
 }
 
-/// How many bytes of the flash are read to describe that slot once.
+/// The number of bytes of the flash that are read to describe that slot once.
 pub fn slot_reads(bytes: &[u8]) -> u64 {
     // SAFETY: as in `describe_slot`.
     unsafe { bench_slot_reads(bytes.as_ptr(), bytes.len()) }

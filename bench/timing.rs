@@ -1,17 +1,18 @@
-//! Times of several sides, taken in turn so that what slows the machine slows all of them.
+//! Times several sides in turn, so what slows the machine slows all of them.
 
 use std::time::{Duration, Instant};
 
-/// How often each side is timed. A ratio is the median of as many, each within one round.
+/// The number of rounds. Each side is timed once a round, and a ratio is the median over the
+/// rounds.
 const ROUNDS: usize = 31;
 
-/// How long a side is called over and over in one round, at least.
+/// The shortest time for which a side is called repeatedly in one round.
 const SHORTEST: Duration = Duration::from_millis(10);
 
-/// A side: what is called.
+/// A side: a function that is timed.
 pub type Side<'a> = &'a dyn Fn() -> u64;
 
-/// The time of a call of each side, in seconds, round by round.
+/// The time of a call of each side in seconds, for each round.
 pub struct Rounds<const N: usize>(Vec<[f64; N]>);
 
 impl<const N: usize> Rounds<N> {
@@ -23,7 +24,7 @@ impl<const N: usize> Rounds<N> {
         Rounds((0..ROUNDS).map(|_| round()).collect())
     }
 
-    /// How often the time of one side holds that of another: the median over the rounds.
+    /// The ratio of the time of one side to that of another: the median over the rounds.
     pub fn ratio(&self, side: usize, other: usize) -> f64 {
         median(
             self.0
@@ -34,7 +35,7 @@ impl<const N: usize> Rounds<N> {
     }
 }
 
-/// How often the time that one side takes more than another holds that of a third: by the shortest
+/// The ratio of the difference of two sides' times to the time of a third side, by the shortest
 /// time of each.
 pub fn ratio_of_shortest(more: Side, less: Side, other: Side) -> f64 {
     let mut shortest = [f64::INFINITY; 3];
@@ -46,7 +47,7 @@ pub fn ratio_of_shortest(more: Side, less: Side, other: Side) -> f64 {
     (shortest[0] - shortest[1]) / shortest[2]
 }
 
-/// The seconds that so many calls of a side take.
+/// The time in seconds of this number of calls of a side.
 pub fn seconds(side: Side, calls: u32) -> f64 {
     let start = Instant::now();
     for _ in 0..calls {
@@ -55,13 +56,13 @@ pub fn seconds(side: Side, calls: u32) -> f64 {
     start.elapsed().as_secs_f64()
 }
 
-/// The value in the middle.
+/// The median.
 pub fn median(mut values: Vec<f64>) -> f64 {
     values.sort_by(f64::total_cmp);
     values[values.len() / 2]
 }
 
-/// How many calls of a side take the shortest time of a round.
+/// The number of calls of a side that take at least the shortest time of a round.
 fn calls_for(side: Side) -> u32 {
     let mut calls = 1;
     while seconds(side, calls) < SHORTEST.as_secs_f64() {

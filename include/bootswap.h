@@ -3,8 +3,8 @@
  *
  * Each call of a device is one step of a machine that knows whole images only, from the device in the caller's bytes
  * before the call to the one in them after it. This is proved for any contents. The caller keeps the state of a device
- * between two calls in a `struct bootswap_kept`. Bytes there that no call wrote, or that don't match the flash, are a
- * device that isn't booted and has no open upload. No call allocates, and each returns.
+ * between two calls in a `struct bootswap_kept`. If it isn't a valid state, or its uploads don't match the flash, the
+ * device isn't booted and has no open upload. No call allocates, and each returns.
  *
  * The caller guarantees this: a pointer with a length points to that number of bytes, every other pointer to a complete
  * struct; no pointer is null, not even with a length of 0; a buffer that is written overlaps nothing else that is
@@ -34,10 +34,10 @@ enum bootswap_number {
     /* No call was made, and nothing changed: */
     BOOTSWAP_NO_MAP = 16,      /* no map has the setup's sizes */
     BOOTSWAP_NO_TRIAL = 17,    /* a trial has 1 to 7 boots */
-    BOOTSWAP_NO_FLASH = 18,    /* the flash isn't whole sectors, has fewer than the map, or 2^32 bytes or more */
+    BOOTSWAP_NO_FLASH = 18,    /* the flash isn't whole sectors, is shorter than the map, or has 2^32 bytes or more */
     BOOTSWAP_NO_IMAGE = 19,    /* there is no such image, or no such side of it */
     BOOTSWAP_TOO_MANY = 20,    /* more than 8 components, or more than 16 cuts */
-    /* Of texts: */
+    /* For texts: */
     BOOTSWAP_NO_TABLE = 24,    /* the text is no table */
     BOOTSWAP_NO_REPORT = 25,   /* the text is no report */
     BOOTSWAP_INVALID_SET = 26, /* the running images of the table don't fit each other */
@@ -66,18 +66,18 @@ enum bootswap_upload_fault {
     BOOTSWAP_SIZE_WRONG = 5,       /* fewer bytes than the manifest said: the upload is closed */
     BOOTSWAP_DIGEST_WRONG = 6,     /* another digest than the manifest said: the upload is closed */
     BOOTSWAP_NOT_AN_IMAGE = 7,     /* no intact image, `check` is the first check that fails: the upload is closed */
-    BOOTSWAP_WRONG_PRECURSOR = 8,  /* another image runs than the manifest asks for */
+    BOOTSWAP_WRONG_PRECURSOR = 8,  /* the running image isn't the one that the manifest names */
     BOOTSWAP_NOTHING_REQUESTED = 9 /* nothing is requested for the image */
 };
 
 /* How a device is set up. */
 struct bootswap_setup {
     uint32_t sector_size; /* the length of a sector in bytes: a multiple of 64 from 512 to 131072 */
-    uint32_t images;      /* how many images it has, 1 to 8 */
-    uint32_t sectors[8];  /* how many sectors each slot of an image has */
-    uint32_t trial_boots; /* how many boots a trial has, 1 to 7 */
-    uint8_t vendor[16];   /* who makes it: a UUID (RFC 9562), the bytes in the order of its text */
-    uint8_t class_id[16]; /* its class of devices, a UUID. No call compares these two with anything. */
+    uint32_t images;      /* the number of images, 1 to 8 */
+    uint32_t sectors[8];  /* the number of sectors of each slot of an image */
+    uint32_t trial_boots; /* the number of boots of a trial, 1 to 7 */
+    uint8_t vendor[16];   /* the vendor: a UUID (RFC 9562), the bytes in the order of its text */
+    uint8_t class_id[16]; /* the class of devices, a UUID. No call compares these two with anything. */
 };
 
 /* The state of a device between two calls. All zero is a device that isn't booted. */
@@ -86,10 +86,10 @@ struct bootswap_kept {
     uint8_t unused[3]; /* 0 */
     struct {
         uint32_t size;       /* the length of the file in bytes */
-        uint32_t received;   /* how many bytes were received */
+        uint32_t received;   /* the number of bytes that were received */
         uint8_t is_open;     /* 1 if the upload is open */
         uint8_t kind;        /* 1 for a test, 2 permanently */
-        uint8_t held_length; /* how many bytes are held back, 0 to 7 */
+        uint8_t held_length; /* the number of bytes that are held back, 0 to 7 */
         uint8_t unused;      /* 0 */
         uint8_t held[8];     /* the last bytes that were received, which don't fill a unit of 8 yet */
         uint8_t digest[32];  /* the SHA-256 that the file must have */
@@ -111,7 +111,7 @@ struct bootswap_version {
     uint32_t build;
 };
 
-/* An image that is needed, in a version at least. */
+/* A needed image and its lowest version. */
 struct bootswap_need {
     uint32_t image;
     struct bootswap_version minimum;
@@ -127,16 +127,17 @@ struct bootswap_refusal {
 
 /* The result of a call. A field that doesn't apply to the returned number is 0. */
 struct bootswap_told {
-    uint64_t writes;                      /* how many writes the call made. Exactly these, torn as the rows say, change
-                                             the old bytes into the new ones. A write that is cut is the last one. */
+    uint64_t writes;                      /* the number of writes of the call. Exactly these, torn as the rows say,
+                                             change the old bytes into the new ones. If a write is cut, it is the last
+                                             one. */
     uint32_t fault;                       /* refused: a bootswap_fault */
     uint32_t detail;                      /* refused: the number of the underlying error */
     uint32_t check;                       /* refused: the first check of an image that fails, 1 to 15 */
     uint32_t set;                         /* bit i for image i: the set that is taken, reverted, or tried again */
-    uint32_t left;                        /* how many boots are left to a set that is tried again */
+    uint32_t left;                        /* the number of boots that are left to a set that is tried again */
     uint32_t permanent;                   /* 1 if a set is taken permanently */
-    uint32_t images;                      /* booted: how many images there are */
-    uint32_t refusals;                    /* booted: how many requests are refused */
+    uint32_t images;                      /* booted: the number of images */
+    uint32_t refusals;                    /* booted: the number of refused requests */
     uint32_t table_length;                /* booted: the length of the table's text, 0 if its buffer was too short */
     uint32_t report_length;               /* booted: the same for the report */
     struct bootswap_version versions[8];  /* booted: the running version of each image */
@@ -157,11 +158,11 @@ struct bootswap_component {
 /* A manifest: the images that may be uploaded. */
 struct bootswap_manifest {
     uint32_t sequence; /* rises from manifest to manifest */
-    uint32_t count;    /* how many components there are, 1 to 8 */
+    uint32_t count;    /* the number of components, 1 to 8 */
     struct bootswap_component components[8];
 };
 
-/* A group: one of these images in its version at least. */
+/* A group of alternatives: at least one of these needs has to be met. */
 struct bootswap_group {
     uint32_t count; /* 1 to 4 */
     struct bootswap_need alternatives[4];
@@ -190,8 +191,8 @@ struct bootswap_sha256 {
 #define BOOTSWAP_REPORT_ROOM 2048
 
 /*
- * Provisions the bytes of a flash: the images at the front of the primary slots run. The primary slots are at the
- * beginning of the flash, image by image, each followed by one sector for its trailer. Slots and scratch are unchanged.
+ * Provisions the bytes of a flash: the images at the front of the primary slots run. The flash begins with the primary
+ * slots, image by image, each followed by one sector for its trailer. Slots and scratch are unchanged.
  * Returns BOOTSWAP_DONE; BOOTSWAP_REFUSED with BOOTSWAP_RUNNING_DAMAGED or BOOTSWAP_RUNNING_INVALID: then nothing
  * changed; or BOOTSWAP_CUT: then it may be called again.
  */
@@ -249,7 +250,7 @@ void bootswap_reset(struct bootswap_kept *kept);
 uint32_t bootswap_slot(const struct bootswap_setup *setup, uint8_t *flash, size_t flash_length, uint8_t image,
                        uint8_t side, struct bootswap_description *description);
 
-/* Describes an image, which is all of the bytes. Returns 0, or the number of the first check that fails, 1 to 15. */
+/* Describes the image that the bytes are. Returns 0, or the number of the first check that fails, 1 to 15. */
 uint32_t bootswap_describe(const uint8_t *bytes, size_t bytes_length, struct bootswap_description *description);
 
 /* The SHA-256 of bytes (FIPS 180-4). */
@@ -263,8 +264,8 @@ void bootswap_digest(const uint8_t *bytes, size_t bytes_length, struct bootswap_
 uint32_t bootswap_choose(const char *table, size_t table_length, char *report, size_t report_room, uint64_t *length);
 
 /*
- * Checks a report for a table, both texts. Returns 0 where it is right, BOOTSWAP_WRONG, or BOOTSWAP_NO_TABLE or
- * BOOTSWAP_NO_REPORT and in `line` the number of the first bad line.
+ * Checks whether a report is right for a table. Both are texts. Returns 0 if it is, BOOTSWAP_WRONG if it isn't; or
+ * BOOTSWAP_NO_TABLE or BOOTSWAP_NO_REPORT, and in `line` the number of the first bad line.
  */
 uint32_t bootswap_check(const char *table, size_t table_length, const char *report, size_t report_length,
                         uint64_t *line);

@@ -1,4 +1,4 @@
-// What stands on a flash, read for the picture by docs/FORMATS.md. The library decides by its own reading.
+// Reads the contents of a flash for the picture, by docs/FORMATS.md. The library decides by its own reading.
 
 const MAGIC = [0x77, 0xc2, 0x95, 0xf3, 0x60, 0xd2, 0xef, 0x7f, 0x35, 0x52, 0x50, 0x0f, 0x2c, 0xb6, 0x79, 0x80];
 const KINDS = ["", "Steady", "Swap", "Settle", "Trial", "Back", "BackSettle"];
@@ -26,7 +26,7 @@ export function partsOf({ sectorSize, sectors }) {
   return parts;
 }
 
-/** Names the sectors of the images that were made, so that each is known again wherever it stands. */
+/** Remembers the sectors of the images that were made, to recognize each at any place. */
 export class Known {
   constructor(sectorSize) {
     this.sectorSize = sectorSize;
@@ -47,7 +47,7 @@ export class Known {
   }
 }
 
-/** What a trailer says, in a few words. */
+/** Describes a trailer in a few words. */
 export function trailerWords(bytes, sectors) {
   const end = bytes.length;
   const magic = bytes.subarray(end - 16);

@@ -1,11 +1,11 @@
-// Images, made by the format of docs/FORMATS.md: a header, a body, a protected area where the image needs others, and an
-// unprotected area with the digest of all before it.
+// Makes images in the format of docs/FORMATS.md: a header, a body, a protected area if the image needs others, and an
+// unprotected area with the digest of all bytes before it.
 
 const number = (value, size) => Array.from({ length: size }, (_, i) => (value >>> (8 * i)) & 0xff);
 
 export const versionBytes = (it) => [it.major, it.minor, ...number(it.revision, 2), ...number(it.build, 4)];
 
-/** The version that a text spells, as 2.0.0 or 2.0.0+7; nothing where it spells none. */
+/** Returns the version in a text such as 2.0.0 or 2.0.0+7, or nothing if it isn't a version. */
 export function versionOf(text) {
   const found = /^(\d+)(?:\.(\d+)(?:\.(\d+)(?:\+(\d+))?)?)?$/.exec(text.trim());
   if (!found) return null;
@@ -14,7 +14,7 @@ export function versionOf(text) {
   return fits ? { major, minor, revision, build } : null;
 }
 
-/** What `1 2.0.0, 2 1.1` asks of other images; nothing where it is no such list. */
+/** Returns the needs in a list such as `1 2.0.0, 2 1.1`, or nothing if it isn't such a list. */
 export function needsOf(text) {
   const parts = text.split(",").filter((it) => it.trim());
   const needs = parts.map((it) => {
@@ -30,7 +30,7 @@ function area(magic, entries) {
   return [...number(magic, 2), ...number(4 + body.length, 2), ...body];
 }
 
-/** An image of this version that needs these others, with a body of so many bytes. */
+/** Makes an image of a version, with these needs and a body of this number of bytes. */
 export function makeImage(digest, image, version, needs, bodyLength) {
   const seed = [image, ...versionBytes(version)];
   const body = Array.from({ length: bodyLength }, (_, i) => (seed[i % 3] * 37 + i * 11 + (i >> 6)) & 0xff);

@@ -1,7 +1,7 @@
 // The proved library as WebAssembly: what include/bootswap.h declares, over the memory of the module.
-// A `Device` has a flash in that memory and what it keeps between two calls. Nothing here decides.
+// A `Device` has a flash in that memory, and its saved state. Nothing here decides.
 
-// How many bytes the structs of the header have, and where those of their fields begin that are used here.
+// The sizes in bytes of the structs of the header, and the offsets of the fields that are used here.
 // tests/test_header.py compares both with the header.
 const SIZES = {
   setup: 76,
@@ -42,7 +42,7 @@ const OFFSETS = {
   description: { version: 8 },
 };
 
-// What calls are lent: these structs, and buffers of so many bytes.
+// The structs and the buffers, with their sizes in bytes, that are passed to calls.
 const STRUCTS = ["setup", "kept", "cut", "told", "manifest", "description"];
 const ROOM = { table: 20480, report: 2048, bytes: 8192 };
 const DIGEST = 32;
@@ -75,7 +75,7 @@ const UPLOAD_FAULTS = {
 export const versionText = (it) => `${it.major}.${it.minor}.${it.revision}+${it.build}`;
 
 export class Device {
-  /** Loads the module, and makes an erased flash for so many sectors a slot of each image. */
+  /** Loads the module, and makes an erased flash for these numbers of sectors of each image's slots. */
   static async load(module, setup) {
     const instance = await WebAssembly.instantiate(module, {});
     return new Device(instance.exports, setup);
@@ -90,7 +90,7 @@ export class Device {
     this.writeSetup();
   }
 
-  /** Takes memory behind the module's own, one part after the other. */
+  /** Reserves memory after that of the module, one part after the other. */
   place() {
     const { memory } = this.library;
     let at = memory.buffer.byteLength;
@@ -119,7 +119,7 @@ export class Device {
     return fields.map((field) => this.view.getUint32(at + OFFSETS[struct][field], true));
   }
 
-  /** The addresses of a number of structs that a field of another one lists. */
+  /** Returns the addresses of the structs in an array that is a field of another struct. */
   rows(struct, at, field, row, count) {
     return Array.from({ length: count }, (_, i) => at + OFFSETS[struct][field] + SIZES[row] * i);
   }
@@ -135,7 +135,7 @@ export class Device {
     return BigInt(this.at[name]);
   }
 
-  /** Puts bytes where calls read them. */
+  /** Copies bytes to the buffer from which calls read them. */
   lend(bytes) {
     this.memory.set(bytes, this.at.bytes);
     return [this.pointer("bytes"), BigInt(bytes.length)];
@@ -169,7 +169,7 @@ export class Device {
     return { number, writes, ...told, ...this.decision(told), why: this.why(told) };
   }
 
-  /** The fields and texts of a boot that decided. */
+  /** Returns the fields and texts of a boot that decided. */
   decision(told) {
     const at = this.at.told;
     const versions = this.rows("told", at, "versions", "version", told.images).map((it) => this.version(it));
@@ -216,7 +216,7 @@ export class Device {
     return this.call("boot", cut, ...rooms);
   }
 
-  /** Takes a manifest of components `{ image, file, permanent }`. */
+  /** Accepts a manifest with components `{ image, file, permanent }`. */
   accept(sequence, components) {
     const at = this.at.manifest;
     this.memory.fill(0, at, at + SIZES.manifest);
@@ -260,13 +260,13 @@ export class Device {
     return this.memory.slice(this.at.description, this.at.description + DIGEST);
   }
 
-  /** The version of the image that a slot begins with, or nothing where it is none. */
+  /** Returns the version of the image at the front of a slot, or nothing if there is no intact image. */
   slot(image, side) {
     const words = [this.pointer("setup"), this.pointer("flash"), BigInt(this.length), image, side, this.pointer("description")];
     return this.library.bootswap_slot(...words) ? null : this.version(this.at.description + OFFSETS.description.version);
   }
 
-  /** Whether a report is right for a table, both texts. */
+  /** Returns whether a report is right for a table. Both are texts. */
   check(table, report) {
     const texts = new TextEncoder().encode(table + report);
     const split = new TextEncoder().encode(table).length;
@@ -275,7 +275,7 @@ export class Device {
     return this.library.bootswap_check(...words, this.pointer("description")) === 0;
   }
 
-  /** Runs something on the device and puts back what there was. */
+  /** Runs a function on the device, then restores its flash and its saved state. */
   aside(run) {
     const flash = this.flash.slice();
     const kept = this.kept.slice();

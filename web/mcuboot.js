@@ -1,7 +1,6 @@
-// MCUboot's rule for several images, as its design document tells it under "Multiple image boot" and "Dependency check":
-// each image has its own swap type; one that would be swapped in is left where something that it needs won't run; and one
-// on trial that wasn't confirmed goes back by itself. A model of versions, drawn beside the proved decision. No code of
-// MCUboot runs here.
+// MCUboot's rule for several images, by its design document, "Multiple image boot" and "Dependency check". Each image has its
+// own swap type. An image isn't swapped in if an image that it needs won't run. An image on trial that wasn't confirmed is
+// reverted by itself. This is a model of versions, drawn beside the proved decision. No code of MCUboot runs here.
 
 import { versionText } from "./library.js";
 
@@ -12,7 +11,7 @@ const isBelow = (a, b) => {
 };
 
 export class PerImage {
-  /** A device that runs these images, each `{ version, needs }`. */
+  /** A device on which these images run, each `{ version, needs }`. */
   constructor(running) {
     this.images = running.map((primary) => ({ primary, secondary: null, asked: null, onTrial: false }));
   }
@@ -52,7 +51,7 @@ export class PerImage {
     return image < this.images.length && !isBelow(runs(image).version, minimum);
   }
 
-  /** What runs, and each dependency of it that isn't met. */
+  /** Returns the running versions, and each of their dependencies that isn't met. */
   told() {
     const broken = this.images.flatMap(({ primary }, i) =>
       primary.needs

@@ -19,7 +19,7 @@ const REASONS = {
 
 const $ = (id) => document.getElementById(id);
 
-/** The reply to an event, in lines. */
+/** Returns the lines for the reply to an event. */
 function lines({ reply, isChecked }) {
   const images = [0, 1, 2, 3, 4, 5, 6, 7].filter((i) => (reply.set >> i) & 1).join(" ");
   const decided = reply.permanent ? "permanent" : reply.set ? "trial" : "plain";
@@ -40,7 +40,7 @@ function drawEvents() {
   $("events").scrollTop = $("events").scrollHeight;
 }
 
-/** What to try next, by the last event. */
+/** Returns a suggestion for what to try next, by the last event. */
 function hint() {
   const { action, reply } = scene.events.at(-1);
   if (reply.number === 5) return "Power failed in a write of this boot. Step through the next boot: it goes on where this one was cut. Then press Boot.";
@@ -68,7 +68,7 @@ function drawPerImage() {
   );
 }
 
-/** A label with an input. Its name for a screen reader has the image too. */
+/** Makes a label with an input. Its name for a screen reader includes the image. */
 function field(name, image, input) {
   input.setAttribute("aria-label", `${name} of image ${image}`);
   return element("label", { className: name.toLowerCase() }, name, input);
@@ -170,7 +170,7 @@ async function start(given) {
   document.body.dataset.ready = "yes";
 }
 
-/** Starts the scene of the address. */
+/** Starts the scene in the address of the page. */
 async function startOfAddress() {
   const given = startOfHash(location.hash);
   $("note").hidden = true;

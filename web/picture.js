@@ -1,4 +1,4 @@
-// The picture of a device: its flash as cells, the same in words, and what the colours mean.
+// The picture of a device: its flash as cells, the same in words, and a legend of the colours.
 
 import { logOf, trailerWords } from "./flash.js";
 import { versionText } from "./library.js";
@@ -10,10 +10,10 @@ export function element(tag, words, ...inside) {
   return made;
 }
 
-/** A version without what is 0 behind it: 2.0.0. */
+/** Returns the text of a version, without a build number of 0: 2.0.0. */
 export const shortVersion = (it) => versionText(it).replace(/\+0$/, "");
 
-/** A colour for each version of an image: light, so that dark text is read on it. */
+/** Returns a colour for a version of an image. It is light because the text on it is dark. */
 const colour = (image, { major, minor, revision }) =>
   `hsl(${(image * 120 + 210 + (major * 23 + minor * 9 + revision * 5 - 23)) % 360} 75% ${[90, 76, 83][(major + minor + revision + 2) % 3]}%)`;
 
@@ -23,7 +23,7 @@ class Drawn {
     Object.assign(this, { scene, flash, before: scene.device.flash });
   }
 
-  /** The bytes of a part's sector, now and before the writes that are shown. */
+  /** Returns the bytes of a sector of a part, after and before the writes that are shown. */
   sector(part, i) {
     return [this.flash, this.before].map((of) => of.subarray(part.at + i * SECTOR, part.at + (i + 1) * SECTOR));
   }
@@ -57,7 +57,7 @@ class Drawn {
     });
   }
 
-  /** All parts, each image's in a group of its own. */
+  /** Returns all parts, with a group for each image. */
   groups() {
     const { scene } = this;
     const images = Array.from({ length: scene.start.images }, (_, image) => ({
@@ -82,14 +82,14 @@ function cellOf({ text, kind, known, isChanged }) {
   return cell;
 }
 
-/** A line of the picture: a name, and cells beside it. */
+/** Makes a line of the picture: a name, and its cells. */
 const line = (name, cells, kind = "") =>
   element("div", { className: `part ${kind}` }, element("div", { className: "name", textContent: name }), element("div", { className: "cells" }, ...cells));
 
-/** What the cells of an image are. */
+/** Makes the heads of the columns of an image. */
 const headOf = () => ["slot", "trailer"].map((it) => element("div", { className: it, textContent: it }));
 
-/** Cells in words: those of a slot as `2.0.0, torn, 1.0.0`, or once where all are alike. */
+/** Returns cells in words: those of a slot as `2.0.0, torn, 1.0.0`, or once if all are equal. Trailers follow. */
 function wordsOf(cells) {
   const words = cells.map(({ text, kind }) => (kind === "trailer" ? `trailer ${text || "empty"}` : text || "erased"));
   const slot = words.filter((_, i) => cells[i].kind !== "trailer");
@@ -97,7 +97,7 @@ function wordsOf(cells) {
   return [...alike, ...words.slice(slot.length)].join(", ");
 }
 
-/** The colours of what is drawn, and what each means. */
+/** The legend: the kinds of cells, and their meanings. */
 function legendOf(cells) {
   const versions = new Map(cells.filter((it) => it.known).map((it) => [`image ${it.known.image} ${it.text}`, it.known]));
   const known = [...versions].sort().map(([name, it]) => [{ kind: "known", known: it }, name]);

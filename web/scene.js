@@ -1,4 +1,4 @@
-// A scene: a device and the actions on it, from which all that the page shows follows. A link carries these as its hash.
+// A scene: a device and the actions on it. They determine everything that the page shows. A link has them in its hash.
 
 import { Device, versionText } from "./library.js";
 import { makeImage, needsOf, versionOf } from "./images.js";
@@ -21,7 +21,7 @@ const hasImage = ({ image }, images) => isWhole(image, 0, images - 1);
 const isRow = (row, images) =>
   row !== null && typeof row === "object" && hasImage(row, images) && isText(row.version) && isText(row.needs) && versionOf(row.version) && needsOf(row.needs);
 
-/** The actions that there are. Each says whether what it is given makes sense on a device of so many images. */
+/** The actions. Each has a function that checks its arguments for a device with this number of images. */
 const ACTIONS = {
   boot: ({ cut }) => cut === undefined || isCut(cut),
   reset: () => true,
@@ -34,7 +34,7 @@ const ACTIONS = {
 const isAction = (action, images) =>
   action !== null && typeof action === "object" && Object.hasOwn(ACTIONS, action.do) && ACTIONS[action.do](action, images);
 
-/** Returns what a scene starts with, read from the hash of a link. Null if that isn't understood. */
+/** Returns the setup and the actions of a scene in the hash of a link, or null if the hash isn't valid. */
 export function startOfHash(hash) {
   if (hash.length < 2) return { images: 2, boots: 1, actions: [] };
   let given;
@@ -93,7 +93,7 @@ export class Scene {
   boot({ cut }) {
     const reply = this.device.boot(cut);
     this.say("boot", cut ? `boot, cut at write ${cut.write}` : "boot", reply);
-    // A boot that was cut is the same boot again: MCUboot's rule is asked once for it.
+    // A boot after a power cut continues the same boot, so MCUboot's rule is applied once for both.
     if (reply.number !== 5) this.perImage.boot();
   }
 
@@ -132,12 +132,12 @@ export class Scene {
     this.events.push({ action, what, reply, isChecked });
   }
 
-  /** How many writes the next boot makes. */
+  /** Returns the number of writes of the next boot. */
   get writes() {
     return this.device.aside(() => this.device.boot().writes);
   }
 
-  /** The flash after so many writes of the next boot. */
+  /** Returns the flash after this number of writes of the next boot. */
   after(count, writes) {
     return this.device.aside(() => {
       if (count) this.device.boot(count < writes ? { write: count + 1, left: "keep" } : null);
@@ -153,7 +153,7 @@ export class Scene {
 const PAIR = [0, 1].map((image) => ({ image, version: "2.0.0", needs: `${1 - image} 2.0.0`, permanent: false }));
 const BOOT = { do: "boot" };
 
-/** Scenes to begin with, by the names of their links. */
+/** Prepared scenes, by the names of their links. */
 export const EXAMPLES = {
   "example-cut": { images: 2, boots: 1, actions: [BOOT, { do: "upload", rows: PAIR }, { do: "boot", cut: { write: 50, left: [0x5a, 0xa5] } }] },
   "example-reverted": { images: 2, boots: 1, actions: [BOOT, { do: "upload", rows: PAIR }, BOOT, { do: "confirm", image: 0 }, BOOT] },

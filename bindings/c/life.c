@@ -1,6 +1,6 @@
 /*
- * The life of a device of one image: it is provisioned, takes an update, loses power in the boot that swaps it in, boots
- * again and prints the report.
+ * An example in C: a device with one image is provisioned, receives an update, loses power in the boot that swaps it in,
+ * and boots again. Prints the report of that boot.
  *
  *     bindings/build
  *     cc -I include bindings/c/life.c out/libbootswap.a -o out/life
@@ -12,7 +12,7 @@
 
 #include "bootswap.h"
 
-/* Both slots have two sectors and one for the trailer; behind them lie scratch and the log's three. */
+/* Each of the two slots has two sectors and one for its trailer. One sector of scratch and three of the log follow. */
 static const struct bootswap_setup setup = {.sector_size = 512, .images = 1, .sectors = {2}, .trial_boots = 1};
 static uint8_t flash[10 * 512];
 static struct bootswap_kept kept;

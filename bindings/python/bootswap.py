@@ -193,7 +193,7 @@ class Version:
 
 @dataclass(frozen=True)
 class Need:
-    """An image that is needed, in a version at least."""
+    """A needed image and its lowest version."""
 
     image: int
     minimum: Version
@@ -231,7 +231,7 @@ class Component:
 
     @classmethod
     def of(cls, image: int, file: bytes, kind: Kind = Kind.TEST, precursor: bytes | None = None) -> Component:
-        """The component of a file."""
+        """Returns the component for a file."""
         return cls(image, len(file), digest(file), kind, precursor)
 
 
@@ -335,7 +335,7 @@ class Device:
         self._saved = _SavedState()
 
     def place(self, image: int, side: int = 0) -> int:
-        """The address of an image's slot: side 0 is the primary one."""
+        """Returns the address of an image's slot: side 0 is the primary one, 1 the secondary one."""
         before = sum(it + 1 for it in self.sectors[:image]) + side * sum(it + 1 for it in self.sectors)
         return before * self.sector_size
 
@@ -345,7 +345,7 @@ class Device:
 
     @property
     def is_booted(self) -> bool:
-        """Whether the device is booted: no cut and no reset came after its last boot."""
+        """Whether the device is booted: since its last boot power hasn't failed, and it wasn't reset."""
         return self._saved.is_booted == 1
 
     def provision(self, cuts: Sequence[Cut] = ()) -> Reply:
@@ -392,7 +392,7 @@ class Device:
         _LIBRARY.bootswap_reset(byref(self._saved))
 
     def slot(self, image: int, side: int = 0) -> Description | int:
-        """The description of the image at the front of a slot, or the number of the first check that fails."""
+        """Returns the description of the image at the front of a slot, or the number of the first check that fails."""
         result, flash = _Description(), (c_uint8 * len(self.flash)).from_buffer(self.flash)
         number = _LIBRARY.bootswap_slot(byref(self._setup), flash, len(flash), _byte(image), _byte(side), byref(result))
         if number >= Number.NO_MAP:
@@ -435,21 +435,21 @@ def _reply(number: Number, result: _CallResult, texts: tuple) -> Reply:
 
 
 def describe(image: bytes) -> Description | int:
-    """The description of the image that these bytes are, or the number of the first check that fails."""
+    """Returns the description of the image that these bytes are, or the number of the first check that fails."""
     result = _Description()
     return _LIBRARY.bootswap_describe(_bytes_of(image), len(image), byref(result)) or _description(result)
 
 
 def digest(file: bytes) -> bytes:
-    """The SHA-256 of a file, by which a manifest names it."""
+    """Returns the SHA-256 of a file, by which a manifest names it."""
     result = _Sha256()
     _LIBRARY.bootswap_digest(_bytes_of(file), len(file), byref(result))
     return bytes(result.bytes)
 
 
 def choose(table: str) -> str:
-    """The report of the choice among the requests of a table. Raises BootswapError if the text is no table, or the
-    running images don't fit each other."""
+    """Returns the report of the choice among the requests of a table. Raises BootswapError if the text isn't a table, or if
+    the running images don't fit each other."""
     given, report, length = table.encode(), ctypes.create_string_buffer(REPORT_ROOM), c_uint64()
     text = ctypes.create_string_buffer(given, len(given) + 1)
     number = Number(_LIBRARY.bootswap_choose(text, len(given), report, REPORT_ROOM, byref(length)))
@@ -459,7 +459,7 @@ def choose(table: str) -> str:
 
 
 def check(table: str, report: str) -> bool:
-    """Whether a report is right for a table. Raises BootswapError if a text isn't what it should be."""
+    """Returns whether a report is right for a table. Raises BootswapError if a text isn't a table or a report."""
     first, second, line = table.encode(), report.encode(), c_uint64()
     texts = [ctypes.create_string_buffer(it, len(it) + 1) for it in (first, second)]
     number = Number(_LIBRARY.bootswap_check(texts[0], len(first), texts[1], len(second), byref(line)))

@@ -1,5 +1,5 @@
-"""Tests of the Python names, and of the library behind them: every example of the repository, a cut at each write of a
-boot, and contents that no call wrote. `python3 bindings/python/test_bootswap.py` runs them."""
+"""Tests of the Python module and of its library: each example of the repository, a power cut at each write of a boot, and
+contents that no call wrote. `python3 bindings/python/test_bootswap.py` runs them."""
 
 import json
 import os
@@ -23,7 +23,7 @@ def names_in(folder):
 
 
 def device_of(name):
-    """A device by its file, with the same image in all primary slots, provisioned."""
+    """Returns the device of a device file, provisioned with the same image in all primary slots."""
     it = json.loads(read(f"devices/{name}.json"))
     vendor, class_id = uuid.UUID(it["vendor-id"]), uuid.UUID(it["class-id"])
     device = Device(it["sector"], it["sectors"], it.get("trial-boots", 1), vendor, class_id)
@@ -34,7 +34,7 @@ def device_of(name):
 
 
 def components_of(manifest):
-    """The components of the JSON text of a manifest."""
+    """Returns the components in the JSON text of a manifest."""
     for it in manifest["components"]:
         kind = Kind.PERMANENT if it["kind"] == "permanent" else Kind.TEST
         precursor = bytes.fromhex(it["precursor-digest"]) if "precursor-digest" in it else None
@@ -42,7 +42,7 @@ def components_of(manifest):
 
 
 class Script:
-    """What comes to a device, a line an event, and what the program `run` prints of each."""
+    """The events of a script on a device, and the lines that the command `run` prints for each."""
 
     def __init__(self, device):
         self.device, self.armed, self.writes, self.lines, self.count = device, {}, 0, [], 0
@@ -138,7 +138,7 @@ class Devices(unittest.TestCase):
             self.assertEqual(said, read(f"outputs/{name}.txt").decode(), name)
 
     def requested(self):
-        """A device that is up, with a pair of images requested for good."""
+        """Returns a booted device with permanent requests for both images."""
         device = device_of("pair")
         device.boot()
         needing, partner = read("images/needing.img"), read("images/partner.img")
