@@ -29,7 +29,7 @@ FLOOR_RAISED = runs(
     [PLAIN, *3 * ["done"], "permanent|take 0 1.1.0+0|run 1 1.0.0+0"],
 )
 
-# Stories of requests on a device of two images.
+# Scenarios of requests on a device of two images.
 REQUESTS = [
     (
         "two requests for good are taken without a trial",
@@ -115,7 +115,7 @@ TRYING_REPLIES = [*UPLOAD_REPLIES, TRIED]
 ON_TRIAL = "refused boot 2 OnTrial"
 OF_THREE = "plain|run 0 1.0.0+0|run 1 1.0.0+0|run 2 1.0.0+0"
 
-# Stories of trials: the device, its running images, and the steps.
+# Scenarios of trials: the device, its running images, and the steps.
 TRIALS = [
     (
         "a set on trial is shown, and the size of its swap is that of the longest image",
@@ -240,7 +240,7 @@ def by(other, step):
     return lambda test, _: step(test, other)
 
 
-# Stories: the device and the steps. A device with one boot of a trial writes the record that every device wrote
+# Scenarios: the device and the steps. A device with one boot of a trial writes the record that every device wrote
 # before trials could have several boots: no boots are left.
 STORIES = [
     (

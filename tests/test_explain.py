@@ -22,7 +22,7 @@ NEEDS, GROUPS = b" `needs J VERSION`,", b" `needs-one J VERSION ..`,"
 NEXT = b" `image 1 VERSION COUNTER FLOOR`"
 REQUESTS = b" `request VERSION COUNTER`, `damaged`,"
 
-# Tables that are refused at a line: the number of the line, the line as it is printed, and what may stand
+# Tables that are refused at a line: the number of the line, the line as it is printed, and what is accepted
 # there.
 TABLES = [
     (b"image 1 1 0 0\n", 1, b"image 1 1 0 0", b" `image 0 VERSION COUNTER FLOOR`"),
@@ -140,7 +140,7 @@ class ExplainTextTest(ProgramTest):
     """Tables, reports and scripts."""
 
     def test_tables(self):
-        """`--explain` prints the line of a table that is refused, and what may stand there."""
+        """`--explain` prints the line of a table that is refused, and what is accepted there."""
         for text, number, line, choices in TABLES:
             message = b"error: table line %d\nnote: table line %d is `%s`\nnote: here may stand%s\n" % (
                 number,

@@ -1,5 +1,5 @@
-"""Tests that include/bootswap.h, the crate behind it, bindings/python and web/library.js have the same structs, calls
-and numbers.
+"""Tests that include/bootswap.h, the crate `c_interface`, bindings/python and web/library.js have the same structs, calls and
+numbers.
 
 A struct is compared by its rows: the path of each number in it, such as `refused[1].reason`, its offset and its size. So the
 four may name their types differently, but not their fields.
@@ -248,7 +248,7 @@ class HeaderTest(unittest.TestCase):
                     self.assertEqual((field, offset), (field, min(starts, default=None)))
         for name, size in sizes.items():
             self.assertEqual((name, size), (name, size_and_alignment(structs[name])[0]))
-        # No offset stands in the code itself.
+        # The code itself has no offset.
         self.assertEqual(re.findall(r"\bat\b[.\w]* \+ \d.*", text_of("web/library.js")), [])
 
     def test_numbers_that_calls_return(self):

@@ -1,4 +1,4 @@
-"""What the library behind include/bootswap.h does from C and from Python, and as bindings/README.md shows it."""
+"""What the library of include/bootswap.h does from C and from Python, and as bindings/README.md shows it."""
 
 import os
 import re

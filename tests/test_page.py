@@ -1,4 +1,4 @@
-"""What the page of web/ says beside what the program prints, how it looks, and what its links and controls are."""
+"""What the page of web/ shows compared with the output of the program, how it looks, and its links and controls."""
 
 import base64
 import json

@@ -39,7 +39,7 @@ COSTS = {
 # The most memory that the check of a crate has taken, in bytes.
 MEMORY = 2_300_000_000
 
-# The crate of the library behind include/bootswap.h.
+# The crate of the library of include/bootswap.h.
 LIBRARY = "c_interface"
 
 TARGET = "x86_64-unknown-linux-gnu"

@@ -3,7 +3,7 @@
 
 The first sentence of a head says what the crate is for. Items of a list say more, each begun by one of `LABELS`:
 
-    //! The trailer behind each slot, with MCUboot's fields.
+    //! The trailer after each slot, with MCUboot's fields.
     //!
     //! - Promises: Settling can be repeated.
     //! - Main calls: `read_trailer`, `settle`

@@ -49,14 +49,14 @@ def processes_below(top):
 
 
 def forget_ended():
-    """Takes the status of each child that ended: only then does the system forget it."""
+    """Reads the status of each child that ended. Only then does the system forget the child."""
     with contextlib.suppress(ChildProcessError):
         while os.waitpid(-1, os.WNOHANG) != (0, 0):
             pass
 
 
 def end_processes():
-    """Ends all that this process started: by SIGTERM, and what still runs or is started after a second by SIGKILL."""
+    """Ends everything that this process started: by SIGTERM, and after a second by SIGKILL what still runs."""
     for number, seconds in ((signal.SIGTERM, ASKED), (signal.SIGKILL, KILLED)):
         until, asked = time.monotonic() + seconds, set()
         while True:
@@ -105,7 +105,7 @@ class Whole:
 
 @contextlib.contextmanager
 def blocked_signals():
-    """Has signals wait until what is done inside is done."""
+    """Makes signals wait until the block ends."""
     signal.pthread_sigmask(signal.SIG_BLOCK, SIGNALS)
     try:
         yield

@@ -30,7 +30,7 @@ CALLS = re.compile(r"\bit calls `")
 # What it says of a function that isn't named by a mutant: it is proved, or its turn comes when those that it calls are.
 FINE = re.compile(rf"proved|.*{CALLS.pattern}")
 
-# What a check says where it can't read a text, as where a proof names what an edit took away.
+# What a check prints if it can't read a text, for example if a proof names what an edit removed.
 UNREAD = "is not in scope|has no field|has no `|is no name|was not admitted|operand is missing|expected the end|cannot continue"
 UNREAD = re.compile(UNREAD)
 
@@ -40,7 +40,7 @@ GOAL = re.compile(r"note: (\S+):(\d+):\d+: it is not proved that ")
 # The line that begins a function.
 BEGIN = re.compile(r"(?P<indent> *)(?:pub(?:\([a-z]+\))? )?(?:const |unsafe |extern \"C\" )*fn (\w+)")
 
-# How many lines of a check are shown where it didn't end as it has to, and those that only count what was read.
+# How many lines of a check are shown if it didn't end as expected, and the lines that only count what was read.
 MOST_SHOWN = 12
 COUNTED = re.compile(r"(statements|crate) \w+: modules |logic ")
 
@@ -78,13 +78,13 @@ class Mutant:
             texts[file] = text.replace(old, new)
 
     def place(self, folder):
-        """Returns the file and the lines, from 1, of its function, where its changes all stand in the body of that."""
+        """Returns the file and the lines, from 1, of its function, if all its changes are in the body of this function."""
         places = {place_of(self.function.rpartition("::")[2], folder, file, old) for file, old, _ in self.changes}
         return places.pop() if len(places) == 1 else None
 
 
 def place_of(function, folder, file, text):
-    """Returns the file and the lines of a function in whose body a text stands, or None where it stands elsewhere."""
+    """Returns the file and the lines of the function whose body has a text, or None if no function's body has it."""
     lines = (text_of(f"{folder}/{file}") or "").split("\n")
     at = next((number for number, line in enumerate(lines) if text in line), 0)
     begins = [number for number in range(at) if BEGIN.match(lines[number])]
@@ -127,8 +127,8 @@ class Trial:
         return mutants[:1] if mutants[0] not in of_one.values() else [*of_one.values()]
 
     def check(self, mutants):
-        """Checks the functions that mutants name, and what they call, with these edits. Returns the status and what was
-        said, by lines. What was proved is kept for the next check."""
+        """Checks the functions that mutants name, and what they call, with these edits. Returns the status and the lines of
+        the output. The next check uses what was proved."""
         with tempfile.TemporaryDirectory(prefix="bootswap-mutant-") as room:
             for part in ("src", "specs", "proofs"):
                 if os.path.isdir(f"{self.crate.folder}/{part}"):
@@ -146,8 +146,8 @@ class Trial:
         return ran.returncode, ran.stdout.rstrip("\n").split("\n")
 
     def tried(self, mutants):
-        """Tries mutants in one check. Returns what is wrong with each, nothing where it is refused at its function for
-        what it does, and None where it has to be tried again: its function calls another one that is refused, or there is no
+        """Tries mutants in one check. Returns what is wrong with each: nothing if it is refused at its function for what it
+        does. None if it has to be tried again, because its function calls another one that is refused, or because there is no
         verdict on some mutants together."""
         is_alone = len(mutants) == 1
         try:
@@ -180,7 +180,7 @@ class Trial:
 
 
 def last_of(lines):
-    """Returns the last lines of a check, but for those that count what it read."""
+    """Returns the last lines of a check, except those that count what it read."""
     return [it for it in lines if not COUNTED.match(it)][-MOST_SHOWN:]
 
 

@@ -15,7 +15,7 @@ from crate_heads import ROOT, text_of
 PAGE = "docs/PROOFS.md"
 
 SECTION = re.compile(r"^## ([^\n]*)\n.*?(?=^## |\Z)", re.MULTILINE | re.DOTALL)
-# Where the heading of a section doesn't name its crates, a line does.
+# If the heading of a section doesn't name its crates, a line does.
 CRATES = re.compile(r"^Crates: (.*?)\.", re.MULTILINE | re.DOTALL)
 # A promise, and its entry up to the next paragraph that begins in bold, or the next heading.
 ENTRY = re.compile(r"^\*\*([^*]+?)\.?\*\*.*?(?=^\*\*|^#|\Z)", re.MULTILINE | re.DOTALL)

@@ -18,7 +18,7 @@
 //! The state of a device between two calls is in the caller's memory too. The next call reads what
 //! the last one wrote there. Bytes that aren't a valid state, or whose uploads don't match the
 //! flash, are a device that isn't booted. Each call returns, on any contents. The caller guarantees
-//! that the lengths are right and that no buffers overlap.
+//! the lengths, and that a buffer that is written overlaps no other.
 //!
 //! The flash is bytes in memory: this library doesn't call a flash driver in C.
 #![tactic(auto)]
