@@ -1,4 +1,4 @@
-"""The static library behind include/bootswap.h, for the tests that link it.
+"""The static library of include/bootswap.h, for the tests that link it.
 
 Tests don't prove it anew. They take what `bindings/build` and `web/build` built. In the complete gate they build it over
 the libraries of the crates below it that `rt ci` proved in the folder BOOTSWAP_PROVED.

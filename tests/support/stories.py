@@ -1,4 +1,4 @@
-"""Devices step by step: the files that come to a device, and steps that each check it."""
+"""Devices step by step: the files that a device receives, and steps that each check it."""
 
 import hashlib
 
