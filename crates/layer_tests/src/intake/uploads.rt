@@ -38,15 +38,15 @@ fn manifest_of(sequence: u32, named: [Component; 2]) -> Result<Manifest, Fail> {
     })
 }
 
-/// A component that is requested for a test.
-fn component(image: u8, size: u32, digest: [u8; 32]) -> Component {
-    Component {
+/// Components for images 0 and 1, each for a test: FIRST and SECOND, as files of `size` bytes.
+fn files(size: u32) -> [Component; 2] {
+    [(0, FIRST_DIGEST), (1, SECOND_DIGEST)].map(|(image, digest)| Component {
         image,
         permanent: false,
         size,
         digest,
         precursor: None,
-    }
+    })
 }
 
 /// Whether the map has each image that the components name.
@@ -146,76 +146,7 @@ fn begun<L: Ledger>(
     Ok(flash)
 }
 
-/// A manifest is refused if one of its files has a precursor and no image runs.
-fn refuse_follower<L: Ledger>(
-    rt: &impl Abort,
-    uploads: &mut Uploads,
-    flash: &mut MemFlash<L>,
-    map: &SectorMap,
-) -> Result<(), Fail>
-    requires { AllOpenAt (view map.now (chip_of flash.old)) uploads.old.sessions }
-    ensures { AllOpenAt (view map.now (chip_of flash.new)) uploads.new.sessions }
-{
-    let mut follower = component(1, 96, SECOND_DIGEST);
-    follower.precursor = Some([0xff; 32]);
-    let manifest = manifest_of(4, [component(0, 96, FIRST_DIGEST), follower])?;
-    let refused = Err(UploadError::WrongPrecursor);
-    play(
-        rt,
-        uploads,
-        flash,
-        map,
-        &[(Step::Accept(&manifest), refused)],
-    )
-}
-
-/// Uploads two images, then withdraws one request.
-fn upload_both<L: Ledger>(
-    rt: &impl Abort,
-    uploads: &mut Uploads,
-    flash: &mut MemFlash<L>,
-    map: &SectorMap,
-) -> Result<(), Fail>
-    requires { AllOpenAt (view map.now (chip_of flash.old)) uploads.old.sessions }
-    ensures { AllOpenAt (view map.now (chip_of flash.new)) uploads.new.sessions }
-{
-    let second = component(1, 96, SECOND_DIGEST);
-    let manifest = manifest_of(4, [component(0, 96, FIRST_DIGEST), second])?;
-    let steps = [
-        (Step::Accept(&manifest), DONE),
-        (Step::Piece(0, &FIRST[..90]), DONE),
-        (Step::Piece(1, &SECOND), DONE),
-        (Step::Piece(0, &FIRST[90..]), DONE),
-        (Step::Finish(1), DONE),
-        (Step::Finish(0), DONE),
-        (Step::Withdraw(0), DONE),
-    ];
-    play(rt, uploads, flash, map, &steps)
-}
-
-/// Uploads files that fill their slots.
-fn upload_others<L: Ledger>(
-    rt: &impl Abort,
-    uploads: &mut Uploads,
-    flash: &mut MemFlash<L>,
-    map: &SectorMap,
-) -> Result<(), Fail>
-    requires { AllOpenAt (view map.now (chip_of flash.old)) uploads.old.sessions }
-    ensures { AllOpenAt (view map.now (chip_of flash.new)) uploads.new.sessions }
-{
-    let first = component(0, 1024, FIRST_DIGEST);
-    let manifest = manifest_of(5, [component(1, 1024, SECOND_DIGEST), first])?;
-    let steps = [
-        (Step::Accept(&manifest), DONE),
-        (Step::Piece(1, &[0x5a; 1024]), DONE),
-        (Step::Piece(0, &[0x5a; 1024]), DONE),
-        (Step::Finish(1), Err(UploadError::DigestWrong)),
-        (Step::Piece(0, &[0x5a]), Err(UploadError::TooMuch)),
-    ];
-    play(rt, uploads, flash, map, &steps)
-}
-
-/// Makes all these uploads on a flash that is longer than its map.
+/// Makes uploads on a flash that is longer than its map.
 fn uploaded<L: Ledger>(rt: &(impl Abort + AllocGlobal), blank: Blank) -> Result<(), Fail>
     requires name { blank.name ≡ L.name }
     requires parts { blank.parts ≡ L.parts }
@@ -224,9 +155,37 @@ fn uploaded<L: Ledger>(rt: &(impl Abort + AllocGlobal), blank: Blank) -> Result<
     let map = SectorMap::new(512, &[2, 2])?;
     let mut flash = begun::<L>(rt, blank, &map)?;
     let mut uploads = Uploads::new();
-    refuse_follower(rt, &mut uploads, &mut flash, &map)?;
-    upload_both(rt, &mut uploads, &mut flash, &map)?;
-    upload_others(rt, &mut uploads, &mut flash, &map)
+    let [first, second] = files(96);
+    let follower = Component {
+        precursor: Some([0xff; 32]),
+        ..second
+    };
+    // No image runs, so no file can have a precursor.
+    let following = manifest_of(4, [first, follower])?;
+    let steps = [(Step::Accept(&following), Err(UploadError::WrongPrecursor))];
+    play(rt, &mut uploads, &mut flash, &map, &steps)?;
+    let both = manifest_of(4, [first, second])?;
+    let steps = [
+        (Step::Accept(&both), DONE),
+        (Step::Piece(0, &FIRST[..90]), DONE),
+        (Step::Piece(1, &SECOND), DONE),
+        (Step::Piece(0, &FIRST[90..]), DONE),
+        (Step::Finish(1), DONE),
+        (Step::Finish(0), DONE),
+        (Step::Withdraw(0), DONE),
+    ];
+    play(rt, &mut uploads, &mut flash, &map, &steps)?;
+    // Other files fill the slots.
+    let [first, second] = files(1024);
+    let others = manifest_of(5, [second, first])?;
+    let steps = [
+        (Step::Accept(&others), DONE),
+        (Step::Piece(1, &[0x5a; 1024]), DONE),
+        (Step::Piece(0, &[0x5a; 1024]), DONE),
+        (Step::Finish(1), Err(UploadError::DigestWrong)),
+        (Step::Piece(0, &[0x5a]), Err(UploadError::TooMuch)),
+    ];
+    play(rt, &mut uploads, &mut flash, &map, &steps)
 }
 
 #[test]

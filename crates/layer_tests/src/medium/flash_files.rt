@@ -125,10 +125,8 @@ const STORIES: [Story; 2] = [
 fn a_write_that_fails_in_the_file_is_cut_and_so_are_later_ones(
     rt: HostRuntime,
 ) -> Result<(), AllocError> {
-    let mut are_right = true;
     for story in &STORIES {
-        are_right = is_seen(rt.alloc(), story)? && are_right;
+        assert!(rt; is_seen(rt.alloc(), story)?);
     }
-    assert!(rt; are_right);
     Ok(())
 }
