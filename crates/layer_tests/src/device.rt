@@ -1,7 +1,9 @@
-//! A device on a flash in memory: what no run of the program shows. The images and the bytes of a
-//! provisioned flash are written out; digests were taken by another program.
+//! Tests of a device on a flash in memory that no run of the program makes.
+//!
+//! The images and the bytes of a provisioned flash are constants. Another program computed the
+//! digests.
 
-mod devices;
+pub(crate) mod devices;
 mod given_manifests;
 mod longer_flashes;
 mod provisioning;

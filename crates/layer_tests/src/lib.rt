@@ -2,15 +2,18 @@
 //!
 //! - Allocates: flashes in memory, texts, images.
 //!
-//! They are of flashes and maps, records on a flash, images and uploads, the device, and values.
-//! Each module tests its layer as a caller of it sees it. Expected bytes, sectors and addresses are
-//! written out; digests were made by another program. No crate calls this one.
+//! The tests are of flashes and maps, records on a flash, images and uploads, the device, and
+//! values. Each module tests its layer as a caller sees it. Expected bytes, sectors and addresses
+//! are constants; another program computed the digests. The examples are those that doc comments
+//! show. No crate calls this one.
 #![tactic(auto)]
 
 #[cfg(test)]
 mod counting;
 #[cfg(test)]
 mod device;
+#[cfg(test)]
+mod examples;
 #[cfg(test)]
 mod images;
 #[cfg(test)]

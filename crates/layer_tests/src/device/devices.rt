@@ -1,6 +1,7 @@
-//! A device of two images on a flash in memory, and what comes of events on it. Sectors have 512
-//! bytes and slots two sectors, so that the primary slots begin at 0 and at 1536, and each slot has
-//! the sector of its trailer after it.
+//! A device of two images on a flash in memory, and the outcome of events.
+//!
+//! Sectors have 512 bytes and slots two sectors. Each slot is followed by the sector of its
+//! trailer, so the primary slots begin at the addresses 0 and 1536.
 
 ghost use Rattle.std.specs.Prelude.{◌≡◌};
 
@@ -16,10 +17,12 @@ use std::process::Abort;
 use std::sync::ledger::{Blank, Ledger};
 use std::test::Fail;
 
-/// A manifest for the device: FIRST for image 0 and SECOND for image 1, both for a test. The
-/// identifier of its class is the UUID of version 5 of `bootswap` in the namespace of the vendor's
-/// identifier, and the digests were taken by another program.
-pub(super) const PAIR: &[u8] = b"{\"manifest-version\":1,\"sequence-number\":1,\
+/// The text of a manifest for the device: FIRST for image 0 and SECOND for image 1, both for a
+/// test.
+///
+/// The identifier of its class is the UUID of version 5 of `bootswap` in the namespace of the
+/// vendor's identifier. Another program computed the digests.
+pub(crate) const PAIR: &[u8] = b"{\"manifest-version\":1,\"sequence-number\":1,\
     \"vendor-id\":\"886313e1-3b8a-5372-9b90-0c9aee199e5d\",\
     \"class-id\":\"74b0b1ed-70fe-5a24-9102-6a41c2172c6d\",\"components\":[\
     {\"component-id\":0,\"kind\":\"test\",\"payload-digest\":\
@@ -27,7 +30,7 @@ pub(super) const PAIR: &[u8] = b"{\"manifest-version\":1,\"sequence-number\":1,\
     {\"component-id\":1,\"kind\":\"test\",\"payload-digest\":\
     \"aec6e45d3aa1b928f93ca89f4c4835da6b261ffea3de90c93242ca94c188cc4f\",\"size\":96}]}";
 
-/// The upload of both files, and the boot that tries them.
+/// The events that upload both files, and the boot that tries them.
 pub(super) const UPGRADE: [Event<&[u8]>; 6] = [
     Event::Accept(PAIR),
     Event::Piece(0, &FIRST),
@@ -37,13 +40,13 @@ pub(super) const UPGRADE: [Event<&[u8]>; 6] = [
     Event::Boot,
 ];
 
-/// Writes a part of bytes.
+/// Writes `part` into bytes, from index `at` on.
 pub(super) fn put(rt: &impl Abort, bytes: &mut Vec<u8>, at: usize, part: &[u8]) {
     assert!(rt; at <= bytes.len() && part.len() <= bytes.len() - at);
     bytes[at..at + part.len()].copy_from_slice(part);
 }
 
-/// What a new log holds, at its places: the record of a steady state with the sequence number 0 and
+/// The contents of a new log, by address: the record of a steady state with sequence number 0 and
 /// no floor, its gate, and the closing unit of the third sector.
 const LOG: [(usize, &[u8]); 4] = [
     (6656, &[0x00; 56]),
@@ -52,7 +55,7 @@ const LOG: [(usize, &[u8]); 4] = [
     (8184, &[0x01]),
 ];
 
-/// The bytes of a provisioned flash that runs these images.
+/// The bytes of a provisioned flash on which these images run.
 pub(super) fn provisioned(
     rt: &(impl Abort + AllocGlobal),
     first: &[u8],
@@ -67,22 +70,28 @@ pub(super) fn provisioned(
     Ok(bytes)
 }
 
-/// The bytes of a provisioned flash that runs RUNNING twice.
-pub(super) fn two_images(rt: &(impl Abort + AllocGlobal)) -> Result<Vec<u8>, Fail> {
+/// The bytes of a provisioned flash on which RUNNING runs as both images.
+pub(crate) fn two_images(rt: &(impl Abort + AllocGlobal)) -> Result<Vec<u8>, Fail> {
     provisioned(rt, &RUNNING, &RUNNING)
 }
 
-/// A device of two images on a flash, which hasn't booted.
-pub(super) fn device_on<F: Flash + Drop>(rt: &impl Abort, flash: F) -> Result<Device<F>, Fail> {
-    let map = SectorMap::new(512, &[2, 2])?;
+/// The vendor and the class of the device, with this number of images.
+pub(crate) fn identity(images: u8) -> Identity
+    ensures { result.images ≡ images }
+{
     let vendor = vendor_id("python.org");
-    let identity = Identity {
+    Identity {
         vendor,
         class: class_id(vendor, "bootswap"),
-        images: map.images,
-    };
+        images,
+    }
+}
+
+/// A device of two images on a flash. It hasn't booted.
+pub(super) fn device_on<F: Flash + Drop>(rt: &impl Abort, flash: F) -> Result<Device<F>, Fail> {
+    let map = SectorMap::new(512, &[2, 2])?;
     assert!(rt; map.fits(&flash));
-    Ok(Device::new(flash, map, identity))
+    Ok(Device::new(flash, map, identity(map.images)))
 }
 
 fn play<L: Ledger>(
@@ -104,7 +113,7 @@ fn play<L: Ledger>(
     ))
 }
 
-/// The replies to events on a device whose flash has these bytes, and its bytes then.
+/// The replies to events of a device whose flash has these bytes, and the bytes after the events.
 pub(super) fn outcome_of(
     rt: &(impl Abort + AllocGlobal),
     bytes: Vec<u8>,
