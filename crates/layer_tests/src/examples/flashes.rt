@@ -62,8 +62,8 @@ fn cut_in_bytes<L: Ledger>(
     requires whole { length bytes.old ≡ 1024 }
 {
     // example: slice_flash::SliceFlash::new
-    // `bytes` are two sectors of 512 bytes. Power fails in the second write, which leaves the byte
-    // 0x5a, repeated.
+    // `bytes` are two sectors of 512 bytes. Power fails in the second write, which leaves only
+    // bytes 0x5a in its range.
     let table = [ArmedCut {
         write: 2,
         left: Left::Bytes(&[0x5a]),
