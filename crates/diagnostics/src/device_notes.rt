@@ -1,11 +1,12 @@
 //! Explains why bytes aren't a device file, and which sizes make no map.
 
+use crate::Result;
 use crate::json_notes::{Key, Object, Wanted, add_value, explain_count, explain_text};
 use common::limits::{MOST_IMAGES, MOST_TRIAL_BOOTS};
 use manifest::json::{array, json_of, number, number_of};
 use sector_map::MapError;
 use serde_json::Value;
-use std::alloc::{AllocError, Global};
+use std::alloc::Global;
 
 /// The keys of a device file.
 const KEYS: [Key; 5] = [
@@ -21,7 +22,7 @@ const KEYS: [Key; 5] = [
 ///
 /// # Errors
 /// `AllocError` if memory is refused. Then `notes` has a part of the text.
-pub fn explain_device(notes: &mut String, alloc: Global, bytes: &[u8]) -> Result<(), AllocError> {
+pub fn explain_device(notes: &mut String, alloc: Global, bytes: &[u8]) -> Result {
     match json_of(alloc, bytes) {
         Ok(value) => explain_value(notes, alloc, &value),
         Err(_) => explain_text(notes, alloc, bytes),
@@ -29,7 +30,7 @@ pub fn explain_device(notes: &mut String, alloc: Global, bytes: &[u8]) -> Result
 }
 
 /// Adds why a JSON value isn't a device file.
-fn explain_value(notes: &mut String, alloc: Global, value: &Value) -> Result<(), AllocError> {
+fn explain_value(notes: &mut String, alloc: Global, value: &Value) -> Result {
     let file = Object {
         name: "the device file",
         value,
@@ -41,7 +42,7 @@ fn explain_value(notes: &mut String, alloc: Global, value: &Value) -> Result<(),
 }
 
 /// Adds the entries of `sectors` that aren't numbers.
-fn explain_sectors(notes: &mut String, alloc: Global, value: &Value) -> Result<(), AllocError> {
+fn explain_sectors(notes: &mut String, alloc: Global, value: &Value) -> Result {
     let Some(sectors) = array(value, "sectors") else {
         return Ok(());
     };
@@ -59,7 +60,7 @@ fn explain_sectors(notes: &mut String, alloc: Global, value: &Value) -> Result<(
 }
 
 /// Adds that a trial has too few or too many boots, if it has.
-fn explain_trial_boots(notes: &mut String, value: &Value) -> Result<(), AllocError> {
+fn explain_trial_boots(notes: &mut String, value: &Value) -> Result {
     match number(value, "trial-boots") {
         Some(boots) if boots < 1 || boots > u32::from(MOST_TRIAL_BOOTS) => writeln!(
             notes,
@@ -95,12 +96,7 @@ const OPTION_NAMES: SizeNames = SizeNames {
 ///
 /// # Errors
 /// `AllocError` if memory is refused. Then `notes` has a part of the text.
-pub fn explain_map(
-    notes: &mut String,
-    alloc: Global,
-    bytes: &[u8],
-    fault: MapError,
-) -> Result<(), AllocError> {
+pub fn explain_map(notes: &mut String, alloc: Global, bytes: &[u8], fault: MapError) -> Result {
     let Ok(value) = json_of(alloc, bytes) else {
         return Ok(());
     };
@@ -124,7 +120,7 @@ pub fn explain_asked_map(
     sector: u32,
     sectors: &[u32],
     fault: MapError,
-) -> Result<(), AllocError> {
+) -> Result {
     explain_sizes(notes, OPTION_NAMES, sector, sectors, fault)
 }
 
@@ -135,7 +131,7 @@ fn explain_sizes(
     sector: u32,
     sectors: &[u32],
     fault: MapError,
-) -> Result<(), AllocError> {
+) -> Result {
     match fault {
         MapError::BadSector => {
             let name = names.sector;
@@ -153,7 +149,7 @@ fn explain_sizes(
 }
 
 /// Adds that there are too few or too many images, or which image has no sectors.
-fn explain_images(notes: &mut String, name: &str, sectors: &[u32]) -> Result<(), AllocError> {
+fn explain_images(notes: &mut String, name: &str, sectors: &[u32]) -> Result {
     explain_count(notes, name, sectors.len(), ", one an image", MOST_IMAGES)?;
     for (image, sectors) in sectors.iter().enumerate() {
         if *sectors == 0 {
@@ -168,7 +164,7 @@ fn explain_images(notes: &mut String, name: &str, sectors: &[u32]) -> Result<(),
 
 /// Adds the images whose trailers don't fit into a sector, and the most sectors that a slot may
 /// have.
-fn explain_trailers(notes: &mut String, sector: u32, sectors: &[u32]) -> Result<(), AllocError> {
+fn explain_trailers(notes: &mut String, sector: u32, sectors: &[u32]) -> Result {
     let most = sector.saturating_sub(56) / 24;
     for (image, sectors) in sectors.iter().enumerate() {
         let trailer = u64::from(*sectors) * 24 + 56;

@@ -1,5 +1,6 @@
 //! Explains why bytes aren't an intact image.
 
+use crate::Result;
 use crate::image_areas::{
     Area, COUNTER, DEPENDENCY, DIGEST, EntryAt, GROUP, Sought, end_of_body, long_number_at,
     number_at, protected_area, unprotected_area,
@@ -7,18 +8,13 @@ use crate::image_areas::{
 use image_header::{ACCEPTED_FLAGS, HEADER_LENGTH, Header};
 use image_reading::ImageError;
 use sha2::{Digest, Sha256};
-use std::alloc::AllocError;
 
 /// Adds where bytes fail this check of an image, and what they contain there. Bytes are numbered
 /// from 0.
 ///
 /// # Errors
 /// `AllocError` if memory is refused. Then `notes` has a part of the text.
-pub fn explain_image(
-    notes: &mut String,
-    bytes: &[u8],
-    fault: ImageError,
-) -> Result<(), AllocError> {
+pub fn explain_image(notes: &mut String, bytes: &[u8], fault: ImageError) -> Result {
     match fault {
         ImageError::Short => {
             let length = bytes.len();
@@ -58,12 +54,7 @@ pub fn explain_image(
 }
 
 /// Adds where bytes with this header fail a check of an image's areas.
-fn explain_areas(
-    notes: &mut String,
-    bytes: &[u8],
-    header: &Header,
-    fault: ImageError,
-) -> Result<(), AllocError> {
+fn explain_areas(notes: &mut String, bytes: &[u8], header: &Header, fault: ImageError) -> Result {
     let protected = protected_area(header);
     let unprotected = unprotected_area(header);
     match fault {
@@ -99,7 +90,7 @@ fn explain_areas(
 }
 
 /// Adds the number of bytes, and where the parts of the image would be.
-fn explain_end(notes: &mut String, bytes: &[u8], header: &Header) -> Result<(), AllocError> {
+fn explain_end(notes: &mut String, bytes: &[u8], header: &Header) -> Result {
     let length = bytes.len();
     let body = end_of_body(header);
     let (header_size, body_size) = (header.header_size, header.body_size);
@@ -115,7 +106,7 @@ fn explain_end(notes: &mut String, bytes: &[u8], header: &Header) -> Result<(), 
 }
 
 /// Adds where an area begins, and its length if the bytes give one.
-fn add_area(notes: &mut String, bytes: &[u8], kind: &str, area: Area) -> Result<(), AllocError> {
+fn add_area(notes: &mut String, bytes: &[u8], kind: &str, area: Area) -> Result {
     let place = area.place;
     match area.own_length(bytes) {
         Some(length) => writeln!(
@@ -130,7 +121,7 @@ fn add_area(notes: &mut String, bytes: &[u8], kind: &str, area: Area) -> Result<
 }
 
 /// Adds the magic number that an area begins with.
-fn explain_magic(notes: &mut String, bytes: &[u8], area: Area) -> Result<(), AllocError> {
+fn explain_magic(notes: &mut String, bytes: &[u8], area: Area) -> Result {
     let (place, magic) = (area.place, area.magic);
     let found = area.own_magic(bytes).unwrap_or_default();
     writeln!(
@@ -145,7 +136,7 @@ fn has_its_length(bytes: &[u8], area: Area) -> bool {
 }
 
 /// Adds the length that an area has, and what is wrong with it.
-fn explain_length(notes: &mut String, bytes: &[u8], area: Area) -> Result<(), AllocError> {
+fn explain_length(notes: &mut String, bytes: &[u8], area: Area) -> Result {
     let place = area.place.saturating_add(2);
     let length = area.own_length(bytes).unwrap_or_default();
     match area.said {
@@ -173,7 +164,7 @@ fn explain_length(notes: &mut String, bytes: &[u8], area: Area) -> Result<(), Al
 }
 
 /// Adds what is wrong with the digest of an image.
-fn explain_digest(notes: &mut String, bytes: &[u8], area: Area) -> Result<(), AllocError> {
+fn explain_digest(notes: &mut String, bytes: &[u8], area: Area) -> Result {
     let Some(first) = area.find(bytes, Sought::Kind(DIGEST), 0) else {
         let place = area.place;
         return writeln!(
@@ -200,12 +191,7 @@ fn explain_digest(notes: &mut String, bytes: &[u8], area: Area) -> Result<(), Al
 }
 
 /// Adds the digest in an entry, and the digest of the bytes before `end`.
-fn explain_hash(
-    notes: &mut String,
-    bytes: &[u8],
-    end: usize,
-    entry: &EntryAt<'_>,
-) -> Result<(), AllocError> {
+fn explain_hash(notes: &mut String, bytes: &[u8], end: usize, entry: &EntryAt<'_>) -> Result {
     let place = entry.place;
     let hashed = bytes.get(..end).unwrap_or_default();
     write!(notes, "note: at byte {place} stands the digest ")?;
@@ -223,7 +209,7 @@ fn explain_hash(
 ///
 /// # Errors
 /// `AllocError` if memory is refused. Then `notes` has a part of the digits.
-pub fn add_digits(notes: &mut String, bytes: &[u8]) -> Result<(), AllocError> {
+pub fn add_digits(notes: &mut String, bytes: &[u8]) -> Result {
     for byte in bytes {
         write!(notes, "{byte:02x}")?;
     }
@@ -231,12 +217,7 @@ pub fn add_digits(notes: &mut String, bytes: &[u8]) -> Result<(), AllocError> {
 }
 
 /// Adds which entry of a protected area fails a check.
-fn explain_entries(
-    notes: &mut String,
-    bytes: &[u8],
-    area: Area,
-    fault: ImageError,
-) -> Result<(), AllocError> {
+fn explain_entries(notes: &mut String, bytes: &[u8], area: Area, fault: ImageError) -> Result {
     let (sought, number, text) = match fault {
         ImageError::BadDependency => (
             Sought::BadNeed,
@@ -270,7 +251,7 @@ fn explain_entries(
 }
 
 /// Adds what is wrong with an entry.
-fn add_entry(notes: &mut String, entry: &EntryAt<'_>, text: &str) -> Result<(), AllocError> {
+fn add_entry(notes: &mut String, entry: &EntryAt<'_>, text: &str) -> Result {
     let (place, kind, length) = (entry.place, entry.kind, entry.value.len());
     writeln!(
         notes,

@@ -1,9 +1,10 @@
 //! Explains which keys and values of a JSON object are wrong.
 
+use crate::Result;
 use crate::shown::Shown;
 use manifest::json::{array, digest, number, text, uuid};
 use serde_json::Value;
-use std::alloc::{AllocError, Global};
+use std::alloc::Global;
 
 /// The kind of value that a key must have.
 #[derive(Clone, Copy)]
@@ -75,7 +76,7 @@ impl Key {
 }
 
 /// Adds where a text stops being JSON.
-pub fn explain_text(notes: &mut String, alloc: Global, bytes: &[u8]) -> Result<(), AllocError> {
+pub fn explain_text(notes: &mut String, alloc: Global, bytes: &[u8]) -> Result {
     match Value::from_slice(alloc, bytes) {
         Err(error) if !error.is_memory() => writeln!(notes, "note: {error}"),
         _ => Ok(()),
@@ -95,7 +96,7 @@ pub struct Object<'a> {
 
 impl Object<'_> {
     /// Adds the missing keys, the unknown keys, and the keys with a wrong value.
-    pub fn explain(self, notes: &mut String, alloc: Global) -> Result<(), AllocError> {
+    pub fn explain(self, notes: &mut String, alloc: Global) -> Result {
         let owner = self.name;
         let Some(members) = self.value.as_object() else {
             return writeln!(notes, "note: {owner} is no object in braces");
@@ -111,7 +112,7 @@ impl Object<'_> {
     }
 
     /// Adds the missing keys.
-    fn explain_missing(self, notes: &mut String) -> Result<(), AllocError> {
+    fn explain_missing(self, notes: &mut String) -> Result {
         let owner = self.name;
         for key in self.keys {
             if key.is_missing(self.value) {
@@ -123,7 +124,7 @@ impl Object<'_> {
     }
 
     /// Adds the keys with a wrong value.
-    fn explain_values(self, notes: &mut String, alloc: Global) -> Result<(), AllocError> {
+    fn explain_values(self, notes: &mut String, alloc: Global) -> Result {
         let owner = self.name;
         for key in self.keys {
             let name = key.name();
@@ -158,7 +159,7 @@ pub fn explain_count(
     count: usize,
     each: &str,
     most: usize,
-) -> Result<(), AllocError> {
+) -> Result {
     if (1..=most).contains(&count) {
         return Ok(());
     }
@@ -169,7 +170,7 @@ pub fn explain_count(
 }
 
 /// Adds a value as JSON.
-pub fn add_value(notes: &mut String, alloc: Global, value: &Value) -> Result<(), AllocError> {
+pub fn add_value(notes: &mut String, alloc: Global, value: &Value) -> Result {
     let text = value.to_string(alloc)?;
     let shown = Shown(text.as_bytes());
     write!(notes, "{shown}")

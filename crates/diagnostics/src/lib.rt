@@ -33,5 +33,9 @@ pub use refusal_notes::explain_refusals;
 pub use report_notes::explain_report_line;
 pub use script_notes::{explain_script_line, file_named_at};
 pub use shown::Shown;
+use std::alloc::AllocError;
 pub use table_notes::explain_table_line;
 pub use verdict_notes::explain_no;
+
+/// The result of adding notes to a text: `AllocError` if memory is refused.
+pub type Result<T = ()> = std::result::Result<T, AllocError>;

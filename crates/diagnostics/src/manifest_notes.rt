@@ -1,10 +1,11 @@
 //! Explains why bytes aren't a manifest for a device.
 
+use crate::Result;
 use crate::json_notes::{Key, Object, Wanted, explain_count, explain_text};
 use manifest::json::{array, json_of, number, uuid};
 use manifest::{Identity, MOST_COMPONENTS};
 use serde_json::Value;
-use std::alloc::{AllocError, Global};
+use std::alloc::Global;
 use uuid::Uuid;
 
 /// The keys of a manifest.
@@ -36,7 +37,7 @@ pub fn explain_manifest(
     alloc: Global,
     bytes: &[u8],
     identity: &Identity,
-) -> Result<(), AllocError> {
+) -> Result {
     match json_of(alloc, bytes) {
         Ok(value) => explain_value(notes, alloc, &value, identity),
         Err(_) => explain_text(notes, alloc, bytes),
@@ -44,12 +45,7 @@ pub fn explain_manifest(
 }
 
 /// Adds why a JSON value isn't a manifest for a device of this identity.
-fn explain_value(
-    notes: &mut String,
-    alloc: Global,
-    value: &Value,
-    identity: &Identity,
-) -> Result<(), AllocError> {
+fn explain_value(notes: &mut String, alloc: Global, value: &Value, identity: &Identity) -> Result {
     let manifest = Object {
         name: "the manifest",
         value,
@@ -68,7 +64,7 @@ fn explain_value(
 }
 
 /// Adds that the version of the format isn't 1, if it isn't.
-fn explain_version(notes: &mut String, value: &Value) -> Result<(), AllocError> {
+fn explain_version(notes: &mut String, value: &Value) -> Result {
     match number(value, "manifest-version") {
         Some(version) if version != 1 => writeln!(
             notes,
@@ -79,12 +75,7 @@ fn explain_version(notes: &mut String, value: &Value) -> Result<(), AllocError> 
 }
 
 /// Adds that an identifier isn't the device's, if it isn't.
-fn explain_identifier(
-    notes: &mut String,
-    value: &Value,
-    key: &str,
-    own: Uuid,
-) -> Result<(), AllocError> {
+fn explain_identifier(notes: &mut String, value: &Value, key: &str, own: Uuid) -> Result {
     match uuid(value, key) {
         Some(found) if found != own => {
             writeln!(notes, "note: `{key}` is {found}, and the device's is {own}")
@@ -99,7 +90,7 @@ fn explain_components(
     alloc: Global,
     components: &[Value],
     images: u8,
-) -> Result<(), AllocError> {
+) -> Result {
     explain_count(notes, "components", components.len(), "", MOST_COMPONENTS)?;
     for (place, component) in components.iter().enumerate() {
         let before = components.get(..place).unwrap_or_default();
@@ -115,7 +106,7 @@ fn explain_component(
     before: &[Value],
     component: &Value,
     images: u8,
-) -> Result<(), AllocError> {
+) -> Result {
     let place = before.len();
     let owner = format!(in alloc; "entry {place} of `components`")?;
     let object = Object {
@@ -134,7 +125,7 @@ fn explain_image_of(
     before: &[Value],
     component: &Value,
     images: u8,
-) -> Result<(), AllocError> {
+) -> Result {
     let Some(image) = number(component, "component-id") else {
         return Ok(());
     };

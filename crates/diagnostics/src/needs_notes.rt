@@ -1,8 +1,8 @@
 //! Explains which dependencies a set of images doesn't meet.
 
+use crate::Result;
 use crate::versions::{NEEDS, NEEDS_ONE, Versions, is_taken};
 use certificate::{Entry, Request, Table};
-use std::alloc::AllocError;
 use version_order::Version;
 
 /// Adds a sentence for each dependency and group of the running images of a table that the running
@@ -10,13 +10,13 @@ use version_order::Version;
 ///
 /// # Errors
 /// `AllocError` if memory is refused. Then `notes` has a part of the text.
-pub fn explain_running(notes: &mut String, table: &Table) -> Result<(), AllocError> {
+pub fn explain_running(notes: &mut String, table: &Table) -> Result {
     explain_set(notes, table, 0)
 }
 
 /// Adds a sentence for each dependency and group that a set of the images of a table doesn't meet.
 /// If bit i of `taken` is set, the request of image i is in the set.
-pub fn explain_set(notes: &mut String, table: &Table, taken: u8) -> Result<(), AllocError> {
+pub fn explain_set(notes: &mut String, table: &Table, taken: u8) -> Result {
     let versions = Versions::of_set(table, taken);
     for (number, image) in table.images.iter().enumerate() {
         let entry = match &image.request {
@@ -29,12 +29,7 @@ pub fn explain_set(notes: &mut String, table: &Table, taken: u8) -> Result<(), A
 }
 
 /// Adds the dependencies and the groups of an image that these versions don't meet.
-fn explain_entry(
-    notes: &mut String,
-    versions: &Versions,
-    number: usize,
-    entry: &Entry,
-) -> Result<(), AllocError> {
+fn explain_entry(notes: &mut String, versions: &Versions, number: usize, entry: &Entry) -> Result {
     for need in entry.dependencies.iter() {
         if !versions.meet(need) {
             add_owner(notes, number, entry.version)?;
@@ -51,6 +46,6 @@ fn explain_entry(
 }
 
 /// Adds the start of a sentence on the version of an image.
-pub fn add_owner(notes: &mut String, number: usize, version: Version) -> Result<(), AllocError> {
+pub fn add_owner(notes: &mut String, number: usize, version: Version) -> Result {
     write!(notes, "note: image {number}: {version} ")
 }

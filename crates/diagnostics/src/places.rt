@@ -1,8 +1,8 @@
 //! Finds lines of a text by their numbers.
 
+use crate::Result;
 use crate::shown::Shown;
 use common::lines::first_line;
-use std::alloc::AllocError;
 
 /// A line of a text, and the lines before it.
 #[derive(Clone, Copy)]
@@ -39,7 +39,7 @@ pub fn add_wrong_line<'t>(
     text: &'t [u8],
     number: usize,
     empty: &str,
-) -> Result<Option<&'t [u8]>, AllocError> {
+) -> Result<Option<&'t [u8]>> {
     let Some(place) = line_at(text, number) else {
         notes.push_str(empty)?;
         return Ok(None);
@@ -50,12 +50,7 @@ pub fn add_wrong_line<'t>(
 }
 
 /// Adds the contents of a line of a text of this kind.
-pub fn add_line(
-    notes: &mut String,
-    kind: &str,
-    number: usize,
-    line: &[u8],
-) -> Result<(), AllocError> {
+pub fn add_line(notes: &mut String, kind: &str, number: usize, line: &[u8]) -> Result {
     let shown = Shown(line);
     writeln!(notes, "note: {kind} line {number} is `{shown}`")?;
     if line.last() == Some(&b'\r') {

@@ -1,9 +1,9 @@
 //! Explains why a report refuses requests.
 
+use crate::Result;
 use crate::needs_notes::add_owner;
 use crate::versions::{NEEDS, NEEDS_ONE, Versions};
 use certificate::{Entry, Image, Reason, Refusal, Report, Request, Table};
-use std::alloc::AllocError;
 use version_order::Dependency;
 
 /// Adds a sentence for each request that a report refuses, with the versions that the reason
@@ -11,11 +11,7 @@ use version_order::Dependency;
 ///
 /// # Errors
 /// `AllocError` if memory is refused. Then `notes` has a part of the text.
-pub fn explain_refusals(
-    notes: &mut String,
-    table: &Table,
-    report: &Report,
-) -> Result<(), AllocError> {
+pub fn explain_refusals(notes: &mut String, table: &Table, report: &Report) -> Result {
     let refusals = report.refusals.as_slice();
     for (place, refusal) in refusals.iter().enumerate() {
         let before = refusals.get(..place).unwrap_or_default();
@@ -33,7 +29,7 @@ fn explain_refusal(
     before: &[Refusal],
     image: &Image,
     refusal: &Refusal,
-) -> Result<(), AllocError> {
+) -> Result {
     let Request::Entry(entry) = &image.request else {
         let own = refusal.image;
         return writeln!(
@@ -65,7 +61,7 @@ fn add_reason(
     image: &Image,
     entry: &Entry,
     reason: &Reason,
-) -> Result<(), AllocError> {
+) -> Result {
     let (running, counter, floor) = (image.running.version, entry.counter, image.floor);
     match reason {
         Reason::Damaged => Ok(()),

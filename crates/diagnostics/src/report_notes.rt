@@ -1,10 +1,10 @@
 //! Explains the first wrong line of a report.
 
+use crate::Result;
 use crate::places::add_wrong_line;
 use crate::table_notes::WORDS;
 use certificate::{MOST_REFUSALS, Report};
 use common::limits::MOST_IMAGES;
-use std::alloc::AllocError;
 
 /// The note on a report without lines.
 const EMPTY: &str =
@@ -21,11 +21,7 @@ note: one to four pairs J VERSION
 ///
 /// # Errors
 /// `AllocError` if memory is refused. Then `notes` has a part of the text.
-pub fn explain_report_line(
-    notes: &mut String,
-    text: &[u8],
-    number: usize,
-) -> Result<(), AllocError> {
+pub fn explain_report_line(notes: &mut String, text: &[u8], number: usize) -> Result {
     let Some(before) = add_wrong_line(notes, "report", text, number, EMPTY)? else {
         return Ok(());
     };
@@ -38,7 +34,7 @@ pub fn explain_report_line(
 }
 
 /// Adds the lines that may follow a report.
-fn add_choices(notes: &mut String, report: &Report) -> Result<(), AllocError> {
+fn add_choices(notes: &mut String, report: &Report) -> Result {
     let count = report.images.len();
     if count < MOST_IMAGES && report.refusals.is_empty() {
         write!(notes, " `run {count} VERSION`, `take {count} VERSION`")?;

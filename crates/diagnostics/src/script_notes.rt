@@ -1,12 +1,12 @@
 //! Explains what is wrong with a line of a script.
 
+use crate::Result;
 use crate::places::{add_line, line_at};
 use crate::shown::Shown;
 use common::ascii::{cut, number, number_u8};
 use common::lines::first_line;
 use common::texts::STANDARD_INPUT;
 use script::{Event, FileText, Line, PartText, line_of};
-use std::alloc::AllocError;
 
 /// The fields after the first word of a line.
 #[derive(Clone, Copy)]
@@ -45,7 +45,7 @@ pub fn explain_script_line(
     number: usize,
     may_cut: bool,
     length: Option<u64>,
-) -> Result<(), AllocError> {
+) -> Result {
     let Some(place) = line_at(text, number) else {
         return Ok(());
     };
@@ -61,7 +61,7 @@ pub fn explain_script_line(
 }
 
 /// Adds why the line that cuts this write can't follow these lines.
-fn explain_order(notes: &mut String, before: &[u8], write: u32) -> Result<(), AllocError> {
+fn explain_order(notes: &mut String, before: &[u8], write: u32) -> Result {
     let mut rest = before;
     let mut last = 0;
     for _ in 0..before.len() {
@@ -95,7 +95,7 @@ fn explain_event(
     before: &[u8],
     event: Event<FileText<'_>>,
     length: Option<u64>,
-) -> Result<(), AllocError> {
+) -> Result {
     let (Event::Accept(file) | Event::Piece(_, file)) = event else {
         return Ok(());
     };
@@ -127,12 +127,7 @@ fn name_input(text: &[u8]) -> bool {
 }
 
 /// Adds what is wrong with a part of a file, if the length of the file is known.
-fn explain_part(
-    notes: &mut String,
-    name: &str,
-    part: PartText<'_>,
-    length: Option<u64>,
-) -> Result<(), AllocError> {
+fn explain_part(notes: &mut String, name: &str, part: PartText<'_>, length: Option<u64>) -> Result {
     let Some((from, count)) = part.numbers() else {
         return notes.push_str(
             "note: behind a file stand two numbers, its first byte and how many: decimal, without \
@@ -154,7 +149,7 @@ fn explain_part(
 }
 
 /// Adds what is wrong with the spelling of a line.
-fn explain_spelling(notes: &mut String, line: &[u8]) -> Result<(), AllocError> {
+fn explain_spelling(notes: &mut String, line: &[u8]) -> Result {
     let (word, fields) = cut(line, b' ');
     let rest = fields.unwrap_or_default();
     let shown = Shown(word);
@@ -185,7 +180,7 @@ fn fields_of(word: &[u8]) -> Option<Fields> {
 }
 
 /// Adds what is wrong with the fields after `cut`.
-fn explain_cut(notes: &mut String, fields: &[u8]) -> Result<(), AllocError> {
+fn explain_cut(notes: &mut String, fields: &[u8]) -> Result {
     let (write, torn) = cut(fields, b' ');
     match number(write) {
         Some(1..) => {}
@@ -207,7 +202,7 @@ fn explain_cut(notes: &mut String, fields: &[u8]) -> Result<(), AllocError> {
 }
 
 /// Adds what is wrong with the fields after `piece`.
-fn explain_piece(notes: &mut String, fields: &[u8]) -> Result<(), AllocError> {
+fn explain_piece(notes: &mut String, fields: &[u8]) -> Result {
     let (image, _) = cut(fields, b' ');
     if number_u8(image).is_none() {
         return explain_number(notes, image);
@@ -219,7 +214,7 @@ fn explain_piece(notes: &mut String, fields: &[u8]) -> Result<(), AllocError> {
 }
 
 /// Adds that a word isn't the number of an image.
-fn explain_number(notes: &mut String, word: &[u8]) -> Result<(), AllocError> {
+fn explain_number(notes: &mut String, word: &[u8]) -> Result {
     let word = Shown(word);
     writeln!(
         notes,

@@ -1,9 +1,9 @@
 //! Explains the first wrong line of a table.
 
+use crate::Result;
 use crate::places::add_wrong_line;
 use certificate::{Entry, Request, Table};
 use common::limits::{MOST_DEPENDENCIES, MOST_GROUPS, MOST_IMAGES};
-use std::alloc::AllocError;
 
 /// The note on how versions and numbers are written in tables and reports.
 pub const WORDS: &str =
@@ -19,11 +19,7 @@ const EMPTY: &str = "note: the table is empty; it begins with `image 0 VERSION C
 ///
 /// # Errors
 /// `AllocError` if memory is refused. Then `notes` has a part of the text.
-pub fn explain_table_line(
-    notes: &mut String,
-    text: &[u8],
-    number: usize,
-) -> Result<(), AllocError> {
+pub fn explain_table_line(notes: &mut String, text: &[u8], number: usize) -> Result {
     let Some(before) = add_wrong_line(notes, "table", text, number, EMPTY)? else {
         return Ok(());
     };
@@ -33,7 +29,7 @@ pub fn explain_table_line(
 }
 
 /// Adds the lines that may follow a table.
-fn add_choices(notes: &mut String, table: &Table) -> Result<(), AllocError> {
+fn add_choices(notes: &mut String, table: &Table) -> Result {
     let images = table.images.as_slice();
     if let Some(image) = images.last() {
         match &image.request {
@@ -57,7 +53,7 @@ fn add_choices(notes: &mut String, table: &Table) -> Result<(), AllocError> {
 }
 
 /// Adds the dependencies that may follow those of an entry.
-fn add_needs(notes: &mut String, entry: &Entry) -> Result<(), AllocError> {
+fn add_needs(notes: &mut String, entry: &Entry) -> Result {
     if entry.groups.is_empty() && entry.dependencies.len() < MOST_DEPENDENCIES {
         notes.push_str(" `needs J VERSION`,")?;
     }

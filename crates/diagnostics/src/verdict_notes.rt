@@ -1,9 +1,9 @@
 //! Explains why a report isn't right for a table.
 
+use crate::Result;
 use crate::needs_notes::explain_set;
 use crate::versions::{Versions, is_taken, version_in};
 use certificate::{Entry, Image, Reason, Refusal, Report, Request, Table};
-use std::alloc::AllocError;
 use version_order::{Dependency, Version};
 
 /// Adds the first thing that makes a report wrong for a table: the number of its images, a version,
@@ -12,7 +12,7 @@ use version_order::{Dependency, Version};
 ///
 /// # Errors
 /// `AllocError` if memory is refused. Then `notes` has a part of the text.
-pub fn explain_no(notes: &mut String, table: &Table, report: &Report) -> Result<(), AllocError> {
+pub fn explain_no(notes: &mut String, table: &Table, report: &Report) -> Result {
     let empty = notes.len();
     explain_count(notes, table, report)?;
     if notes.len() == empty {
@@ -45,7 +45,7 @@ fn taken_in(report: &Report) -> u8 {
 }
 
 /// Adds that the table and the report have different numbers of images, if they have.
-fn explain_count(notes: &mut String, table: &Table, report: &Report) -> Result<(), AllocError> {
+fn explain_count(notes: &mut String, table: &Table, report: &Report) -> Result {
     let (here, there) = (table.images.len(), report.images.len());
     if here == there {
         return Ok(());
@@ -57,7 +57,7 @@ fn explain_count(notes: &mut String, table: &Table, report: &Report) -> Result<(
 }
 
 /// Adds the versions of a report that aren't those of the table.
-fn explain_versions(notes: &mut String, table: &Table, report: &Report) -> Result<(), AllocError> {
+fn explain_versions(notes: &mut String, table: &Table, report: &Report) -> Result {
     let taken = taken_in(report);
     for (number, reported) in report.images.iter().enumerate() {
         if let Some(image) = table.images.get(number) {
@@ -69,12 +69,7 @@ fn explain_versions(notes: &mut String, table: &Table, report: &Report) -> Resul
 }
 
 /// Adds that a report has another version of an image than would run, if it has.
-fn explain_version(
-    notes: &mut String,
-    number: usize,
-    version: Version,
-    told: Version,
-) -> Result<(), AllocError> {
+fn explain_version(notes: &mut String, number: usize, version: Version, told: Version) -> Result {
     if told == version {
         return Ok(());
     }
@@ -86,7 +81,7 @@ fn explain_version(
 }
 
 /// Adds the requests that aren't taken or refused exactly once.
-fn explain_requests(notes: &mut String, table: &Table, report: &Report) -> Result<(), AllocError> {
+fn explain_requests(notes: &mut String, table: &Table, report: &Report) -> Result {
     explain_strangers(notes, table, report)?;
     let taken = taken_in(report);
     for (number, image) in table.images.iter().enumerate() {
@@ -99,12 +94,7 @@ fn explain_requests(notes: &mut String, table: &Table, report: &Report) -> Resul
 
 /// Adds that the request of an image isn't decided exactly once, or that there is no request to
 /// decide.
-fn explain_times(
-    notes: &mut String,
-    number: usize,
-    is_requested: bool,
-    times: usize,
-) -> Result<(), AllocError> {
+fn explain_times(notes: &mut String, number: usize, is_requested: bool, times: usize) -> Result {
     match (is_requested, times) {
         (true, 1) | (false, 0) => Ok(()),
         (true, 0) => writeln!(
@@ -123,7 +113,7 @@ fn explain_times(
 }
 
 /// Adds the refusals of images that the table doesn't have.
-fn explain_strangers(notes: &mut String, table: &Table, report: &Report) -> Result<(), AllocError> {
+fn explain_strangers(notes: &mut String, table: &Table, report: &Report) -> Result {
     let count = table.images.len();
     for (place, refusal) in report.refusals.iter().enumerate() {
         let image = refusal.image;
@@ -155,7 +145,7 @@ fn line_of(report: &Report, place: usize) -> usize {
 }
 
 /// Adds the requests that are taken but have to be refused.
-fn explain_members(notes: &mut String, table: &Table, report: &Report) -> Result<(), AllocError> {
+fn explain_members(notes: &mut String, table: &Table, report: &Report) -> Result {
     let taken = taken_in(report);
     for (number, image) in table.images.iter().enumerate() {
         if is_taken(taken, number) {
@@ -166,7 +156,7 @@ fn explain_members(notes: &mut String, table: &Table, report: &Report) -> Result
 }
 
 /// Adds why the request of an image has to be refused, if it has.
-fn explain_member(notes: &mut String, number: usize, image: &Image) -> Result<(), AllocError> {
+fn explain_member(notes: &mut String, number: usize, image: &Image) -> Result {
     let line = number.saturating_add(1);
     let Request::Entry(entry) = &image.request else {
         return writeln!(
@@ -192,7 +182,7 @@ fn explain_member(notes: &mut String, number: usize, image: &Image) -> Result<()
 }
 
 /// Adds the first reason that doesn't hold after the refusals before it.
-fn explain_reasons(notes: &mut String, table: &Table, report: &Report) -> Result<(), AllocError> {
+fn explain_reasons(notes: &mut String, table: &Table, report: &Report) -> Result {
     let refusals = report.refusals.as_slice();
     for (place, refusal) in refusals.iter().enumerate() {
         let before = refusals.get(..place).unwrap_or_default();

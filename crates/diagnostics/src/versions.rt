@@ -1,8 +1,8 @@
 //! Compares the needs of images with the versions of a set.
 
+use crate::Result;
 use certificate::{Image, Refusal, Request, Table};
 use common::limits::MOST_IMAGES;
-use std::alloc::AllocError;
 use version_order::{Dependency, Group, Version};
 
 /// The text before a dependency.
@@ -83,7 +83,7 @@ impl Versions {
         needs: &str,
         dependencies: &[Dependency],
         is_hope: bool,
-    ) -> Result<(), AllocError> {
+    ) -> Result {
         notes.push_str(needs)?;
         for (place, need) in dependencies.iter().enumerate() {
             if place > 0 {
@@ -95,12 +95,7 @@ impl Versions {
     }
 
     /// Adds a dependency, and the version of its image in this set.
-    fn add_need(
-        &self,
-        notes: &mut String,
-        need: &Dependency,
-        is_hope: bool,
-    ) -> Result<(), AllocError> {
+    fn add_need(&self, notes: &mut String, need: &Dependency, is_hope: bool) -> Result {
         let Dependency { image, minimum } = need;
         write!(notes, " image {image} from {minimum} on, which ")?;
         match self.of(*image) {

@@ -41,22 +41,23 @@ impl FlashFile for RecordedFile {
 /// A scenario: the write of the flash that is cut although it is complete, the write of the file
 /// that fails, and the calls. Then the expected bytes of the flash and of the file, and the writes
 /// of the file.
-struct Story {
-    cut: u8,
-    failing: usize,
-    calls: &'static [Answered],
-    memory: [u64; 4],
-    file: [u64; 4],
-    writes: [usize; 3],
-}
+type Story = (
+    u8,
+    usize,
+    &'static [Answered],
+    [u64; 4],
+    [u64; 4],
+    [usize; 3],
+);
 
 /// Whether a flash and its file are as expected at the end of a scenario.
 fn is_at_end<L: Ledger, M: Ledger>(flash: &FileFlash<RecordedFile, L, M>, story: &Story) -> bool {
-    let file = flash.file();
+    let (_, _, _, memory, file, writes) = *story;
+    let found = flash.file();
     flash.has_failed()
-        && words_of(flash.bytes()) == story.memory
-        && words_of(&file.bytes) == story.file
-        && file.writes == story.writes
+        && words_of(flash.bytes()) == memory
+        && words_of(&found.bytes) == file
+        && found.writes == writes
 }
 
 /// Whether a scenario has its expected outcome, on a flash whose bytes are all 7.
@@ -72,16 +73,17 @@ fn is_told<L: Ledger, M: Ledger>(
     requires memory_parts { blanks.1.parts ≡ M.parts }
     requires memory_two { M.parts ≡ 2 }
 {
+    let (cut, failing, calls, _, _, _) = *story;
     let file = RecordedFile {
         bytes: vec![in alloc; 0x07; 32]?,
         writes: [0; 3],
-        failing: story.failing,
+        failing,
     };
     let bytes = vec![in alloc; 0x07; 32]?;
     let mut memory = MemFlash::<M>::from_bytes(alloc, blanks.1, 8, bytes);
-    memory.arm(u64::from(story.cut), Torn::Done)?;
+    memory.arm(u64::from(cut), Torn::Done)?;
     let mut flash = FileFlash::<RecordedFile, L, M>::over(memory, blanks.0, file);
-    Ok(are_answered(&mut flash, story.calls) && is_at_end(&flash, story))
+    Ok(are_answered(&mut flash, calls) && is_at_end(&flash, story))
 }
 
 fn is_seen(alloc: Global, story: &Story) -> Result<bool, AllocError> {
@@ -91,10 +93,10 @@ fn is_seen(alloc: Global, story: &Story) -> Result<bool, AllocError> {
 /// A program that fails in the file; and an erase that is cut and also fails in the file: it counts
 /// as one cut.
 const STORIES: [Story; 2] = [
-    Story {
-        cut: 0,
-        failing: 3,
-        calls: &[
+    (
+        0,
+        3,
+        &[
             (Call::Erase(1), DONE),
             (Call::Erase(2), DONE),
             (Call::Program, CUT),
@@ -102,23 +104,23 @@ const STORIES: [Story; 2] = [
             (Call::Restart, DONE),
             (Call::Erase(0), CUT),
         ],
-        memory: PROGRAMMED_12,
-        file: ERASED_12,
-        writes: [3, 8, 16],
-    },
-    Story {
-        cut: 1,
-        failing: 1,
-        calls: &[
+        PROGRAMMED_12,
+        ERASED_12,
+        [3, 8, 16],
+    ),
+    (
+        1,
+        1,
+        &[
             (Call::Erase(1), CUT),
             (Call::Erase(1), OFF),
             (Call::Restart, DONE),
             (Call::Erase(0), CUT),
         ],
-        memory: ERASED_1,
-        file: OLD,
-        writes: [1, 8, 8],
-    },
+        ERASED_1,
+        OLD,
+        [1, 8, 8],
+    ),
 ];
 
 #[test]

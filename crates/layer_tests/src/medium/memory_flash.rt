@@ -13,14 +13,14 @@ use std::sync::ledger::{Blank, Ledger};
 /// A scenario: the value of each byte before, the calls before a cut is armed, the armed writes
 /// with the bytes that they leave, and the further calls. Then the expected bytes, and the expected
 /// numbers of writes and of completed erases.
-struct Story {
-    before: u8,
-    done: &'static [Answered],
-    armed: &'static [(u8, &'static [u8])],
-    calls: &'static [Answered],
-    after: [u64; 4],
-    counts: [u64; 2],
-}
+type Story = (
+    u8,
+    &'static [Answered],
+    &'static [(u8, &'static [u8])],
+    &'static [Answered],
+    [u64; 4],
+    [u64; 2],
+);
 
 fn arm<L: Ledger>(
     alloc: Global,
@@ -40,13 +40,13 @@ fn is_told<L: Ledger>(alloc: Global, blank: Blank, story: &Story) -> Result<bool
     requires parts { blank.parts ≡ L.parts }
     requires two { L.parts ≡ 2 }
 {
-    let bytes = vec![in alloc; story.before; 32]?;
+    let (before, done, armed, calls, after, counts) = *story;
+    let bytes = vec![in alloc; before; 32]?;
     let mut flash = MemFlash::<L>::from_bytes(alloc, blank, 8, bytes);
-    let is_done = are_answered(&mut flash, story.done);
-    arm(alloc, &mut flash, story.armed)?;
-    let are_right = are_answered(&mut flash, story.calls) && is_done;
-    let counts = [flash.writes(), flash.erases()];
-    Ok(are_right && counts == story.counts && words_of(flash.bytes()) == story.after)
+    let is_done = are_answered(&mut flash, done);
+    arm(alloc, &mut flash, armed)?;
+    let are_right = are_answered(&mut flash, calls) && is_done;
+    Ok(are_right && [flash.writes(), flash.erases()] == counts && words_of(flash.bytes()) == after)
 }
 
 fn is_seen(alloc: Global, story: &Story) -> Result<bool, AllocError> {
@@ -57,43 +57,43 @@ fn is_seen(alloc: Global, story: &Story) -> Result<bool, AllocError> {
 /// has two arms for one erase, of which the first counts, an arm for write 0, and one for a past
 /// write; after the cut a call is refused, and after the restart an erase is done.
 const STORIES: [Story; 4] = [
-    Story {
-        before: 0x07,
-        done: &[],
-        armed: &[(1, &[0x5a, 0xa5, 0x00])],
-        calls: &[(Call::Erase(1), CUT)],
-        after: TORN_1,
-        counts: [1, 0],
-    },
-    Story {
-        before: 0xff,
-        done: &[],
-        armed: &[(1, &[])],
-        calls: &[(Call::Program, CUT)],
-        after: ERASED,
-        counts: [1, 0],
-    },
-    Story {
-        before: 0x07,
-        done: &[],
-        armed: &[(1, &[])],
-        calls: &[(Call::Erase(1), CUT)],
-        after: OLD,
-        counts: [1, 0],
-    },
-    Story {
-        before: 0x07,
-        done: &[(Call::Erase(1), DONE)],
-        armed: &[(2, &[]), (2, &[0]), (0, &[0]), (1, &[0])],
-        calls: &[
+    (
+        0x07,
+        &[],
+        &[(1, &[0x5a, 0xa5, 0x00])],
+        &[(Call::Erase(1), CUT)],
+        TORN_1,
+        [1, 0],
+    ),
+    (
+        0xff,
+        &[],
+        &[(1, &[])],
+        &[(Call::Program, CUT)],
+        ERASED,
+        [1, 0],
+    ),
+    (
+        0x07,
+        &[],
+        &[(1, &[])],
+        &[(Call::Erase(1), CUT)],
+        OLD,
+        [1, 0],
+    ),
+    (
+        0x07,
+        &[(Call::Erase(1), DONE)],
+        &[(2, &[]), (2, &[0]), (0, &[0]), (1, &[0])],
+        &[
             (Call::Erase(0), CUT),
             (Call::Erase(0), OFF),
             (Call::Restart, DONE),
             (Call::Erase(2), DONE),
         ],
-        after: ERASED_12,
-        counts: [3, 2],
-    },
+        ERASED_12,
+        [3, 2],
+    ),
 ];
 
 #[test]
