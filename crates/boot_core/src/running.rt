@@ -96,6 +96,24 @@ pub fn step<F: Flash>(alloc: Global, device: &mut Device<F>, event: &Event<&[u8]
 ///
 /// # Errors
 /// `AllocError`: there is no memory for the replies, which are reserved first. No event was passed.
+///
+/// # Examples
+///
+/// ```text
+/// // `flash` is a `MemFlash` with an image in each of two primary slots. `PAIR` is a manifest for
+/// // `identity`, the vendor, the class and the number of images of the device.
+/// let map = SectorMap::new(512, &[2, 2])?;
+/// assert!(rt; identity.images == map.images && map.fits(&flash));
+/// provision(&mut flash, &map)?;
+/// // Power fails in write 7, while the device accepts the manifest.
+/// flash.arm(7, Torn::Half)?;
+/// let mut device = Device::new(flash, map, identity);
+/// device.reset();
+/// let events = [Event::Boot, Event::Accept(PAIR), Event::Boot];
+/// let replies = run(rt.alloc(), &mut device, &events)?;
+/// assert!(rt; matches!(replies[0], Reply::Booted { .. }) && replies[1] == Reply::Cut);
+/// assert!(rt; matches!(replies[2], Reply::Booted { .. }));
+/// ```
 pub fn run<F: Flash>(
     alloc: Global,
     device: &mut Device<F>,

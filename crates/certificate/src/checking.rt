@@ -32,6 +32,18 @@ use crate::table::Table;
 /// how the report was made. There is an answer for any table and any report, also if their numbers
 /// of images differ. A yes doesn't say that the table is that of the device. The call doesn't
 /// allocate.
+///
+/// # Examples
+///
+/// ```text
+/// // Image 0 requests 2.0.0+0, which needs image 1 at 2.0.0+0. Nothing is requested for image 1.
+/// let table = Table::parse(
+///     b"image 0 1.0.0+0 0 0\nrequest 2.0.0+0 0\nneeds 1 2.0.0+0\nimage 1 1.0.0+0 0 0\n",
+/// )?;
+/// let right = Report::parse(b"run 0 1.0.0+0\nrun 1 1.0.0+0\nrefuse 0 needs 1 2.0.0+0\n")?;
+/// let wrong = Report::parse(b"take 0 2.0.0+0\nrun 1 1.0.0+0\n")?;
+/// assert!(rt; check(&table, &right) && !check(&table, &wrong));
+/// ```
 pub fn check(table: &Table, report: &Report) -> bool
     ensures exact { IsTrue result ↔ IsRight table.now report.now }
     ensures greatest { IsTrue result → IsGreatest table.now (taken_in report.now) }

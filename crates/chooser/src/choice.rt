@@ -23,6 +23,17 @@ use certificate::{MOST_REFUSALS, Refusal, Report, Table, right_reports_are_great
 /// allocate and never fails. A table of no images has an empty report. If the table fits its
 /// fields, as any table does that was read, its report has a text: see
 /// `certificate::right_reports_have_a_text`.
+///
+/// # Examples
+///
+/// ```text
+/// // Image 0 runs 1.0.0+0 and requests 2.0.0+0. The security counters and the floor are 0.
+/// let table = Table::parse(b"image 0 1.0.0+0 0 0\nrequest 2.0.0+0 0\n")?;
+/// assert!(rt; is_valid(&table));
+/// let report = choose(&table);
+/// assert!(rt; check(&table, &report));
+/// assert!(rt; report.to_string(rt.alloc())?.as_str() == "take 0 2.0.0+0\n");
+/// ```
 pub fn choose(table: &Table) -> Report
     requires { IsValid table.now running_set }
     ensures right { IsRight table.now result }

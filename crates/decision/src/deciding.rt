@@ -20,6 +20,16 @@ use sector_map::SectorMap;
 ///
 /// # Errors
 /// `Off`: the flash was off. Nothing changes in any case.
+///
+/// # Examples
+///
+/// ```text
+/// // `flash` has an image in each of two primary slots, and nothing is requested.
+/// let map = SectorMap::new(512, &[2, 2])?;
+/// assert!(rt; map.fits(flash));
+/// let finding = find(flash, &map, 0b00, &[0; 8])?;
+/// assert!(rt; matches!(&finding, Finding::Decided { report, .. } if report.refusals.is_empty()));
+/// ```
 pub fn find<F: Flash>(
     flash: &mut F,
     map: &SectorMap,

@@ -82,6 +82,17 @@ impl DeviceFile {
     /// # Errors
     /// `Malformed` if the value of the text isn't such an object. `Map` if its sizes make no map,
     /// with the first check that fails. `NoMemory` if memory is refused.
+    ///
+    /// # Examples
+    ///
+    /// ```text
+    /// // Two images of two sectors each. Without `trial-boots` a trial has one boot.
+    /// let text = b"{\"sector\": 512, \"sectors\": [2, 2], \
+    ///     \"vendor-id\": \"886313e1-3b8a-5372-9b90-0c9aee199e5d\", \
+    ///     \"class-id\": \"74b0b1ed-70fe-5a24-9102-6a41c2172c6d\"}";
+    /// let device = DeviceFile::read(rt.alloc(), text)?;
+    /// assert!(rt; device.map.images == 2 && device.trial_boots == 1);
+    /// ```
     pub fn read(alloc: Global, bytes: &[u8]) -> Result<DeviceFile, DeviceFault>
         ensures read { IfOk result (IsDeviceFile bytes.now) }
         ensures fault { IfErr result (IsDeviceFault bytes.now) }

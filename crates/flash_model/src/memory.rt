@@ -93,6 +93,19 @@ impl<L: Ledger> MemFlash<L> {
     ///
     /// # Errors
     /// `AllocError` if memory for the bytes is refused.
+    ///
+    /// # Examples
+    ///
+    /// ```text
+    /// // 16 erased sectors of 512 bytes. Power fails in the first write, which changes nothing.
+    /// let mut flash = MemFlash::<L>::new(rt.alloc(), blank, 512, 16)?;
+    /// flash.arm(1, Torn::Keep)?;
+    /// let answers = [flash.erase(0), flash.erase(1)];
+    /// assert!(rt; answers == [Err(FlashError::Cut), Err(FlashError::Off)]);
+    /// flash.restart();
+    /// flash.erase(0)?;
+    /// assert!(rt; flash.writes() == 2 && flash.erases() == 1);
+    /// ```
     pub fn new(
         alloc: Global,
         blank: Blank,

@@ -39,6 +39,20 @@ impl Header {
     /// # Errors
     /// The checks are made in the order of [`HeaderError`]'s kinds. The error is the first check
     /// that fails.
+    ///
+    /// # Examples
+    ///
+    /// ```text
+    /// let header = Header {
+    ///     header_size: 32,
+    ///     body_size: 4,
+    ///     version: Version::parse("1.2")?,
+    ///     ..Header::default()
+    /// };
+    /// let bytes = header.write();
+    /// assert!(rt; bytes[..4] == [0x3d, 0xb8, 0xf3, 0x96]);
+    /// assert!(rt; Header::read(&bytes) == Ok(header));
+    /// ```
     pub fn read(bytes: &[u8]) -> Result<Header, HeaderError>
         // A header that is read is accepted, and the bytes begin with it.
         ensures read { IfOk result (λ header. BeginsWith bytes.now header × IsAccepted header) }

@@ -34,6 +34,15 @@ use crate::span::Span;
 ///
 /// `NoDigest`, `TwoDigests` and all later errors of this order require that the header and both
 /// areas pass their checks.
+///
+/// # Examples
+///
+/// ```text
+/// // `FIRST` is a file of 96 bytes: version 2.0.0+0, which needs image 1 at 2.0.0+0.
+/// let description = describe(&FIRST)?;
+/// assert!(rt; description.version.major == 2 && description.length == 96);
+/// assert!(rt; description.dependencies.len() == 1 && description.dependencies[0].image == 1);
+/// ```
 pub fn describe(bytes: &[u8]) -> Result<Desc, ImageError>
     // The bytes are an intact image with this description.
     ensures described { IfOk result (IsIntact bytes.now) }

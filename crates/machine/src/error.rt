@@ -67,6 +67,15 @@ impl Fault {
     }
 
     /// Returns the name of the kind, as it is printed.
+    ///
+    /// # Examples
+    ///
+    /// ```text
+    /// let fault = Fault::RunningDamaged(1);
+    /// assert!(rt; fault.code() == 5 && fault.name() == "RunningDamaged");
+    /// let sentence = format!(in rt.alloc(); "{fault}")?;
+    /// assert!(rt; sentence.as_str() == "the running image 1 is damaged");
+    /// ```
     pub fn name(self) -> &'static str
         ensures { result.now ≡ name_of self }
     {

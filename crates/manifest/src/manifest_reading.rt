@@ -109,6 +109,21 @@ impl Manifest {
     /// - 4 to 7 if the value is a manifest that isn't for this device.
     ///
     /// `NoMemory` if an allocation fails during the read of the text, and only then.
+    ///
+    /// # Examples
+    ///
+    /// ```text
+    /// // `PAIR` is the text of a manifest with sequence number 1 and two files of 96 bytes.
+    /// let vendor = vendor_id("python.org");
+    /// let device = Identity {
+    ///     vendor,
+    ///     class: class_id(vendor, "bootswap"),
+    ///     images: 2,
+    /// };
+    /// let manifest = Manifest::read(rt.alloc(), PAIR, &device)?;
+    /// assert!(rt; manifest.sequence == 1 && manifest.components.len() == 2);
+    /// assert!(rt; manifest.components[0].size == 96);
+    /// ```
     pub fn read(alloc: Global, bytes: &[u8], identity: &Identity) -> Result<Manifest, ManifestError>
         ensures means { IfOk result (IsManifest identity.now bytes.now) }
         ensures read { (manifest : Manifest) → IsManifest identity.now bytes.now manifest

@@ -42,6 +42,16 @@ const RESET: &[u8] = b"reset";
 ///
 /// Returns `None` for a bad line: a text that isn't the text of a valid line.
 /// [`LineOrder`](crate::LineOrder) checks whether the line can follow the lines before it.
+///
+/// # Examples
+///
+/// ```text
+/// let (cut, boot) = (line_of(b"cut 3 keep"), line_of(b"boot"));
+/// assert!(rt; matches!(cut, Some(Line::Cut { write: 3, .. })));
+/// assert!(rt; matches!(boot, Some(Line::Event(Event::Boot))));
+/// // Writes are counted from 1.
+/// assert!(rt; line_of(b"cut 0 keep").is_none());
+/// ```
 pub fn line_of(line: &[u8]) -> Option<Line<'_>>
     ensures says { IfSome result (λ found. IsLineText line.now (said found)) }
     ensures other { IfNone result ((found : Said) → IsLineText line.now found → ⊥) }

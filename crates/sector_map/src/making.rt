@@ -19,6 +19,16 @@ impl SectorMap {
     /// - `TrailerFull` if a trailer doesn't fit into a sector: it has three status units of 8 bytes
     ///   for each sector of a slot, and 56 more bytes;
     /// - `TooLarge` if all parts together have more than 4294967295 bytes.
+    ///
+    /// # Examples
+    ///
+    /// ```text
+    /// // Two images of two sectors of 512 bytes. A trailer of one sector follows each slot.
+    /// let map = SectorMap::new(512, &[2, 2])?;
+    /// assert!(rt; map.images == 2 && map.bytes_in_all() == 8192);
+    /// assert!(rt; map.slot_start(1, Side::Primary) == 1536);
+    /// assert!(rt; map.scratch_start() == 6144);
+    /// ```
     pub fn new(sector_size: u32, sectors_per_image: &[u32]) -> Result<SectorMap, MapError>
         ensures made { IfOk result (HasSizes sector_size sectors_per_image.now) }
         ensures accepted { IsOk result ↔

@@ -46,6 +46,26 @@ pub fn read_state<F: Flash>(flash: &mut F, map: &SectorMap) -> Result<State, Log
 /// # Errors
 /// `Cut` if power failed: the log has the old state or the new one, whatever bytes the write left.
 /// All other parts are unchanged. `Off` if the flash was already off: nothing changed.
+///
+/// # Examples
+///
+/// ```text
+/// // `flash` has at least the 16 sectors of the map.
+/// let map = SectorMap::new(512, &[2, 2])?;
+/// let mut state = State {
+///     kind: RecordKind::Steady,
+///     mask: 0,
+///     permanent: false,
+///     sequence: 1,
+///     floors: [0; 8],
+///     left: 0,
+/// };
+/// assert!(rt; map.fits(flash) && state.fits(map.images));
+/// start(flash, &map, &state)?;
+/// state.sequence = 2;
+/// append(flash, &map, &state)?;
+/// assert!(rt; read_state(flash, &map)? == state);
+/// ```
 pub fn append<F: Flash>(flash: &mut F, map: &SectorMap, state: &State) -> Result<()>
     requires laid_out { IsLaidOut map.now (F.chip flash.old) }
     requires has_state { IsSome (state_of map.now (F.chip flash.old)) }

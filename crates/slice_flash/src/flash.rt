@@ -109,6 +109,21 @@ impl<'a, L: Ledger> SliceFlash<'a, L> {
     /// interrupted.
     ///
     /// `blank` is a token of the ledger with two parts, as `Blank::new(2)` makes it.
+    ///
+    /// # Examples
+    ///
+    /// ```text
+    /// // `bytes` are two sectors of 512 bytes. Power fails in the second write, which leaves only
+    /// // bytes 0x5a in its range.
+    /// let table = [ArmedCut {
+    ///     write: 2,
+    ///     left: Left::Bytes(&[0x5a]),
+    /// }];
+    /// let mut flash = SliceFlash::<L>::new(blank, bytes, 512, &table);
+    /// flash.erase(0)?;
+    /// let answer = flash.program(0, &[7; 16]);
+    /// assert!(rt; answer == Err(FlashError::Cut));
+    /// ```
     pub fn new(
         blank: Blank,
         bytes: &'a mut [u8],

@@ -42,6 +42,17 @@ fn swap_member<F: Flash>(
 /// `Cut` if power failed during a write. The flash is then at a place of the same swap: each byte
 /// of the old contents is in a slot of its image or in scratch. Another call completes the swap.
 /// `Off` if the flash was already off: nothing changed.
+///
+/// # Examples
+///
+/// ```text
+/// // `flash` has at least the 16 sectors of the map. A swap takes three steps a sector.
+/// let map = SectorMap::new(512, &[2, 2])?;
+/// assert!(rt; map.images == 2 && map.fits(flash) && is_within(&map, 0b01));
+/// swap_set(flash, &map, 0b01, Side::Primary)?;
+/// let progress = swap_progress(flash, &map, 0, Side::Primary)?;
+/// assert!(rt; progress.taken == 6 && progress.steps == 6);
+/// ```
 pub fn swap_set<F: Flash>(flash: &mut F, map: &SectorMap, mask: u8, side: Side) -> Result<()>
     requires images { HasImages map.now mask (F.chip flash.old) }
     ensures { Swaps map.now mask side (F.chip flash.old) (F.chip flash.new) result }

@@ -33,6 +33,18 @@ fn mark_kind<F: Flash>(flash: &mut F, map: &SectorMap, image: u8, kind: Kind) ->
 /// - `Cut` if power failed: the image is requested as asked, or the magic isn't good and no request
 ///   is pending. All bytes outside `image_ok` and the magic are unchanged.
 /// - `Off` if the flash was off before: nothing changed.
+///
+/// # Examples
+///
+/// ```text
+/// // `flash` has at least the 16 sectors of the map.
+/// let map = SectorMap::new(512, &[2, 2])?;
+/// assert!(rt; map.images == 2 && map.fits(flash));
+/// clear(flash, &map, 0, Side::Secondary)?;
+/// request(flash, &map, 0, Kind::Permanent)?;
+/// let trailer = read_trailer(flash, &map, 0, Side::Secondary)?;
+/// assert!(rt; trailer.magic == Magic::Good && trailer.image_ok);
+/// ```
 pub fn request<F: Flash>(flash: &mut F, map: &SectorMap, image: u8, kind: Kind) -> Result<()>
     requires image { HasImage map.now image (F.chip flash.old) }
     requires erased { fields_at map.now (F.chip flash.old) image Secondary ≡ erased_fields }

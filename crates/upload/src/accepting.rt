@@ -96,6 +96,27 @@ impl Uploads {
     ///   Either the log has the old sequence number, and no request changed. Or it has the new one,
     ///   and each request of a listed image is unchanged or withdrawn.
     /// - `Flash` with `Off`: the flash was off. All uploads are closed, and nothing else changed.
+    ///
+    /// # Examples
+    ///
+    /// ```text
+    /// // `flash` has a log whose sequence number is below 3. `FIRST` is an image of 96 bytes.
+    /// let map = SectorMap::new(512, &[2, 2])?;
+    /// assert!(rt; map.images == 2 && map.fits(flash));
+    /// read_state(flash, &map)?;
+    /// let mut manifest = Manifest::default();
+    /// manifest.sequence = 3;
+    /// manifest.components.try_push(Component {
+    ///     size: 96,
+    ///     digest: FIRST_DIGEST,
+    ///     ..Component::default()
+    /// })?;
+    /// let mut uploads = Uploads::new();
+    /// uploads.accept(flash, &map, &manifest)?;
+    /// uploads.piece(flash, &map, 0, &FIRST)?;
+    /// uploads.finish(flash, &map, 0)?;
+    /// assert!(rt; standing(flash, &map, 0)? == Some(Kind::Test));
+    /// ```
     pub fn accept<F: Flash>(
         &mut self,
         flash: &mut F,

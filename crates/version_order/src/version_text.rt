@@ -57,6 +57,15 @@ impl Version {
     ///
     /// # Errors
     /// [`BadVersion`], for the same texts.
+    ///
+    /// # Examples
+    ///
+    /// ```text
+    /// let running = Version::parse("1.9.2+7")?;
+    /// let requested = Version::parse("1.10")?;
+    /// assert!(rt; requested > running);
+    /// assert!(rt; requested.to_string(rt.alloc())?.as_str() == "1.10.0+0");
+    /// ```
     pub fn parse(text: &str) -> Result<Version, BadVersion>
         ensures value { result_ok result ≡ version_of text.now }
         ensures spelled { IfOk result (λ version. IsVersionText text.now version) }
