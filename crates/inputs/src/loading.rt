@@ -15,8 +15,8 @@ use std::alloc::Global;
 /// Reads the text of a script from `host` into memory of `alloc`.
 ///
 /// # Errors
-/// `ScriptLine` if it is too long, with the number of the line that exceeds the limit. `CannotRead`
-/// if it can't be read. `NoMemory` if memory ran out.
+/// `ScriptLine` if it is too long, with the number of the line that exceeds the limit. `OfSource` if
+/// it can't be read. `NoMemory` if memory ran out.
 pub fn read_script<H: Host>(
     alloc: Global,
     script: Source<'_>,
