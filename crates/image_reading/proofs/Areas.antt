@@ -1,5 +1,5 @@
 -- An area at a place: the numbers in its head, its entries, and the bytes that encode it.
-use Rattle.std.proofs.Common.{◌≡◌, ℕ, ◌+◌, ◌-◌, ◌^◌, ◌<◌, ◌≤◌, List, ◌++◌, length, take, drop, Option, refl, sym, ap, subst, ◌∙◌, arith}
+use Rattle.std.proofs.Common.{◌≡◌, ℕ, zero, suc, ◌+◌, ◌-◌, ◌^◌, ◌<◌, ◌≤◌, List, ◌++◌, length, take, drop, Option, None, Some, inl, inr, refl, sym, ap, subst, ◌∙◌, arith}
 use Rattle.std.proofs.lemmas.List.{take_at, take-append-drop, length-append, length-drop, length-take-le}
 use Rattle.byteorder.specs.Endian.{little_bytes, little_number}
 use Rattle.byteorder.specs.Numbers.{little_number-reads_back}
@@ -9,11 +9,15 @@ use Rattle.image_reading.specs.Area.{Entry, FitsArea, area_bytes, area_size, ent
 use Rattle.common.specs.Bytes.{IsBytes}
 use Rattle.common.proofs.Bytes.{IsBytes-drop}
 use Rattle.image_reading.proofs.AreaLaws.{little_bytes-little_number_2}
-use Rattle.image_reading.specs.Fault.{HasAreaHead, IsArea, IsAreaFault, IsTotal, magic_at, total_at, entries_at}
+use Rattle.image_header.specs.declared.header.Header.{Header}
+use Rattle.image_reading.specs.declared.error.ImageError.TheVariants.{BadTlvSize}
+use Rattle.image_reading.specs.Area.{protected_magic, unprotected_magic}
+use Rattle.image_reading.specs.Checks.{AllPass, FailsWith}
+use Rattle.image_reading.specs.Fault.{HasWholeArea, IsArea, IsAreaFault, IsFilled, IsTotal, area_checks, protected_checks, magic_at, total_at, entries_at}
 
 -- The area of these entries is at a place.
 pub record IsAreaOf (bytes : List ℕ) (place magic : ℕ) (entries : List Entry) : Type 0 where
-  pub head : HasAreaHead bytes place
+  pub head : place + 4 ≤ length bytes
   pub magic_is : magic_at bytes place ≡ magic
   pub total : total_at bytes place ≡ 4 + length (entries_bytes entries)
   pub within : place + total_at bytes place ≤ length bytes
@@ -115,17 +119,50 @@ area_passes bytes place magic expected entries area fits allowed =
     let total = subst (IsTotal expected) (sym area.total) allowed in
     ((((area.head, area.magic_is), total), area.within), (entries, fits, area.entries_are))
 
--- No check of an area fails if the area passes them.
-pub area_has_no_fault : (bytes : List ℕ) (place magic : ℕ) (expected : Option ℕ) (fault : ImageError)
-    → IsArea bytes place magic expected → IsAreaFault bytes place magic expected fault → ⊥
-area_has_no_fault bytes place magic expected fault area failed =
-    elim failed [
-      | IsAreaFault.no_head no_head is ↦ no_head area.0.0.0.0
-      | IsAreaFault.other_magic head other is ↦ other area.0.0.0.1
-      | IsAreaFault.bad_total before bad is ↦ bad area.0.0.1
-      | IsAreaFault.cut_off before short is ↦ omega (arith, short, area.0.1)
-      | IsAreaFault.not_filled before not_filled is ↦ not_filled area.1
-    ]
+-- The checks of an area, one by one.
+pub area_row : (bytes : List ℕ) (place magic : ℕ) (expected : Option ℕ) → IsArea bytes place magic expected
+    → AllPass (area_checks bytes place magic (IsTotal expected))
+area_row bytes place magic expected area =
+    (area.0.0.0.0, (area.0.0.0.1, (area.0.0.1, (area.0.1, (area.1, tt)))))
+
+-- If entries don't fill an area that passes the checks of its head, that is its fault.
+pub not_filled_fault : (bytes : List ℕ) (place magic : ℕ) (expected : Option ℕ)
+    → HasWholeArea bytes place magic expected → (IsFilled (entries_at bytes place) → ⊥)
+    → IsAreaFault bytes place magic expected BadTlvSize
+not_filled_fault bytes place magic expected whole not_filled =
+    inr (whole.0.0.0, inr (whole.0.0.1, inr (whole.0.1, inr (whole.1, inl (not_filled, refl)))))
+
+-- ---- the areas of an image with a header
+
+-- The place of the protected area of an image with this header.
+abbrev pub protected_place : Header → ℕ
+protected_place header = header.header_size + header.body_size
+
+-- The place of the unprotected area of an image with this header.
+abbrev pub unprotected_place : Header → ℕ
+unprotected_place header = header.header_size + header.body_size + header.protected_size
+
+-- The protected area is absent, or passes its checks.
+abbrev pub HasProtectedArea : List ℕ → Header → Type 0
+HasProtectedArea bytes header =
+    AllPass (protected_checks bytes (protected_place header) header.protected_size)
+
+-- The unprotected area passes its checks.
+abbrev pub HasUnprotectedArea : List ℕ → Header → Type 0
+HasUnprotectedArea bytes header =
+    IsArea bytes (unprotected_place header) unprotected_magic None
+
+-- A protected area that is there or absent passes its checks.
+pub protected_passes : (bytes : List ℕ) (place size : ℕ)
+    → (0 < size → IsArea bytes place protected_magic (Some size)) → AllPass (protected_checks bytes place size)
+protected_passes bytes place zero area = tt
+protected_passes bytes place (suc n) area = area_row bytes place protected_magic (Some (suc n)) (area (omega arith))
+
+-- A protected area that is there fails its checks if the area does.
+pub protected_fails : (bytes : List ℕ) (place size : ℕ) (fault : ImageError) → 0 < size
+    → IsAreaFault bytes place protected_magic (Some size) fault → FailsWith (protected_checks bytes place size) fault
+protected_fails bytes place zero fault some failed = absurd (omega (arith, some))
+protected_fails bytes place (suc n) fault some failed = failed
 
 -- The magic number of an area is read from its bytes.
 pub magic_read : (bytes area : List ℕ) (place magic : ℕ) → area ≡ drop place bytes → magic ≡ little_number 2 area

@@ -7,17 +7,18 @@ use Rattle.common.proofs.Items.{same_cons}
 use Rattle.version_order.specs.declared.dependency.Dependency.{Dependency}
 use Rattle.version_order.specs.declared.group.Group.{Group}
 use Rattle.version_order.specs.declared.version.Version.{Version}
-use Rattle.image_header.specs.declared.error.HeaderError.{HeaderError}
-use Rattle.image_header.proofs.Faults.{accepted_has_no_fault}
-use Rattle.image_header.specs.Header.{IsHeaderFault}
+use Rattle.image_header.specs.declared.header.Header.{Header}
+use Rattle.image_header.specs.Header.{BeginsWith}
+use Rattle.image_header.proofs.Laws.{BeginsWith-length, BeginsWith-magic, header-unique}
 use Rattle.image_reading.specs.declared.desc.Desc.{Desc}
 use Rattle.image_reading.specs.declared.error.ImageError.{ImageError}
-use Rattle.image_reading.specs.declared.error.ImageError.TheVariants.{NoDigest, TwoDigests, BadDigest, BadDependency, TooManyDependencies, TrailingBytes, BadCounter, TooManyGroups}
-use Rattle.image_reading.specs.Fault.{IsEntryFault, IsFirstFault, IsFrontFault}
-use Rattle.image_reading.specs.Fields.{IsCounterFault, IsDependencyFault, IsDigestFault, SpellCounter, SpellDigest, counter_bytes}
-use Rattle.image_reading.specs.Image.{BeginsIntact, BeginsWithImage, Describes, Image, IsIntact, PassesCounter, PassesEntries, PassesGroupCount, counter_values, dependency_values, digest_values, group_values, hashed_bytes, image_bytes}
-use Rattle.image_reading.proofs.Fronts.{no_image_in_protected, no_image_in_unprotected}
-use Rattle.image_reading.proofs.ImageLaws.{parts_of_image, image-unique}
+use Rattle.image_reading.specs.declared.error.ImageError.TheVariants.{TrailingBytes}
+use Rattle.image_reading.specs.Checks.{AllPass, Check, FailsWith}
+use Rattle.image_reading.specs.Fault.{IsFirstFault, IsFrontFault, head_checks, part_checks}
+use Rattle.image_reading.specs.Fields.{SpellCounter, counter_bytes}
+use Rattle.image_reading.specs.Image.{BeginsIntact, BeginsWithImage, Describes, Image, IsIntact, counter_values, dependency_values, entry_checks, group_values, image_bytes}
+use Rattle.image_reading.proofs.CheckLaws.{fails_in_second, passing_has_no_fault, second_fails}
+use Rattle.image_reading.proofs.ImageLaws.{image_passes_parts, image-unique, parts_of_image}
 use Rattle.image_reading.proofs.Needs.{dependencies-unique, groups-unique}
 
 -- ---- one description
@@ -88,69 +89,52 @@ intact-unique bytes first second a b =
 
 -- ---- no fault
 
--- No check of the header fails for an image.
-no_header_fault : (bytes : List ℕ) (image : Image) (trailing : List ℕ) (fault : HeaderError)
-    → BeginsWithImage bytes image trailing → IsHeaderFault bytes fault → ⊥
-no_header_fault bytes image trailing fault begins failed =
-    let header = (parts_of_image bytes image trailing begins).header in
-    accepted_has_no_fault bytes image.header fault header begins.formed.accepted failed
+-- Bytes with a header have its length and magic number.
+pub head_passes : (bytes : List ℕ) (header : Header) → BeginsWith bytes header → AllPass (head_checks bytes)
+head_passes bytes header begins = (BeginsWith-length bytes header begins, (BeginsWith-magic bytes header begins, tt))
 
--- No check of the digest fails if the digest passes.
-no_digest_fault : (values : List (List ℕ)) (hashed : List ℕ) (fault : ImageError) → SpellDigest values hashed
-    → IsDigestFault values hashed fault → ⊥
-no_digest_fault values hashed NoDigest spelled failed = omega (arith, ap length (sym failed ∙ spelled))
-no_digest_fault values hashed TwoDigests spelled failed = omega (arith, failed, ap length spelled)
-no_digest_fault values hashed BadDigest spelled failed = failed.1 spelled
-no_digest_fault values hashed other spelled failed = failed
+-- No check of the parts of an image fails.
+pub no_part_fault : (bytes : List ℕ) (image : Image) (trailing : List ℕ) (header : Header) (fault : ImageError)
+    → BeginsWithImage bytes image trailing → BeginsWith bytes header → FailsWith (part_checks bytes header) fault → ⊥
+no_part_fault bytes image trailing header fault is begins failed =
+    let own = (parts_of_image bytes image trailing is).header in
+    let same : header ≡ image.header = header-unique bytes header image.header begins own in
+    let here = subst (λ (h : Header). FailsWith (part_checks bytes h) fault) same failed in
+    passing_has_no_fault (part_checks bytes image.header) fault (image_passes_parts bytes image trailing is) here
 
-no_dependency_fault : (image : Image) (fault : ImageError) → PassesGroupCount image
-    → IsDependencyFault (dependency_values image) (group_values image) fault → ⊥
-no_dependency_fault image BadDependency passes failed =
-    elim failed [ inl bad ↦ passes.0.0.1.0 bad | inr bad ↦ passes.0.0.1.1 bad ]
-no_dependency_fault image TooManyDependencies passes failed = omega (arith, failed.1, passes.0.1)
-no_dependency_fault image TooManyGroups passes failed = omega (arith, failed.2, passes.1)
-no_dependency_fault image other passes failed = failed
+-- The check of what follows an image, alone and after those of the entries.
+abbrev pub trailing_check : List ℕ → List Check
+trailing_check trailing = (trailing ≡ [], TrailingBytes) ∷ []
 
-no_counter_fault : (image : Image) (fault : ImageError) → PassesCounter image
-    → IsCounterFault (counter_values image) fault → ⊥
-no_counter_fault image BadCounter passes failed = passes.1 failed
-no_counter_fault image other passes failed = failed
+abbrev pub last_checks : Image → List ℕ → List Check
+last_checks image trailing = entry_checks image ++ trailing_check trailing
 
 -- If the entries pass their checks, only the last check can fail.
-no_entry_fault : (image : Image) (trailing : List ℕ) (fault : ImageError) → PassesEntries image
-    → IsEntryFault image trailing fault → (fault ≡ TrailingBytes) × (0 < length trailing)
-no_entry_fault image trailing fault passes failed =
-    elim failed [
-      | IsEntryFault.in_digest own ↦
-          absurd (no_digest_fault (digest_values image) (hashed_bytes image) fault passes.0.0.0.0 own)
-      | IsEntryFault.in_dependencies before own ↦ absurd (no_dependency_fault image fault passes.0 own)
-      | IsEntryFault.in_counter before own ↦ absurd (no_counter_fault image fault passes own)
-      | IsEntryFault.behind before some is ↦ (is, some)
-    ]
-
 no_fault_but_last : (bytes : List ℕ) (image : Image) (trailing : List ℕ) (fault : ImageError)
-    → BeginsWithImage bytes image trailing → PassesEntries image → IsFirstFault bytes fault
-    → (fault ≡ TrailingBytes) × (0 < length trailing)
+    → BeginsWithImage bytes image trailing → AllPass (entry_checks image) → IsFirstFault bytes fault
+    → (fault ≡ TrailingBytes) × (trailing ≡ [] → ⊥)
 no_fault_but_last bytes image trailing fault begins passes failed =
     elim failed [
-      | IsFirstFault.in_header own own_failed is ↦
-          absurd (no_header_fault bytes image trailing own begins own_failed)
-      | IsFirstFault.in_protected header header_begins some area ↦
-          absurd (no_image_in_protected bytes header fault header_begins.0 some area image trailing begins)
-      | IsFirstFault.in_unprotected header header_begins before area ↦
-          absurd (no_image_in_unprotected bytes header fault header_begins.0 area image trailing begins)
+      | IsFirstFault.in_head own ↦
+          let header = (parts_of_image bytes image trailing begins).header in
+          absurd (passing_has_no_fault (head_checks bytes) fault (head_passes bytes image.header header) own)
+      | IsFirstFault.in_parts header header_begins own ↦
+          absurd (no_part_fault bytes image trailing header fault begins header_begins own)
       | IsFirstFault.in_entries own own_trailing own_begins entry ↦
           let same = image-unique bytes own image own_trailing trailing own_begins begins in
-          let behind = subst (λ (t : List ℕ). IsEntryFault own t fault) same.1 entry in
-          let here = subst (λ (i : Image). IsEntryFault i trailing fault) same.0 behind in
-          no_entry_fault image trailing fault passes here
+          let behind = subst (λ (t : List ℕ). FailsWith (last_checks own t) fault) same.1 entry in
+          let here = subst (λ (i : Image). FailsWith (last_checks i trailing) fault) same.0 behind in
+          elim (second_fails (entry_checks image) (trailing_check trailing) fault passes here) [
+            | inl last ↦ (last.1, last.0)
+            | inr none ↦ absurd none.1
+          ]
     ]
 
 -- No check fails for an intact image.
 pub intact_has_no_fault : (bytes : List ℕ) (description : Desc) (fault : ImageError) → IsIntact bytes description
     → IsFirstFault bytes fault → ⊥
 intact_has_no_fault bytes description fault intact failed =
-    omega (arith, (no_fault_but_last bytes intact.0 [] fault intact.1 intact.3 failed).1)
+    (no_fault_but_last bytes intact.0 [] fault intact.1 intact.3 failed).1 refl
 
 -- ---- the image at the beginning of bytes
 
@@ -191,9 +175,10 @@ length_behind bytes description intact =
 pub first_behind : (bytes : List ℕ) (description : Desc) → BeginsIntact bytes description
     → description.length < length bytes → IsFirstFault bytes TrailingBytes
 first_behind bytes description intact longer =
-    let some : 0 < length intact.1 = omega (arith, longer, length_behind bytes description intact) in
+    let some : intact.1 ≡ [] → ⊥ = λ none.
+    omega (arith, longer, length_behind bytes description intact, ap length none) in
     IsFirstFault.in_entries intact.3.0 intact.1 (begins_with bytes description intact)
-    (IsEntryFault.behind intact.3.3 some refl)
+    (fails_in_second (entry_checks intact.3.0) (trailing_check intact.1) TrailingBytes intact.3.3 (inl (some, refl)))
 
 -- If no bytes follow the image, the bytes are that image.
 pub intact_whole : (bytes : List ℕ) (description : Desc) → BeginsIntact bytes description

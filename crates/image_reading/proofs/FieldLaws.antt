@@ -1,6 +1,6 @@
 -- Laws about fields: which values encode dependencies, and which a counter.
-use Rattle.std.proofs.Common.{◌≡◌, ◌≢◌, ℕ, ◌%◌, inl, inr, List, [], ◌∷◌, length, drop, slice_index, refl, sym, ap, subst, ◌∙◌, arith}
-use Rattle.std.specs.List.{AllByRecursion}
+use Rattle.std.proofs.Common.{◌≡◌, ◌≢◌, ◌⊎◌, ℕ, ◌≤◌, ◌%◌, inl, inr, List, [], ◌∷◌, length, drop, slice_index, refl, sym, ap, subst, ◌∙◌, arith}
+use Rattle.std.specs.List.{AllByRecursion, Any}
 use Rattle.std.proofs.lemmas.Bool.{eq-eqb, ne_eqb}
 use Rattle.byteorder.specs.Endian.{little_bytes, little_number}
 use Rattle.byteorder.specs.Numbers.{little_from-lt, little_number-reads_back}
@@ -8,9 +8,10 @@ use Rattle.version_order.specs.declared.dependency.Dependency.{Dependency}
 use Rattle.common.proofs.Items.{AllByRecursion-no_Any, same_cons}
 use Rattle.sha2.specs.Sha256.{sha256}
 use Rattle.image_header.proofs.Fields.{little_bytes-little_number_4}
-use Rattle.image_reading.specs.declared.error.ImageError.TheVariants.{BadDigest}
+use Rattle.image_reading.specs.declared.error.ImageError.TheVariants.{NoDigest, TwoDigests, BadDigest, BadCounter}
 use Rattle.image_reading.specs.Area.{Entry, values_of}
-use Rattle.image_reading.specs.Fields.{FitsDependency, HasBadCounter, IsDependencyForm, IsDigestFault, SpellCounter, SpellDigest, dependency_bytes}
+use Rattle.image_reading.specs.Checks.{FailsWith}
+use Rattle.image_reading.specs.Fields.{FitsDependency, IsDependencyForm, SpellCounter, SpellDigest, counter_check, dependency_bytes, digest_checks}
 use Rattle.common.specs.Bytes.{IsBytes}
 use Rattle.common.proofs.Bytes.{IsBytes-drop, IsBytes-take}
 use Rattle.image_reading.proofs.AreaLaws.{little_bytes-little_number_2}
@@ -34,11 +35,25 @@ pub SpellDigest-one : (values : List (List ℕ)) (value digest hashed : List ℕ
     → digest ≡ sha256 hashed → value ≡ digest → SpellDigest values hashed
 SpellDigest-one values value digest hashed one own same = one ∙ ap (λ (v : List ℕ). v ∷ []) (same ∙ own)
 
--- If the only value isn't the digest, that is a fault.
-pub IsDigestFault-other : (values : List (List ℕ)) (value digest hashed : List ℕ) → values ≡ value ∷ []
-    → digest ≡ sha256 hashed → value ≢ digest → IsDigestFault values hashed BadDigest
-IsDigestFault-other values value digest hashed one own other =
-    (ap length one, λ spelled. other ((same_cons value (sha256 hashed) [] [] (sym one ∙ spelled)).0 ∙ sym own))
+-- If the only value isn't the digest, the last check fails.
+pub other_digest : (values : List (List ℕ)) (value digest hashed : List ℕ) → values ≡ value ∷ []
+    → digest ≡ sha256 hashed → value ≢ digest → FailsWith (digest_checks values hashed) BadDigest
+other_digest values value digest hashed one own other =
+    let count : length values ≡ 1 = ap length one in
+    let differs : SpellDigest values hashed → ⊥ = λ spelled.
+    other ((same_cons value (sha256 hashed) [] [] (sym one ∙ spelled)).0 ∙ sym own) in
+    inr (omega (arith, count), inr (omega (arith, count), inl (differs, refl)))
+
+-- If there is no value, or there are more, a check before it fails.
+pub no_digest : (values : List (List ℕ)) (hashed : List ℕ) → values ≡ []
+    → FailsWith (digest_checks values hashed) NoDigest
+no_digest values hashed none =
+    let count : length values ≡ 0 = ap length none in
+    inl (λ some. omega (arith, some, count), refl)
+
+pub two_digests : (values : List (List ℕ)) (hashed : List ℕ) → 2 ≤ length values
+    → FailsWith (digest_checks values hashed) TwoDigests
+two_digests values hashed two = inr (omega (arith, two), inl (λ few. omega (arith, few, two), refl))
 
 -- ---- dependencies
 
@@ -128,6 +143,10 @@ IsDependencyForm-dependency_bytes value dependency same = record {
 
 -- ---- the security counter
 
+-- There are two values or more, or one doesn't have 4 bytes.
+abbrev pub HasBadCounter : List (List ℕ) → Type 0
+HasBadCounter values = (2 ≤ length values) ⊎ Any (λ value. length value ≢ 4) values
+
 -- Values that encode a counter aren't bad.
 pub SpellCounter-good : (values : List (List ℕ)) (counter : ℕ) → SpellCounter values counter → HasBadCounter values → ⊥
 SpellCounter-good values counter spelled bad =
@@ -143,3 +162,7 @@ SpellCounter-good values counter spelled bad =
             AllByRecursion-no_Any (λ (value : List ℕ). length value ≡ 4) values each some
       ]
     ]
+
+-- Bad values fail the check of the counter.
+pub bad_counter : (values : List (List ℕ)) → HasBadCounter values → FailsWith (counter_check values) BadCounter
+bad_counter values bad = inl (λ spelled. SpellCounter-good values spelled.0 spelled.1 bad, refl)

@@ -5,20 +5,21 @@ use Rattle.image_header.specs.declared.header.Header.{Header}
 use Rattle.image_header.specs.declared.error.HeaderError.{HeaderError}
 use Rattle.image_header.specs.declared.error.HeaderError.TheVariants as header_fault
 use Rattle.image_header.specs.Header.{BeginsWith, IsAccepted, IsHeaderFault, header_bytes}
-use Rattle.image_header.proofs.Laws.{header-unique, header_bytes-rest}
+use Rattle.image_header.proofs.Laws.{header_bytes-rest}
 use Rattle.flash_model.specs.Chip.{Chip}
 use Rattle.image_reading.specs.declared.error.ImageError.{ImageError}
-use Rattle.image_reading.specs.declared.error.ImageError.TheVariants.{TrailingBytes}
+use Rattle.image_reading.specs.declared.error.ImageError.TheVariants.{Truncated, BadTlvMagic, BadTlvSize, TrailingBytes}
 use Rattle.image_reading.specs.declared.front.Front.{Front}
 use Rattle.image_reading.specs.Area.{Entry, FitsArea, area_bytes, entries_bytes, protected_magic, unprotected_magic}
 use Rattle.common.specs.Bytes.{IsBytes}
-use Rattle.image_reading.specs.Fault.{BeginsAccepted, HasProtectedArea, HasUnprotectedArea, IsAreaFault, IsFirstFault, IsFrontFault, IsProtectedFault, IsUnprotectedFault, image_fault, protected_place, unprotected_place, total_at, entries_at}
+use Rattle.image_reading.specs.Fault.{BeginsAccepted, IsAreaFault, IsFirstFault, IsFrontFault, IsTotal, area_checks, image_fault, total_at, entries_at}
 use Rattle.image_reading.specs.Front.{IsFront, IsProtected}
 use Rattle.image_reading.specs.Image.{Image, BeginsWithImage, protected_bytes, hashed_bytes, image_bytes}
 use Rattle.image_reading.specs.Span.{bytes_of}
 use Rattle.common.proofs.Items.{drop-from}
-use Rattle.image_reading.proofs.Areas.{IsAreaOf, drop-area, area_of_entries, area_has_no_fault}
-use Rattle.image_reading.proofs.ImageLaws.{parts_of_image, protected_bytes-absent, protected_bytes-there, image_has_protected_area, image_has_unprotected_area}
+use Rattle.image_reading.proofs.Areas.{HasProtectedArea, HasUnprotectedArea, IsAreaOf, drop-area, area_of_entries, protected_fails, protected_passes, protected_place, unprotected_place}
+use Rattle.image_reading.proofs.CheckLaws.{fails_in_first, fails_in_second, fault_among}
+use Rattle.image_reading.proofs.ImageLaws.{parts_of_image, protected_bytes-absent, protected_bytes-there}
 use Rattle.image_reading.proofs.Parts.{whole_of}
 
 -- ---- an image from its parts
@@ -190,6 +191,18 @@ is_front chip bytes front fits begins accepted protected_is area unprotected_is 
 
 -- ---- if a check fails
 
+-- The fault of the header is the first fault.
+first_in_header : (bytes : List ℕ) (own : HeaderError) → IsHeaderFault bytes own
+    → IsFirstFault bytes (image_fault own)
+first_in_header bytes header_fault.Short failed =
+    IsFirstFault.in_head (inl (λ long. omega (arith, failed, long), refl))
+first_in_header bytes header_fault.BadMagic failed =
+    IsFirstFault.in_head (inr (failed.0, inl (failed.1, refl)))
+first_in_header bytes header_fault.BadHeaderSize failed =
+    IsFirstFault.in_parts failed.0 failed.1 (inl (λ long. omega (arith, failed.2, long), refl))
+first_in_header bytes header_fault.UnsupportedFlags failed =
+    IsFirstFault.in_parts failed.0 failed.1 (inr (failed.2.long, inl (failed.2.unknown, refl)))
+
 -- No fault of a header or of an area is that bytes follow.
 header_not_behind : (own : HeaderError) → image_fault own ≢ TrailingBytes
 header_not_behind header_fault.Short = λ behind. cc
@@ -197,64 +210,53 @@ header_not_behind header_fault.BadMagic = λ behind. cc
 header_not_behind header_fault.BadHeaderSize = λ behind. cc
 header_not_behind header_fault.UnsupportedFlags = λ behind. cc
 
+truncated_not_behind : Truncated ≢ TrailingBytes
+truncated_not_behind = λ behind. cc
+
+magic_not_behind : BadTlvMagic ≢ TrailingBytes
+magic_not_behind = λ behind. cc
+
+size_not_behind : BadTlvSize ≢ TrailingBytes
+size_not_behind = λ behind. cc
+
 area_not_behind : (bytes : List ℕ) (place magic : ℕ) (expected : Option ℕ) (fault : ImageError)
     → IsAreaFault bytes place magic expected fault → fault ≢ TrailingBytes
 area_not_behind bytes place magic expected fault failed =
-    elim failed [
-      | IsAreaFault.no_head no_head is ↦ λ behind. cc
-      | IsAreaFault.other_magic head other is ↦ λ behind. cc
-      | IsAreaFault.bad_total before bad is ↦ λ behind. cc
-      | IsAreaFault.cut_off before short is ↦ λ behind. cc
-      | IsAreaFault.not_filled before not_filled is ↦ λ behind. cc
-    ]
+    fault_among (area_checks bytes place magic (IsTotal expected)) fault TrailingBytes
+    (truncated_not_behind, (magic_not_behind, (size_not_behind, (truncated_not_behind, (size_not_behind, tt)))))
+    failed
 
 -- The fault of the header, or of the protected area, is the first fault, whatever follows.
 pub front_in_header : (bytes : List ℕ) (own : HeaderError) → IsHeaderFault bytes own
     → IsFrontFault bytes (image_fault own)
-front_in_header bytes own failed = (IsFirstFault.in_header own failed refl, header_not_behind own)
+front_in_header bytes own failed = (first_in_header bytes own failed, header_not_behind own)
 
 pub front_in_protected : (bytes : List ℕ) (header : Header) (fault : ImageError) → BeginsAccepted bytes header
-    → 0 < header.protected_size → IsProtectedFault bytes header fault → IsFrontFault bytes fault
-front_in_protected bytes header fault begins some failed = (
-  IsFirstFault.in_protected header begins some failed,
-  area_not_behind bytes (protected_place header) protected_magic (Some header.protected_size) fault failed,
-)
+    → 0 < header.protected_size
+    → IsAreaFault bytes (protected_place header) protected_magic (Some header.protected_size) fault
+    → IsFrontFault bytes fault
+front_in_protected bytes header fault begins some failed =
+    let own = protected_fails bytes (protected_place header) header.protected_size fault some failed in (
+      IsFirstFault.in_parts header begins.0
+          (inr (begins.1.long, inr (begins.1.known, fails_in_first _ _ fault own))),
+      area_not_behind bytes (protected_place header) protected_magic (Some header.protected_size) fault failed,
+    )
 
 -- The fault of the unprotected area is the first fault, whatever follows.
 pub front_in_unprotected : (bytes : List ℕ) (header : Header) (fault : ImageError) → BeginsAccepted bytes header
-    → HasProtectedArea bytes header → IsUnprotectedFault bytes header fault → IsFrontFault bytes fault
+    → HasProtectedArea bytes header → IsAreaFault bytes (unprotected_place header) unprotected_magic None fault
+    → IsFrontFault bytes fault
 front_in_unprotected bytes header fault begins before failed = (
-  IsFirstFault.in_unprotected header begins before failed,
+  IsFirstFault.in_parts header begins.0
+      (inr (begins.1.long, inr (begins.1.known, fails_in_second _ _ fault before failed))),
   area_not_behind bytes (unprotected_place header) unprotected_magic None fault failed,
 )
 
 -- A protected area that was found passes its checks.
 pub found_passes : (bytes found : List ℕ) (header : Header)
     → IsProtected bytes (protected_place header) header.protected_size found → HasProtectedArea bytes header
-found_passes bytes found header (inl absent) = inl absent.0
-found_passes bytes found header (inr there) = inr (there.0, there.1)
-
--- If the protected area fails its checks, the bytes don't begin with an image.
-pub no_image_in_protected : (bytes : List ℕ) (header : Header) (fault : ImageError) → BeginsWith bytes header
-    → 0 < header.protected_size → IsProtectedFault bytes header fault
-    → (image : Image) (trailing : List ℕ) → BeginsWithImage bytes image trailing → ⊥
-no_image_in_protected bytes header fault begins some failed image trailing is =
-    let own = (parts_of_image bytes image trailing is).header in
-    let same : image.header ≡ header = header-unique bytes image.header header own begins in
-    let passes : HasProtectedArea bytes header =
-    subst (HasProtectedArea bytes) same (image_has_protected_area bytes image trailing is) in
-    let size = Some header.protected_size in
-    elim passes [
-      | inl none ↦ omega (arith, none, some)
-      | inr there ↦ area_has_no_fault bytes (protected_place header) protected_magic size fault there.1 failed
-    ]
-
--- If the unprotected area fails its checks, the bytes don't begin with an image.
-pub no_image_in_unprotected : (bytes : List ℕ) (header : Header) (fault : ImageError) → BeginsWith bytes header
-    → IsUnprotectedFault bytes header fault
-    → (image : Image) (trailing : List ℕ) → BeginsWithImage bytes image trailing → ⊥
-no_image_in_unprotected bytes header fault begins failed image trailing is =
-    let own = (parts_of_image bytes image trailing is).header in
-    let same : image.header ≡ header = header-unique bytes image.header header own begins in
-    let passes = subst (HasUnprotectedArea bytes) same (image_has_unprotected_area bytes image trailing is) in
-    area_has_no_fault bytes (unprotected_place header) unprotected_magic None fault passes failed
+found_passes bytes found header (inl absent) =
+    protected_passes bytes (protected_place header) header.protected_size
+    (λ some. absurd (omega (arith, absent.0, some)))
+found_passes bytes found header (inr there) =
+    protected_passes bytes (protected_place header) header.protected_size (λ some. there.1)

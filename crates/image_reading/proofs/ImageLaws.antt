@@ -8,10 +8,12 @@ use Rattle.image_header.specs.Header.{BeginsWith, header_bytes}
 use Rattle.image_header.proofs.Laws.{length-header_bytes, header-unique}
 use Rattle.image_reading.specs.Area.{Entry, FitsArea, area_bytes, entries_bytes, protected_magic, unprotected_magic}
 use Rattle.image_reading.proofs.AreaLaws.{entries_of-entries_bytes}
-use Rattle.image_reading.specs.Fault.{HasProtectedArea, HasUnprotectedArea, protected_place, unprotected_place, entries_at}
+use Rattle.image_reading.specs.Checks.{AllPass}
+use Rattle.image_reading.specs.Fault.{entries_at, part_checks}
 use Rattle.image_reading.specs.Image.{Image, IsWellFormed, BeginsWithImage, protected_bytes, hashed_bytes, image_bytes}
 use Rattle.image_reading.specs.Reading.{entries_of}
-use Rattle.image_reading.proofs.Areas.{IsAreaOf, area_from_bytes, area_passes}
+use Rattle.image_reading.proofs.Areas.{HasProtectedArea, HasUnprotectedArea, IsAreaOf, area_from_bytes, area_passes, area_row, protected_passes, protected_place, unprotected_place}
+use Rattle.image_reading.proofs.CheckLaws.{AllPass-append}
 use Rattle.image_reading.proofs.Parts.{parts_of, regrouped}
 
 -- ---- the parts of the image at the beginning of bytes
@@ -153,24 +155,26 @@ protected_total bytes image trailing begins some =
 pub image_has_protected_area : (bytes : List ℕ) (image : Image) (trailing : List ℕ)
     → BeginsWithImage bytes image trailing → HasProtectedArea bytes image.header
 image_has_protected_area bytes image trailing begins =
-    elim (cases_lt 0 image.header.protected_size) [
-      | inl some ↦
-          let total = protected_total bytes image trailing begins some in
-          let area = protected_of_image bytes image trailing begins some in
-          let size = Some image.header.protected_size in
-          inr (
-            some,
-            area_passes bytes (protected_place image.header) protected_magic size image.protected
-                area begins.formed.protected (total, omega arith),
-          )
-      | inr none ↦ inl (omega arith)
-    ]
+    protected_passes bytes (protected_place image.header) image.header.protected_size (λ some.
+    let total = protected_total bytes image trailing begins some in
+    area_passes bytes (protected_place image.header) protected_magic (Some image.header.protected_size)
+    image.protected (protected_of_image bytes image trailing begins some) begins.formed.protected
+    (total, omega arith))
 
 pub image_has_unprotected_area : (bytes : List ℕ) (image : Image) (trailing : List ℕ)
     → BeginsWithImage bytes image trailing → HasUnprotectedArea bytes image.header
 image_has_unprotected_area bytes image trailing begins =
     area_passes bytes (unprotected_place image.header) unprotected_magic None image.unprotected
     (unprotected_of_image bytes image trailing begins) begins.formed.unprotected (omega arith)
+
+-- An image passes the checks of its header and of both areas.
+pub image_passes_parts : (bytes : List ℕ) (image : Image) (trailing : List ℕ) → BeginsWithImage bytes image trailing
+    → AllPass (part_checks bytes image.header)
+image_passes_parts bytes image trailing begins =
+    let last = area_row bytes (unprotected_place image.header) unprotected_magic None
+    (image_has_unprotected_area bytes image trailing begins) in
+    let areas = AllPass-append _ _ (image_has_protected_area bytes image trailing begins) last in
+    (begins.formed.accepted.long, (begins.formed.accepted.known, areas))
 
 -- ---- one image
 

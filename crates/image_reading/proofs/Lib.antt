@@ -1,3 +1,4 @@
+pub mod CheckLaws
 pub mod AreaLaws
 pub mod Areas
 pub mod Descriptions

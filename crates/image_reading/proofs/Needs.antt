@@ -1,16 +1,19 @@
 -- Dependencies and groups together: which values encode them, and which checks they pass.
-use Rattle.std.proofs.Common.{◌≡◌, ℕ, ◌≤◌, Bool, true, false, List, [], ◌∷◌, length, map, refl, sym, ap, subst, ◌∙◌, arith}
+use Rattle.std.proofs.Common.{◌≡◌, ℕ, ◌<◌, ◌≤◌, ◌⊎◌, inl, inr, Bool, true, false, List, [], ◌∷◌, ◌++◌, length, map, refl, sym, ap, subst, ◌∙◌, arith}
 use Rattle.std.specs.List.{AllByRecursion, Any}
 use Rattle.common.specs.declared.limits.TheConstants.{MOST_DEPENDENCIES, MOST_GROUPS}
 use Rattle.common.proofs.Items.{AllByRecursion-no_Any, same_cons}
 use Rattle.version_order.specs.declared.dependency.Dependency.{Dependency}
 use Rattle.version_order.specs.declared.group.Group.{Group}
-use Rattle.image_reading.specs.declared.error.ImageError.TheVariants.{TooManyDependencies, TooManyGroups}
+use Rattle.image_reading.specs.declared.error.ImageError.TheVariants.{BadDependency, TooManyDependencies, TooManyGroups}
 use Rattle.image_reading.specs.declared.met.Met.{Met}
-use Rattle.image_reading.specs.Fields.{HasBadDependency, HasBadGroup, HaveForms, IsDependencyFault, SpellCounter, SpellDependencies, SpellGroups, dependency_bytes}
+use Rattle.image_reading.specs.Fields.{HaveForms, IsDependencyForm, IsGroupForm, SpellCounter, SpellDependencies, SpellDigest, SpellGroups, counter_check, dependency_bytes, digest_checks, digest_kind, need_checks}
 use Rattle.image_reading.specs.Gathered.{AreKept, HaveMetDependencies, HaveMetGroups, Spelling, dependency_spelling, group_spelling}
-use Rattle.image_reading.specs.Image.{Image, PassesDigest, PassesEntries, PassesGroupCount, counter_values, dependency_values, group_values}
-use Rattle.image_reading.proofs.FieldLaws.{IsDependencyForm-dependency_bytes, SpellCounter-good, dependency_bytes-same}
+use Rattle.image_reading.specs.Area.{values_of}
+use Rattle.image_reading.specs.Checks.{AllPass, FailsWith}
+use Rattle.image_reading.specs.Image.{Image, counter_values, dependency_values, entry_checks, group_values, hashed_bytes}
+use Rattle.image_reading.proofs.CheckLaws.{AllPass-append}
+use Rattle.image_reading.proofs.FieldLaws.{IsDependencyForm-dependency_bytes, dependency_bytes-same}
 use Rattle.image_reading.proofs.GroupLaws.{IsGroupForm-group_bytes, group_bytes-same}
 use Rattle.image_reading.proofs.Gathered.{AreSpelled, count_spelled, few_at_end, found_at_end, kept_at_end, many_at_end}
 
@@ -43,6 +46,13 @@ groups-unique values first second a b =
     spelled-unique group_spelling group_bytes-same first second a.fit b.fit (sym a.spelled ∙ b.spelled)
 
 -- ---- forms
+
+-- Some value doesn't have the form of a dependency, or of a group.
+abbrev pub HasBadDependency : List (List ℕ) → Type 0
+HasBadDependency values = Any (λ value. IsDependencyForm value → ⊥) values
+
+abbrev pub HasBadGroup : List (List ℕ) → Type 0
+HasBadGroup values = Any (λ value. IsGroupForm value → ⊥) values
 
 -- Values that encode items have their form.
 forms_of : {X : Type 0} (spelling : Spelling X)
@@ -78,33 +88,49 @@ forms_kept : (values others : List (List ℕ)) (dependencies : Met Dependency MO
     → dependencies.bad ≡ false → groups.bad ≡ false → HaveForms values others
 forms_kept values others dependencies groups met met_groups good good_groups =
     let kept = met.kept good in
-    let kept_groups = met_groups.kept good_groups in (
-      dependencies-good values kept.found
-          (found_at_end dependency_spelling 16 values dependencies.kept.items dependencies.too_many kept),
-      groups-good others kept_groups.found
-          (found_at_end group_spelling 4 others groups.kept.items groups.too_many kept_groups),
+    let kept_groups = met_groups.kept good_groups in
+    let all = found_at_end dependency_spelling 16 values dependencies.kept.items dependencies.too_many kept in
+    let all_groups = found_at_end group_spelling 4 others groups.kept.items groups.too_many kept_groups in (
+      (kept.found, record { fit = all.fit; spelled = all.spelled }),
+      (kept_groups.found, record { fit = all_groups.fit; spelled = all_groups.spelled }),
     )
+
+-- If a value is bad, the values spell nothing.
+pub bad_forms : (values others : List (List ℕ)) → HasBadDependency values ⊎ HasBadGroup others
+    → HaveForms values others → ⊥
+bad_forms values others (inl some) forms = dependencies-good values forms.0.0
+    (record { fit = forms.0.1.fit; spelled = forms.0.1.spelled }) some
+bad_forms values others (inr some) forms = groups-good others forms.1.0
+    (record { fit = forms.1.1.fit; spelled = forms.1.1.spelled }) some
 
 -- There were too many dependencies.
 pub too_many_dependencies : (values others : List (List ℕ)) (dependencies : Met Dependency MOST_DEPENDENCIES)
     (groups : Met Group MOST_GROUPS) → HaveMetDependencies values [] dependencies → HaveMetGroups others [] groups
     → dependencies.bad ≡ false → groups.bad ≡ false → dependencies.too_many ≡ true
-    → IsDependencyFault values others TooManyDependencies
-too_many_dependencies values others dependencies groups met met_groups good good_groups many = (
-  forms_kept values others dependencies groups met met_groups good good_groups,
-  many_at_end dependency_spelling 16 values dependencies.kept.items dependencies.too_many (met.kept good) many,
-)
+    → FailsWith (need_checks values others) TooManyDependencies
+too_many_dependencies values others dependencies groups met met_groups good good_groups many =
+    let over : 16 < length values =
+    many_at_end dependency_spelling 16 values dependencies.kept.items dependencies.too_many (met.kept good) many in
+    let forms = forms_kept values others dependencies groups met met_groups good good_groups in
+    inr (forms, inl (λ few. omega (arith, few, over), refl))
 
 -- There were not too many dependencies, but too many groups.
 pub too_many_groups : (values others : List (List ℕ)) (dependencies : Met Dependency MOST_DEPENDENCIES)
     (groups : Met Group MOST_GROUPS) → HaveMetDependencies values [] dependencies → HaveMetGroups others [] groups
     → dependencies.bad ≡ false → groups.bad ≡ false → dependencies.too_many ≡ false → groups.too_many ≡ true
-    → IsDependencyFault values others TooManyGroups
-too_many_groups values others dependencies groups met met_groups good good_groups few many = (
-  forms_kept values others dependencies groups met met_groups good good_groups,
-  few_at_end dependency_spelling 16 values dependencies.kept.items dependencies.too_many (met.kept good) few,
-  many_at_end group_spelling 4 others groups.kept.items groups.too_many (met_groups.kept good_groups) many,
-)
+    → FailsWith (need_checks values others) TooManyGroups
+too_many_groups values others dependencies groups met met_groups good good_groups few many =
+    let within =
+    few_at_end dependency_spelling 16 values dependencies.kept.items dependencies.too_many (met.kept good) few in
+    let over : 4 < length others =
+    many_at_end group_spelling 4 others groups.kept.items groups.too_many (met_groups.kept good_groups) many in
+    let forms = forms_kept values others dependencies groups met met_groups good good_groups in
+    inr (forms, inr (within, inl (λ few. omega (arith, few, over), refl)))
+
+-- If a value is bad, that is the fault.
+pub bad_needs : (values others : List (List ℕ)) → HasBadDependency values ⊎ HasBadGroup others
+    → FailsWith (need_checks values others) BadDependency
+bad_needs values others bad = inl (bad_forms values others bad, refl)
 
 -- If there weren't too many, all are kept.
 pub SpellDependencies-kept : (values : List (List ℕ)) (items : List Dependency) (too_many : Bool)
@@ -122,25 +148,41 @@ SpellGroups-kept values items too_many kept few =
 
 -- ---- the checks of an image's entries
 
--- Dependencies and groups within their limits pass their checks, and so does a counter.
-pub passes_needs : (image : Image) (dependencies : List Dependency) (groups : List Group) → PassesDigest image
+-- The digest is that of header, body and protected area.
+abbrev pub PassesDigest : Image → Type 0
+PassesDigest image = SpellDigest (values_of digest_kind image.unprotected) (hashed_bytes image)
+
+-- The checks of the digest pass if it does.
+pub digest_passes : (values : List (List ℕ)) (hashed : List ℕ) → SpellDigest values hashed
+    → AllPass (digest_checks values hashed)
+digest_passes values hashed spelled =
+    let one : length values ≡ 1 = ap length spelled in
+    (omega (arith, one), (omega (arith, one), (spelled, tt)))
+
+-- The checks of dependencies and groups pass if they are within their limits.
+pub passes_needs : (image : Image) (dependencies : List Dependency) (groups : List Group)
     → SpellDependencies (dependency_values image) dependencies → SpellGroups (group_values image) groups
-    → length dependencies ≤ MOST_DEPENDENCIES → length groups ≤ MOST_GROUPS → PassesGroupCount image
-passes_needs image dependencies groups digest spelled spelled_groups few few_groups =
+    → length dependencies ≤ MOST_DEPENDENCIES → length groups ≤ MOST_GROUPS
+    → AllPass (need_checks (dependency_values image) (group_values image))
+passes_needs image dependencies groups spelled spelled_groups few few_groups =
     let all : AreSpelled dependency_spelling (dependency_values image) dependencies =
     record { fit = spelled.fit; spelled = spelled.spelled } in
     let all_groups : AreSpelled group_spelling (group_values image) groups =
     record { fit = spelled_groups.fit; spelled = spelled_groups.spelled } in
     let count = count_spelled dependency_spelling (dependency_values image) dependencies all in
     let count_groups = count_spelled group_spelling (group_values image) groups all_groups in
-    let forms : HaveForms (dependency_values image) (group_values image) = (
-      dependencies-good (dependency_values image) dependencies all,
-      groups-good (group_values image) groups all_groups,
-    ) in
     let within : length (dependency_values image) ≤ 16 = omega (arith, count, few) in
     let within_groups : length (group_values image) ≤ 4 = omega (arith, count_groups, few_groups) in
-    (((digest, forms), within), within_groups)
+    (((dependencies, spelled), (groups, spelled_groups)), (within, (within_groups, tt)))
 
-pub passes_counter : (image : Image) (counter : ℕ) → PassesGroupCount image
-    → SpellCounter (counter_values image) counter → PassesEntries image
-passes_counter image counter passes spelled = (passes, SpellCounter-good (counter_values image) counter spelled)
+-- All checks pass if these do, and there is a counter.
+pub passes_counter : (image : Image) (counter : ℕ) → PassesDigest image
+    → AllPass (need_checks (dependency_values image) (group_values image))
+    → SpellCounter (counter_values image) counter → AllPass (entry_checks image)
+passes_counter image counter digest needs spelled =
+    let last : AllPass (counter_check (counter_values image)) = ((counter, spelled), tt) in
+    let first = digest_passes (values_of digest_kind image.unprotected) (hashed_bytes image) digest in
+    let digests = digest_checks (values_of digest_kind image.unprotected) (hashed_bytes image) in
+    let dependencies = need_checks (dependency_values image) (group_values image) in
+    let counters = counter_check (counter_values image) in
+    AllPass-append digests (dependencies ++ counters) first (AllPass-append dependencies counters needs last)

@@ -1,6 +1,6 @@
 -- The fields that entries hold, by the values of the entries of their type.
-use Rattle.std.specs.Prelude.{◌≡◌, ◌≢◌, ℕ, ◌*◌, ◌^◌, ◌<◌, ◌≤◌, ◌⊎◌, List, [], ◌∷◌, length, map, take, drop, slice_index}
-use Rattle.std.specs.List.{AllByRecursion, Any, flat_map}
+use Rattle.std.specs.Prelude.{◌≡◌, ℕ, ◌*◌, ◌^◌, ◌<◌, ◌≤◌, ◌⊎◌, List, [], ◌∷◌, length, map, take, drop, slice_index}
+use Rattle.std.specs.List.{AllByRecursion, flat_map}
 use Rattle.byteorder.specs.Endian.{little_bytes}
 use Rattle.sha2.specs.Sha256.{sha256}
 use Rattle.common.specs.Limits.{MOST_ALTERNATIVES, MOST_DEPENDENCIES, MOST_GROUPS}
@@ -8,8 +8,8 @@ use Rattle.version_order.specs.declared.dependency.Dependency.{Dependency}
 use Rattle.version_order.specs.declared.group.Group.{Group}
 use Rattle.version_order.specs.VersionText.{FitsFields}
 use Rattle.image_header.specs.Header.{version_bytes}
-use Rattle.image_reading.specs.declared.error.ImageError.{ImageError}
 use Rattle.image_reading.specs.declared.error.ImageError.TheVariants.{NoDigest, TwoDigests, BadDigest, BadDependency, TooManyDependencies, BadCounter, TooManyGroups}
+use Rattle.image_reading.specs.Checks.{Check}
 
 -- The type of a digest entry (`IMAGE_TLV_SHA256`).
 abbrev pub digest_kind : ℕ
@@ -33,12 +33,11 @@ group_kind = 0xA0
 abbrev pub SpellDigest : List (List ℕ) → List ℕ → Type 0
 SpellDigest values hashed = values ≡ sha256 hashed ∷ []
 
--- Why values are not the one SHA-256 of these bytes: the first check that fails.
-abbrev pub IsDigestFault : List (List ℕ) → List ℕ → ImageError → Type 0
-IsDigestFault values hashed NoDigest = values ≡ []
-IsDigestFault values hashed TwoDigests = 2 ≤ length values
-IsDigestFault values hashed BadDigest = (length values ≡ 1) × (SpellDigest values hashed → ⊥)
-IsDigestFault values hashed other = ⊥
+-- The checks of digest entries, in order, by their values and the bytes to hash.
+abbrev pub digest_checks : List (List ℕ) → List ℕ → List Check
+digest_checks values hashed =
+    (1 ≤ length values, NoDigest) ∷ (length values ≤ 1, TwoDigests)
+    ∷ (SpellDigest values hashed, BadDigest) ∷ []
 
 -- ---- dependencies
 
@@ -64,10 +63,6 @@ pub record IsDependencyForm (value : List ℕ) : Type 0 where
   pub second : slice_index value 2 ≡ 0
   pub third : slice_index value 3 ≡ 0
 
--- Some value doesn't have the form of a dependency.
-abbrev pub HasBadDependency : List (List ℕ) → Type 0
-HasBadDependency values = Any (λ value. IsDependencyForm value → ⊥) values
-
 -- ---- groups
 
 -- The bytes of dependencies, one after the other.
@@ -76,7 +71,7 @@ alternatives_bytes alternatives = flat_map dependency_bytes alternatives
 
 -- The bytes of a group: those of its alternatives, each as of a dependency.
 abbrev pub group_bytes : Group → List ℕ
-group_bytes group = alternatives_bytes group.alternatives.items
+group_bytes group = flat_map dependency_bytes group.alternatives.items
 
 -- A group has 1 to 4 alternatives, and the numbers of each fit their fields.
 pub record FitsGroup (group : Group) : Type 0 where
@@ -97,25 +92,19 @@ pub record IsGroupForm (value : List ℕ) : Type 0 where
   pub size : length value ≡ 12 * count
   pub each : (k : ℕ) → k < count → IsDependencyForm (take 12 (drop (12 * k) value))
 
--- Some value doesn't have the form of a group.
-abbrev pub HasBadGroup : List (List ℕ) → Type 0
-HasBadGroup values = Any (λ value. IsGroupForm value → ⊥) values
-
 -- ---- dependencies and groups
 
--- Each value of a dependency and each of a group has its form.
+-- Values spell some dependencies, and others some groups.
 abbrev pub HaveForms : List (List ℕ) → List (List ℕ) → Type 0
-HaveForms dependencies groups = (HasBadDependency dependencies → ⊥) × (HasBadGroup groups → ⊥)
+HaveForms values others = ((dependencies : List Dependency) × SpellDependencies values dependencies)
+    × ((groups : List Group) × SpellGroups others groups)
 
--- Why values are not dependencies and groups that an image may have: the first check that fails.
-abbrev pub IsDependencyFault : List (List ℕ) → List (List ℕ) → ImageError → Type 0
-IsDependencyFault dependencies groups BadDependency =
-    HasBadDependency dependencies ⊎ HasBadGroup groups
-IsDependencyFault dependencies groups TooManyDependencies =
-    HaveForms dependencies groups × (MOST_DEPENDENCIES < length dependencies)
-IsDependencyFault dependencies groups TooManyGroups = HaveForms dependencies groups
-    × (length dependencies ≤ MOST_DEPENDENCIES) × (MOST_GROUPS < length groups)
-IsDependencyFault dependencies groups other = ⊥
+-- The checks of dependencies and groups, in order, by the values of each.
+abbrev pub need_checks : List (List ℕ) → List (List ℕ) → List Check
+need_checks values others =
+    (HaveForms values others, BadDependency)
+    ∷ (length values ≤ MOST_DEPENDENCIES, TooManyDependencies)
+    ∷ (length others ≤ MOST_GROUPS, TooManyGroups) ∷ []
 
 -- ---- the security counter
 
@@ -126,13 +115,8 @@ counter_bytes counter = little_bytes 4 counter
 -- There is one value, which spells this counter, or none, and the counter is 0.
 abbrev pub SpellCounter : List (List ℕ) → ℕ → Type 0
 SpellCounter values counter = (counter < 2 ^ 32)
-    × (((values ≡ []) × (counter ≡ 0)) ⊎ (values ≡ counter_bytes counter ∷ []))
+    × (((values ≡ []) × (counter ≡ 0)) ⊎ (values ≡ little_bytes 4 counter ∷ []))
 
--- There are two values or more, or one doesn't have 4 bytes.
-abbrev pub HasBadCounter : List (List ℕ) → Type 0
-HasBadCounter values = (2 ≤ length values) ⊎ Any (λ value. length value ≢ 4) values
-
--- Why values are not a security counter.
-abbrev pub IsCounterFault : List (List ℕ) → ImageError → Type 0
-IsCounterFault values BadCounter = HasBadCounter values
-IsCounterFault values other = ⊥
+-- The check of security counters, by their values.
+abbrev pub counter_check : List (List ℕ) → List Check
+counter_check values = ((counter : ℕ) × SpellCounter values counter, BadCounter) ∷ []

@@ -1,13 +1,13 @@
 -- Images: header, body, protected area and unprotected area, one after the other (MCUboot, design
 -- document, "Image format").
-use Rattle.std.specs.Prelude.{◌≡◌, ℕ, ◌+◌, ◌≤◌, ◌==◌, List, [], ◌++◌, length, if◌then◌else◌}
+use Rattle.std.specs.Prelude.{◌≡◌, ℕ, ◌+◌, ◌==◌, List, [], ◌++◌, length, if◌then◌else◌}
 use Rattle.sha2.specs.Sha256.{sha256}
-use Rattle.common.specs.Limits.{MOST_DEPENDENCIES, MOST_GROUPS}
 use Rattle.image_header.specs.declared.header.Header.{Header}
 use Rattle.image_header.specs.Header.{FitsHeader, IsAccepted, header_bytes}
 use Rattle.image_reading.specs.declared.desc.Desc.{Desc}
+use Rattle.image_reading.specs.Checks.{AllPass, Check}
 use Rattle.image_reading.specs.Area.{Entry, FitsArea, area_bytes, protected_magic, unprotected_magic, values_of}
-use Rattle.image_reading.specs.Fields.{HasBadCounter, HaveForms, SpellCounter, SpellDependencies, SpellDigest, SpellGroups, counter_kind, dependency_kind, digest_kind, group_kind}
+use Rattle.image_reading.specs.Fields.{SpellCounter, SpellDependencies, SpellGroups, counter_check, counter_kind, dependency_kind, digest_checks, digest_kind, group_kind, need_checks}
 
 -- The parts of an image.
 pub record Image : Type 0 where
@@ -49,10 +49,6 @@ pub record BeginsWithImage (bytes : List ℕ) (image : Image) (trailing : List �
   pub formed : IsWellFormed image
   pub parts : bytes ≡ image_bytes image ++ trailing
 
--- The values of digest entries, which are read in the unprotected area only.
-abbrev pub digest_values : Image → List (List ℕ)
-digest_values image = values_of digest_kind image.unprotected
-
 -- The values of dependency entries, which are read in the protected area only.
 abbrev pub dependency_values : Image → List (List ℕ)
 dependency_values image = values_of dependency_kind image.protected
@@ -65,31 +61,12 @@ group_values image = values_of group_kind image.protected
 abbrev pub counter_values : Image → List (List ℕ)
 counter_values image = values_of counter_kind image.protected
 
--- The digest is that of header, body and protected area.
-abbrev pub PassesDigest : Image → Type 0
-PassesDigest image = SpellDigest (digest_values image) (hashed_bytes image)
-
--- The digest passes, and each dependency and each group has its form.
-abbrev pub PassesDependencies : Image → Type 0
-PassesDependencies image =
-    PassesDigest image × HaveForms (dependency_values image) (group_values image)
-
--- Digest and forms pass, and there are at most 16 dependencies.
-abbrev pub PassesDependencyCount : Image → Type 0
-PassesDependencyCount image =
-    PassesDependencies image × (length (dependency_values image) ≤ MOST_DEPENDENCIES)
-
--- Digest, forms and number of dependencies pass, and there are at most 4 groups.
-abbrev pub PassesGroupCount : Image → Type 0
-PassesGroupCount image = PassesDependencyCount image × (length (group_values image) ≤ MOST_GROUPS)
-
--- Digest, forms and counts pass, and there is one security counter of 4 bytes, or none.
-abbrev pub PassesCounter : Image → Type 0
-PassesCounter image = PassesGroupCount image × (HasBadCounter (counter_values image) → ⊥)
-
--- All checks of an image's entries pass; entries of other types are skipped.
-abbrev pub PassesEntries : Image → Type 0
-PassesEntries image = PassesCounter image
+-- The checks of an image's entries, in order; digests are read in the unprotected area only, and
+-- entries of other types are skipped.
+abbrev pub entry_checks : Image → List Check
+entry_checks image = digest_checks (values_of digest_kind image.unprotected) (hashed_bytes image)
+    ++ need_checks (dependency_values image) (group_values image)
+    ++ counter_check (counter_values image)
 
 -- A description says what an image says of itself.
 pub record Describes (image : Image) (description : Desc) : Type 0 where
@@ -104,7 +81,7 @@ pub record Describes (image : Image) (description : Desc) : Type 0 where
 -- The complete bytes are an intact image, of which this is the description.
 abbrev pub IsIntact : List ℕ → Desc → Type 0
 IsIntact bytes description = (image : Image)
-    × BeginsWithImage bytes image [] × Describes image description × PassesEntries image
+    × BeginsWithImage bytes image [] × Describes image description × AllPass (entry_checks image)
 
 -- Bytes begin with an intact image, of which this is the description, whatever follows it.
 abbrev pub BeginsIntact : List ℕ → Desc → Type 0

@@ -1,3 +1,4 @@
+pub mod Checks
 pub mod Area
 pub mod Image
 pub mod Fault

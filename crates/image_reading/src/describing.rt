@@ -2,8 +2,9 @@
 
 ghost use Rattle.std.specs.Prelude.{◌≡◌, ℕ, List, [], Err, IfErr, IfOk, Ok, OnOk};
 ghost use Rattle.sha2.specs.Sha256.{sha256};
+ghost use Rattle.image_reading.specs.Checks.{FailsWith};
 ghost use Rattle.image_reading.specs.Fault.{IsFirstFault, IsFrontFault};
-ghost use Rattle.image_reading.specs.Fields.{IsDigestFault, SpellDigest};
+ghost use Rattle.image_reading.specs.Fields.{SpellDigest, digest_checks};
 ghost use Rattle.image_reading.specs.Gathered.{CanReadOccurrence, IsOccurrence};
 ghost use Rattle.image_reading.specs.Image.{BeginsIntact, IsIntact};
 ghost use Rattle.image_reading.specs.Span.{CanRead, bytes_of};
@@ -111,7 +112,7 @@ fn own_digest<M: Medium>(
     ensures entry { (values : List (List ℕ)) → IsOccurrence (M.chip medium.old) values [] entry
         → OnOk result (SpellDigest values (bytes_of (M.chip medium.old) hashed)) }
     ensures fault { (values : List (List ℕ)) → IsOccurrence (M.chip medium.old) values [] entry
-        → IfErr result (IsDigestFault values (bytes_of (M.chip medium.old) hashed)) }
+        → IfErr result (FailsWith (digest_checks values (bytes_of (M.chip medium.old) hashed))) }
 {
     let value = digest_value(entry)?;
     let digest = medium.digest(hashed);

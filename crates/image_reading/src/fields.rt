@@ -2,7 +2,8 @@
 
 ghost use Rattle.std.specs.Prelude.{◌≡◌, ◌≢◌, ◌↔◌, ℕ, ◌∷◌, [], List, length, IsTrue, IfOk, IfErr, IfSome, IfNone};
 ghost use Rattle.flash_model.specs.Chip.{Chip};
-ghost use Rattle.image_reading.specs.Fields.{FitsDependency, IsCounterFault, IsDependencyFault, IsDependencyForm, IsDigestFault, SpellCounter, counter_bytes, dependency_bytes};
+ghost use Rattle.image_reading.specs.Checks.{FailsWith};
+ghost use Rattle.image_reading.specs.Fields.{FitsDependency, IsDependencyForm, SpellCounter, counter_bytes, counter_check, dependency_bytes, digest_checks, need_checks};
 ghost use Rattle.image_reading.specs.Gathered.{AreNeeds, CanReadOccurrence, HaveMetDependencies, HaveMetGroups, IsOccurrence};
 ghost use Rattle.image_reading.specs.Span.{CanRead, bytes_of};
 
@@ -27,7 +28,7 @@ pub(crate) fn digest_value(digest: Occurrence) -> Result<Span, ImageError>
     ensures readable { (chip : Chip) → CanReadOccurrence chip digest → IfOk result (CanRead chip) }
     // These two faults don't depend on the expected digest.
     ensures err { (chip : Chip) (values : List (List ℕ)) → IsOccurrence chip values [] digest
-        → (hashed : List ℕ) → IfErr result (IsDigestFault values hashed) }
+        → (hashed : List ℕ) → IfErr result (FailsWith (digest_checks values hashed)) }
 {
     match digest {
         Occurrence::Absent => Err(ImageError::NoDigest),
@@ -60,7 +61,7 @@ pub(crate) fn counter<M: Medium>(medium: &mut M, counter: Occurrence) -> Result<
     ensures ok { (values : List (List ℕ)) → IsOccurrence (M.chip medium.old) values [] counter
         → IfOk result (SpellCounter values) }
     ensures err { (values : List (List ℕ)) → IsOccurrence (M.chip medium.old) values [] counter
-        → IfErr result (IsCounterFault values) }
+        → IfErr result (FailsWith (counter_check values)) }
 {
     match counter {
         Occurrence::Absent => Ok(0),
@@ -144,7 +145,7 @@ pub(crate) fn checked_needs(
     ensures ok { (values others : List (List ℕ)) → HaveMetDependencies values [] dependencies
         → HaveMetGroups others [] groups → IfOk result (AreNeeds values others) }
     ensures err { (values others : List (List ℕ)) → HaveMetDependencies values [] dependencies
-        → HaveMetGroups others [] groups → IfErr result (IsDependencyFault values others) }
+        → HaveMetGroups others [] groups → IfErr result (FailsWith (need_checks values others)) }
 {
     if dependencies.bad || groups.bad {
         return Err(ImageError::BadDependency);

@@ -8,23 +8,10 @@ use Rattle.manifest.specs.declared.manifest.Manifest.{Manifest}
 use Rattle.manifest.specs.Json.{IsJson}
 use Rattle.manifest.specs.Manifest.{HasKeys, IsOfClass, IsOfVendor, Means, NamesEachOnce, NamesImages, Spells}
 
--- The keys of a value are those of a manifest, and the values at them spell this manifest.
-abbrev pub MeetsTables : Data → Manifest → Type 0
-MeetsTables value manifest = HasKeys value × Spells value manifest
-
--- A value spells this manifest, and is of the device's vendor.
-abbrev pub MeetsVendor : Identity → Data → Manifest → Type 0
-MeetsVendor identity value manifest = MeetsTables value manifest × IsOfVendor identity value
-
 -- A value spells this manifest, and is of the device's vendor and class.
 abbrev pub MeetsClass : Identity → Data → Manifest → Type 0
-MeetsClass identity value manifest =
-    MeetsVendor identity value manifest × IsOfClass identity value
-
--- A value spells this manifest, is of the device's vendor and class, and names only its images.
-abbrev pub MeetsImages : Identity → Data → Manifest → Type 0
-MeetsImages identity value manifest =
-    MeetsClass identity value manifest × NamesImages identity manifest
+MeetsClass identity value manifest = ((HasKeys value × Spells value manifest)
+    × IsOfVendor identity value) × IsOfClass identity value
 
 -- The lowest refusal that applies to a value: its own demand isn't met, and all before it are. That
 -- bytes are no JSON, or that memory runs out, is no property of a value.
@@ -32,16 +19,16 @@ abbrev pub IsLowestFault : Identity → Data → ManifestError → Type 0
 IsLowestFault identity value BadKey = HasKeys value → ⊥
 IsLowestFault identity value BadValue =
     HasKeys value × ((manifest : Manifest) → Spells value manifest → ⊥)
-IsLowestFault identity value WrongVendor =
-    (manifest : Manifest) × MeetsTables value manifest × (IsOfVendor identity value → ⊥)
-IsLowestFault identity value WrongClass =
-    (manifest : Manifest) × MeetsVendor identity value manifest
+IsLowestFault identity value WrongVendor = (manifest : Manifest)
+    × (HasKeys value × Spells value manifest) × (IsOfVendor identity value → ⊥)
+IsLowestFault identity value WrongClass = (manifest : Manifest)
+    × ((HasKeys value × Spells value manifest) × IsOfVendor identity value)
     × (IsOfClass identity value → ⊥)
-IsLowestFault identity value NoComponent =
-    (manifest : Manifest) × MeetsClass identity value manifest
-    × (NamesImages identity manifest → ⊥)
-IsLowestFault identity value RepeatedComponent =
-    (manifest : Manifest) × MeetsImages identity value manifest × (NamesEachOnce manifest → ⊥)
+IsLowestFault identity value NoComponent = (manifest : Manifest)
+    × MeetsClass identity value manifest × (NamesImages identity manifest → ⊥)
+IsLowestFault identity value RepeatedComponent = (manifest : Manifest)
+    × (MeetsClass identity value manifest × NamesImages identity manifest)
+    × (NamesEachOnce manifest → ⊥)
 IsLowestFault identity value other = ⊥
 
 -- Bytes are the JSON text of a value that means this manifest.

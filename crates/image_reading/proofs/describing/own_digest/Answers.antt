@@ -1,7 +1,7 @@
 use Rattle.std.proofs.lemmas.Bool.{iff_false}
 use Rattle.common.proofs.Results.{IfErr-passed}
 use Rattle.image_reading.specs.Span.{bytes_of}
-use Rattle.image_reading.proofs.FieldLaws.{IsDigestFault-other, SpellDigest-one}
+use Rattle.image_reading.proofs.FieldLaws.{SpellDigest-one, other_digest}
 use Rattle.image_reading.proofs.describing.own_digest.Goals as goal
 
 pub returns-in_err-value-clause-fault : goal.returns-in_err-value-clause-fault
@@ -14,7 +14,7 @@ pub returns-then-not-is_digest-clause-fault : goal.returns-then-not-is_digest-cl
 returns-then-not-is_digest-clause-fault g c =
     let chip = g.M.Medium.chip c.args.medium.now in
     let is = rw c.digest-digest.ensures.same at c.is_digest.ensures.is in
-    λ values gathered. IsDigestFault-other values _ _ (bytes_of chip c.args.hashed)
+    λ values gathered. other_digest values _ _ (bytes_of chip c.args.hashed)
     (c.in_ok-value.ensures.ok chip values gathered) c.digest-digest.ensures.digest
     (iff_false is c.if-not-is_digest.true)
 

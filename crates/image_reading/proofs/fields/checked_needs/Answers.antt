@@ -1,6 +1,9 @@
 use Rattle.std.proofs.Common.{rules}
-use Rattle.image_reading.proofs.Needs.{SpellDependencies-kept, SpellGroups-kept, too_many_dependencies, too_many_groups}
+use Rattle.image_reading.proofs.Needs.{SpellDependencies-kept, SpellGroups-kept, bad_needs, too_many_dependencies, too_many_groups}
 use Rattle.image_reading.proofs.fields.checked_needs.Goals as goal
+
+pub returns-then-dependencies-clause-err : goal.returns-then-dependencies-clause-err
+returns-then-dependencies-clause-err c = λ values others met met_groups. bad_needs values others (search rules)
 
 pub returns-then-dependencies-2-clause-err : goal.returns-then-dependencies-2-clause-err
 returns-then-dependencies-2-clause-err c = λ values others met met_groups.

@@ -1,7 +1,8 @@
 use Rattle.std.proofs.Common.{◌≡◌, ℕ, ◌+◌, Some, None, take, ap, subst, ◌∙◌, arith}
 use Rattle.common.proofs.Results.{IfErr-passed}
 use Rattle.image_reading.specs.Area.{protected_magic, unprotected_magic}
-use Rattle.image_reading.specs.Fault.{IsArea, IsAreaFault, entries_at, protected_place, unprotected_place}
+use Rattle.image_reading.specs.Fault.{IsArea, IsAreaFault, entries_at}
+use Rattle.image_reading.proofs.Areas.{protected_place, unprotected_place}
 use Rattle.image_reading.specs.Front.{IsProtected}
 use Rattle.image_reading.specs.Span.{bytes_of}
 use Rattle.image_reading.proofs.Fronts.{found_passes, front_in_header, front_in_protected, front_in_unprotected, is_front}
