@@ -12,16 +12,20 @@ use Rattle.certificate.specs.declared.table.Table.{Table}
 use Rattle.certificate.specs.declared.report.Report.{Report}
 use Rattle.certificate.specs.Rightness.{taken_in}
 use Rattle.upload.specs.Device.{DeviceState, Machine, Trial}
-use Rattle.machine.specs.States.{IsConfirmed, IsRaised, IsBegun, left_after, running_after, taken_for_good}
-use Rattle.machine.specs.States.{taken_on_trial, wanted_bytes}
-use Rattle.machine.specs.Boots.{Boots, IsDecision, IsOver, IsPlain, IsReadAs, IsReported, IsTaken}
+use Rattle.machine.specs.States.{IsConfirmed, IsRaised, IsBegun, left_after, running_after, with_taken}
+use Rattle.machine.specs.States.{with_taken, wanted_bytes}
+use Rattle.machine.specs.Boots.{Boots, IsDecision, IsOver, IsReadAs, IsReported, IsTaken}
 use Rattle.machine.specs.Intake.{Setup}
 use Rattle.machine.specs.Steps.{DeviceEvent, IsRun, IsStep}
 use Rattle.machine.specs.Headline.{AreCut, DoesSomething, HasFinished, IsBootedAt, IsTriedBy, StartsGreatest}
 use Rattle.machine.specs.Headline.{StaysForGood, TakesNone, request_by, running_by}
 use Rattle.machine.specs.declared.error.Fault.TheVariants as no
 use Rattle.machine.specs.declared.reply.Reply.{Reply}
-use Rattle.machine.specs.declared.reply.Reply.TheVariants.{Booted, Reverted, TrialAgain, Refused}
+use Rattle.machine.specs.declared.reply.Reply.TheVariants.{Done, Booted, Reverted, TrialAgain, Refused}
+
+-- A report takes nothing, and the state is unchanged.
+abbrev pub IsPlain : DeviceState → Report → Bool → DeviceState → Type 0
+IsPlain s report permanent next = ((i : ℕ) → taken_in report i ≡ false) × (permanent ≡ false) × (next ≡ s)
 
 the_one : {X : Type 0} (x y : X) → Some x ≡ Some y → x ≡ y
 the_one x y e = cc
@@ -140,7 +144,7 @@ module _ (boots : ℕ) (found read : DeviceState) (table : Table) (report : Repo
         → IsTaken boots read mask permanent next → StartsGreatest boots found table report permanent next
     starts_set true next decision (floors, raised, same) =
         subst (λ (s : DeviceState). StartsGreatest boots found table report true s) (sym same)
-        (starts true (taken_for_good read mask floors) runs_of asks_of refl refl
+        (starts true (with_taken read mask floors None) runs_of asks_of refl refl
         (stays_of true decision, only_of true decision)
         (λ e. (refl, raised))
         (λ e. absurd (true≢false e))
@@ -148,7 +152,7 @@ module _ (boots : ℕ) (found read : DeviceState) (table : Table) (report : Repo
         (λ e some. absurd (true≢false e)))
     starts_set false next decision (trial, begun, same) =
         subst (λ (s : DeviceState). StartsGreatest boots found table report false s) (sym same)
-        (starts false (taken_on_trial read mask trial) runs_of asks_of refl refl
+        (starts false (with_taken read mask read.floors (Some trial)) runs_of asks_of refl refl
         (stays_of false decision, only_of false decision)
         (λ e. absurd (true≢false (sym e)))
         (λ e. refl)
@@ -168,6 +172,9 @@ boot_starts boots s table report permanent next (read, reads, steady, (told, eit
 
 -- ---- in a run
 
+not_done : (table : Table) (report : Report) (permanent : Bool) → Booted table report permanent ≡ Done → ⊥
+not_done table report permanent e = cc
+
 -- A step that replies with a report is a boot.
 booted_step : (setup : Setup) (m next : Machine) (happened : DeviceEvent) (table : Table) (report : Report)
     (permanent : Bool) → IsStep setup m happened (Booted table report permanent) next
@@ -179,6 +186,7 @@ booted_step setup m next event.Boot table report permanent (booted, is) = (
   ap (λ (k : Machine). k.is_booted) is,
   λ i. ap (λ (k : Machine). k.session i) is,
 )
+booted_step setup m next event.Reset table report permanent step = absurd (not_done table report permanent step.0)
 booted_step setup m next other table report permanent step = absurd step
 
 pub booted_at : (setup : Setup) (m : Machine) (events : List DeviceEvent) (replies : List Reply) (last : Machine)

@@ -14,7 +14,7 @@ use Rattle.upload.proofs.Views.{view_kept}
 use Rattle.upload.specs.Device.{DeviceState}
 use Rattle.upload.specs.Steady.{IsFront, IsRequested, IsImageAt, IsSteadyAt, logged}
 use Rattle.certificate.specs.declared.table.Table.{Table}
-use Rattle.machine.specs.States.{wanted_bytes, settled, taken_for_good, taken_on_trial, bytes_or_none, new_trial}
+use Rattle.machine.specs.States.{wanted_bytes, settled, with_taken, bytes_or_none, new_trial}
 use Rattle.machine.specs.Holding.{IsTrialAt, IsSwapped, AreSettled}
 use Rattle.machine.specs.Passing.{IsTakenAt}
 use Rattle.machine.proofs.Frames.{rests_with, same_state}
@@ -51,12 +51,12 @@ none_asked trailer slot erased = subst (λ t. IsRequested t slot None) (sym eras
 pub trial_begins : (map : SectorMap) (old new : Chip) (s : DeviceState) (table : Table) (mask left : ℕ)
     → Keeps map (only Log) old new → (view map new).log ≡ Some (logged log.Trial mask false left s)
     → IsSwapped (view map old) s table log.Settle mask false → AreSettled (view map old) mask false
-    → IsTrialAt (view map new) (taken_on_trial s mask (new_trial s mask left)) (new_trial s mask left)
+    → IsTrialAt (view map new) (with_taken s mask s.floors (Some (new_trial s mask left))) (new_trial s mask left)
 trial_begins map old new s table mask left keeps recorded was settled =
     let within : (i : ℕ) → is_member mask i ≡ true
     → i < (view map old).images = λ i member. subst (λ n. i < n) (sym was.images)
     (was.decision.chosen.within i member) in
-    let after = taken_on_trial s mask (new_trial s mask left) in
+    let after = with_taken s mask s.floors (Some (new_trial s mask left)) in
     record {
       opened = record {
         trial = refl;
@@ -99,14 +99,14 @@ member_or false = inr refl
 
 pub taken_stands : (map : SectorMap) (old new : Chip) (s : DeviceState) (table : Table) (mask : ℕ)
     (floors : List ℕ) → Keeps map (only Log) old new
-    → (view map new).log ≡ Some (logged log.Steady 0 false 0 (taken_for_good s mask floors))
+    → (view map new).log ≡ Some (logged log.Steady 0 false 0 (with_taken s mask floors None))
     → IsSwapped (view map old) s table log.Settle mask true → AreSettled (view map old) mask true
-    → IsSteadyAt (view map new) (taken_for_good s mask floors)
+    → IsSteadyAt (view map new) (with_taken s mask floors None)
 taken_stands map old new s table mask floors keeps recorded was settled =
     let within : (i : ℕ) → is_member mask i ≡ true
     → i < (view map old).images = λ i member. subst (λ n. i < n) (sym was.images)
     (was.decision.chosen.within i member) in
-    let after = taken_for_good s mask floors in
+    let after = with_taken s mask floors None in
     record {
       trial = refl;
       images = (view_kept map _ _ _ keeps).images ∙ was.images;
@@ -142,7 +142,7 @@ pub trial_ok : (map : SectorMap) (old new : Chip) (state : State) (left : ℕ)
     → (view map new).log ≡ Some (record state { kind = log.Trial; left = left })
     → (s : DeviceState) (table : Table) (mask : ℕ) → IsSwapped (view map old) s table log.Settle mask false
     → AreSettled (view map old) mask false
-    → IsTrialAt (view map new) (taken_on_trial s mask (new_trial s mask left)) (new_trial s mask left)
+    → IsTrialAt (view map new) (with_taken s mask s.floors (Some (new_trial s mask left))) (new_trial s mask left)
 trial_ok map old new state left read keeps recorded s table mask was settled =
     trial_begins map old new s table mask left keeps
     (recorded ∙ ap (λ st. Some st) (trial_record map old state mask left s read was.log)) was settled
@@ -154,7 +154,7 @@ pub trial_either : (map : SectorMap) (old new : Chip) (state : State) (left : �
     → (s : DeviceState) (table : Table) (mask : ℕ) → IsSwapped (view map old) s table log.Settle mask false
     → AreSettled (view map old) mask false
     → IsSwapped (view map new) s table log.Settle mask false
-    ⊎ IsTrialAt (view map new) (taken_on_trial s mask (new_trial s mask left)) (new_trial s mask left)
+    ⊎ IsTrialAt (view map new) (with_taken s mask s.floors (Some (new_trial s mask left))) (new_trial s mask left)
 trial_either map old new state left read keeps either s table mask was settled = ⊎_elim
     (λ (same : (view map new).log ≡ (view map old).log). inl
     (settle_logged map old new s table log.Settle log.Settle mask false keeps (same ∙ was.log) was))
@@ -163,7 +163,7 @@ trial_either map old new state left read keeps either s table mask was settled =
 
 good_record : (map : SectorMap) (w : Chip) (state : State) (mask : ℕ) (floors : List ℕ) (s : DeviceState)
     → (view map w).log ≡ Some state → (view map w).log ≡ Some (logged log.Settle mask true 0 s)
-    → rests_with state floors ≡ logged log.Steady 0 false 0 (taken_for_good s mask floors)
+    → rests_with state floors ≡ logged log.Steady 0 false 0 (with_taken s mask floors None)
 good_record map w state mask floors s read is = ap (λ (st : State). rests_with st floors)
     (same_state map w state (logged log.Settle mask true 0 s) read is)
 
@@ -171,7 +171,7 @@ pub good_ok : (map : SectorMap) (old new : Chip) (state : State) (floors : List 
     → (view map old).log ≡ Some state → Keeps map (only Log) old new
     → (view map new).log ≡ Some (rests_with state floors)
     → (s : DeviceState) (table : Table) (mask : ℕ) → IsSwapped (view map old) s table log.Settle mask true
-    → AreSettled (view map old) mask true → IsSteadyAt (view map new) (taken_for_good s mask floors)
+    → AreSettled (view map old) mask true → IsSteadyAt (view map new) (with_taken s mask floors None)
 good_ok map old new state floors read keeps recorded s table mask was settled =
     taken_stands map old new s table mask floors keeps
     (recorded ∙ ap (λ st. Some st) (good_record map old state mask floors s read was.log)) was settled
@@ -182,7 +182,7 @@ pub good_either : (map : SectorMap) (old new : Chip) (state : State) (floors : L
     ⊎ ((view map new).log ≡ Some (rests_with state floors))
     → (s : DeviceState) (table : Table) (mask : ℕ) → IsSwapped (view map old) s table log.Settle mask true
     → AreSettled (view map old) mask true
-    → IsSwapped (view map new) s table log.Settle mask true ⊎ IsSteadyAt (view map new) (taken_for_good s mask floors)
+    → IsSwapped (view map new) s table log.Settle mask true ⊎ IsSteadyAt (view map new) (with_taken s mask floors None)
 good_either map old new state floors read keeps either s table mask was settled = ⊎_elim
     (λ (same : (view map new).log ≡ (view map old).log). inl
     (settle_logged map old new s table log.Settle log.Settle mask true keeps (same ∙ was.log) was))

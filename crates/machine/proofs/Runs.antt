@@ -8,7 +8,7 @@ use Rattle.machine.specs.Steps.{Completes, DeviceEvent, IsRun, IsStep, IsUncutRu
 use Rattle.machine.specs.Holding.{DeviceView}
 use Rattle.machine.specs.Passing.{StepsTo, RunsTo}
 use Rattle.machine.specs.declared.reply.Reply.{Reply}
-use Rattle.machine.specs.declared.reply.Reply.TheVariants.{Cut}
+use Rattle.machine.specs.declared.reply.Reply.TheVariants.{Cut, Done}
 
 -- ---- runs are joined, and split at any event
 
@@ -109,11 +109,14 @@ uncut_step : (setup : Setup) (m next : Machine) (event : DeviceEvent) (reply : R
 uncut_step setup m next event Cut none step = absurd (omega (arith, none))
 uncut_step setup m next event other none step = step
 
+not_done : Cut ≡ Done → ⊥
+not_done e = cc
+
 -- A complete step is a step whose reply isn't `Cut`.
 pub complete_step : (setup : Setup) (m next : Machine) (event : DeviceEvent) (reply : Reply)
     → Completes setup m event reply next → IsStep setup m event reply next × (cut_of reply ≡ 0)
 complete_step setup m next event.Boot Cut step = absurd step.0
-complete_step setup m next event.Reset Cut step = absurd step
+complete_step setup m next event.Reset Cut step = absurd (not_done step.0)
 complete_step setup m next other Cut step = absurd step
 complete_step setup m next event other step = (step, refl)
 

@@ -1,5 +1,5 @@
 -- Running images stay intact and valid after boots and confirmations.
-use Rattle.std.proofs.Common.{◌≡◌, ◌⊎◌, ℕ, ◌<◌, ◌≤◌, Bool, true, false, List, [], ◌∷◌, length, Option, Some, None}
+use Rattle.std.proofs.Common.{◌≡◌, ◌⊎◌, ℕ, ◌<◌, ◌≤◌, ◌==◌, Bool, true, false, List, [], ◌∷◌, length, Option, Some, None}
 use Rattle.std.proofs.Common.{refl, sym, ◌∙◌, ap, subst, zero, suc, arith, slice_get, ⊎_elim, inl, inr, if◌then◌else◌}
 use Rattle.std.specs.Prelude.{IsSomeAnd, unwrap_or}
 use Rattle.std.proofs.lemmas.Option.{none-some}
@@ -13,14 +13,14 @@ use Rattle.certificate.specs.declared.table.Request.TheVariants as request
 use Rattle.certificate.specs.Rightness.{taken_in}
 use Rattle.certificate.specs.Combination.{entry_in, intact_entry, running_set}
 use Rattle.upload.specs.Device.{DeviceState, Trial, Wanted}
-use Rattle.machine.specs.States.{IsBegun, IsConfirmed, confirmed_also, left_after, reverted, running_after}
-use Rattle.machine.specs.States.{settled, taken_on_trial, tried_again, wanted_bytes, with_confirmed}
-use Rattle.machine.specs.Boots.{Boots, IsAllSound, IsBootCut, IsDecision, IsEntryOf, IsOver, IsPlain, IsReadAs}
+use Rattle.machine.specs.States.{IsBegun, IsConfirmed, left_after, reverted, running_after}
+use Rattle.machine.specs.States.{settled, with_taken, tried_again, wanted_bytes, with_confirmed}
+use Rattle.machine.specs.Boots.{Boots, IsAllSound, IsBootCut, IsDecision, IsEntryOf, IsOver, IsReadAs}
 use Rattle.machine.specs.Boots.{IsReadSound, IsRequestOf, IsSound, IsTaken}
 use Rattle.machine.specs.declared.error.Fault.TheVariants as no
 use Rattle.machine.specs.declared.reply.Reply.{Reply}
 use Rattle.machine.specs.declared.reply.Reply.TheVariants.{Booted, Reverted, TrialAgain, Refused}
-use Rattle.machine.proofs.Answered.{read_same}
+use Rattle.machine.proofs.Answered.{IsPlain, read_same}
 use Rattle.machine.proofs.Beginning.{some_of}
 use Rattle.machine.proofs.Sound.{sound_to, the_one}
 
@@ -143,8 +143,8 @@ module _ (read : DeviceState) (table : Table) (mask : ℕ) (permanent : Bool)
     left_asks false = inl refl
 
   old_sound : (boots : ℕ) (trial : Trial) → IsBegun read mask boots trial → IsSound read
-      → IsSound (reverted (taken_on_trial read mask trial) trial)
-  old_sound boots trial begun sound = sound_alike read (reverted (taken_on_trial read mask trial) trial) refl
+      → IsSound (reverted (with_taken read mask read.floors (Some trial)) trial)
+  old_sound boots trial begun sound = sound_alike read (reverted (with_taken read mask read.floors (Some trial)) trial) refl
       (λ i lt. ap (λ n. if is_member n i then Some (trial.old i) else running_after read mask i) begun.set
       ∙ old_running boots trial begun i lt (is_member mask i) refl)
       (λ i. old_asks i (is_member trial.set i)) sound
@@ -211,6 +211,6 @@ pub confirmed_sound : (s : DeviceState) (trial : Trial) (i : ℕ) → s.trial �
 confirmed_sound s trial i is all = record {
   now = sound_alike s (with_confirmed s trial i) refl (λ j lt. refl) (λ j. inl refl) all.now;
   before = λ other tried.
-      subst (λ u. IsSound (reverted (with_confirmed s trial i) u)) (one_trial (confirmed_also trial i) other tried)
+      subst (λ u. IsSound (reverted (with_confirmed s trial i) u)) (one_trial (record trial { confirmed = λ j. if j == i then true else trial.confirmed j }) other tried)
       (all.before trial is);
 }

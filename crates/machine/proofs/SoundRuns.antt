@@ -1,5 +1,6 @@
 -- Running images stay intact and valid after uploads, and so in complete runs.
 use Rattle.std.proofs.Common.{◌≡◌, ◌⊎◌, ℕ, ◌==◌, Bool, true, false, List, [], ◌∷◌, Option, Some, None, Result, Ok, Err}
+use Rattle.std.specs.Prelude.{is_some}
 use Rattle.std.proofs.Common.{refl, sym, ◌∙◌, ap, subst, ⊎_elim, inl, inr, if◌then◌else◌}
 use Rattle.common.specs.declared.event.Event.TheVariants as event
 use Rattle.flash_model.specs.declared.error.FlashError.TheVariants as flash
@@ -10,14 +11,14 @@ use Rattle.certificate.specs.declared.table.Request.TheVariants as request
 use Rattle.upload.specs.declared.error.UploadError.{UploadError}
 use Rattle.upload.specs.declared.error.UploadError.TheVariants as upload
 use Rattle.upload.specs.Device.{DeviceState, Machine, Session, Wanted, closed}
-use Rattle.upload.specs.Accepted.{Accepts, IsAcceptCut, accepted, latest, request_after}
+use Rattle.upload.specs.Accepted.{Accepts, IsAcceptCut, accepted, latest}
 use Rattle.upload.specs.Piece.{Pieces}
 use Rattle.upload.specs.Finish.{Finishes, FinishRow, IsGoodUpload, asked}
 use Rattle.upload.specs.Withdrawal.{Withdraws, with_request}
 use Rattle.machine.specs.States.{asleep, entry_of, with_confirmed}
 use Rattle.machine.specs.Boots.{Confirms, IsAllSound, IsRequestOf}
 use Rattle.machine.specs.Intake.{IsUploadsCut, Row, Setup, TakesManifest, TakesText, Uploads}
-use Rattle.machine.specs.Steps.{Completes, DeviceEvent, IsCutTo, IsRun, IsStep, Resets}
+use Rattle.machine.specs.Steps.{Completes, DeviceEvent, IsCutTo, IsRun, IsStep}
 use Rattle.machine.specs.declared.error.Fault.TheVariants as no
 use Rattle.machine.specs.declared.reply.Reply.{Reply}
 use Rattle.machine.specs.declared.reply.Reply.TheVariants.{Done, Booted, Reverted, TrialAgain, Refused, Cut}
@@ -122,7 +123,7 @@ finish_alike m next i result row = ⊎_elim
     row
 
 named_asks : (named : Option Component) (wanted : Option Wanted)
-    → (request_after named wanted ≡ wanted) ⊎ ((fit : Request) × IsRequestOf (request_after named wanted) fit)
+    → ((if is_some named then None else wanted) ≡ wanted) ⊎ ((fit : Request) × IsRequestOf (if is_some named then None else wanted) fit)
 named_asks None wanted = inl refl
 named_asks (Some c) wanted = inr (request.None, refl)
 
@@ -180,7 +181,7 @@ uploads_sound : (row : Row) (m next : Machine) (reply : Reply)
 uploads_sound row m next Done alike (is_ready, at) all =
     alike_sound m.kept next.kept (alike (Ok tt) at) is_ready.rest all
 uploads_sound row m next (Refused no.NotBooted) alike (down, is) all = same_sound m next is all
-uploads_sound row m next (Refused no.OnTrial) alike (trying, is) all = same_sound m next is all
+uploads_sound row m next (Refused no.OnTrial) alike (up, trying, is) all = same_sound m next is all
 uploads_sound row m next (Refused (no.Upload error)) alike (is_ready, none, at) all =
     alike_sound m.kept next.kept (alike (Err error) at) is_ready.rest all
 uploads_sound row m next other alike never all = absurd never
@@ -194,7 +195,7 @@ text_sound setup m next bytes (Refused (no.Upload error)) at all = uploads_sound
 text_sound setup m next bytes (Refused (no.Manifest fault)) (is_ready, refused, is) all = same_sound m next is all
 text_sound setup m next bytes (Refused no.NoMemory) (is_ready, is) all = same_sound m next is all
 text_sound setup m next bytes (Refused no.NotBooted) (down, is) all = same_sound m next is all
-text_sound setup m next bytes (Refused no.OnTrial) (trying, is) all = same_sound m next is all
+text_sound setup m next bytes (Refused no.OnTrial) (up, trying, is) all = same_sound m next is all
 text_sound setup m next bytes other never all = absurd never
 
 confirms_sound : (m next : Machine) (i : ℕ) (reply : Reply) → Confirms m i reply next → IsAllSound m.kept
@@ -204,10 +205,6 @@ confirms_sound m next i Done (up, (trial, on, is)) all = subst (λ (k : Machine)
 confirms_sound m next i (Refused no.NotBooted) (down, is) all = same_sound m next is all
 confirms_sound m next i (Refused no.NotOnTrial) (up, other, is) all = same_sound m next is all
 confirms_sound m next i other never all = absurd never
-
-resets_sound : (m next : Machine) (reply : Reply) → Resets m reply next → IsAllSound m.kept → IsAllSound next.kept
-resets_sound m next Done is all = subst (λ (k : Machine). IsAllSound k.kept) (sym is) all
-resets_sound m next other never all = absurd never
 
 completes_sound : (setup : Setup) (m next : Machine) (happened : DeviceEvent) (reply : Reply)
     → Completes setup m happened reply next → IsAllSound m.kept → IsAllSound next.kept
@@ -221,7 +218,8 @@ completes_sound setup m next (event.Withdraw i) reply at all = uploads_sound (Wi
 completes_sound setup m next (event.Confirm i) reply at all = confirms_sound m next i reply at all
 completes_sound setup m next event.Boot reply (booted, is) all =
     booted_sound setup.boots m.kept reply next.kept booted all
-completes_sound setup m next event.Reset reply at all = resets_sound m next reply at all
+completes_sound setup m next event.Reset reply (done, is) all =
+    subst (λ (k : Machine). IsAllSound k.kept) (sym is) all
 
 -- ---- steps with a power cut
 

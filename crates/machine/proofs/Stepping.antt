@@ -15,7 +15,7 @@ use Rattle.set_log.specs.declared.state.State.{State}
 use Rattle.set_log.specs.declared.state.RecordKind.TheVariants as log
 use Rattle.certificate.specs.Combination.{IsValid, running_set}
 use Rattle.upload.specs.View.{view}
-use Rattle.upload.specs.Device.{DeviceState, Machine, Session, no_session}
+use Rattle.upload.specs.Device.{DeviceState, Machine, Session}
 use Rattle.upload.specs.Sessions.{AllClosed, HasSessions, upload_at}
 use Rattle.upload.specs.declared.sessions.Upload.{Upload}
 use Rattle.upload.proofs.Frames.{session_kept, sessions_closed}
@@ -88,7 +88,7 @@ holds_asleep map mid new told s laid is none stands = record {
 -- ---- boots and resets
 
 boot_step : (setup : Setup) (m next : Machine) (reply : Reply) → Boots setup.boots m.kept reply next.kept
-    → next ≡ record { kept = next.kept; session = no_session; is_booted = is_answer reply }
+    → next ≡ record { kept = next.kept; session = λ i. None; is_booted = is_answer reply }
     → IsStep setup m event.Boot reply next
 boot_step setup m next Done booted is = absurd booted
 boot_step setup m next (Booted table report permanent) booted is = (booted, is)
@@ -104,7 +104,7 @@ pub steps_boot : (setup : Setup) (old new : Chip) (told tnew : List (Option Uplo
     (record { flash = new; sessions = tnew; up = answer }) event.Boot reply
 steps_boot setup old new told tnew up answer reply is none ends m holds =
     let after = ends m.kept holds.stands in
-    let next : Machine = record { kept = after.0; session = no_session; is_booted = is_answer reply } in (
+    let next : Machine = record { kept = after.0; session = λ i. None; is_booted = is_answer reply } in (
       next,
       boot_step setup m next reply after.1 refl,
       record {

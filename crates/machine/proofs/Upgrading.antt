@@ -1,5 +1,5 @@
 -- A complete upgrade.
-use Rattle.std.proofs.Common.{◌≡◌, ◌⊎◌, ℕ, ◌+◌, Bool, true, false, List, None, refl, sym, subst, ⊎_elim, inl, inr}
+use Rattle.std.proofs.Common.{◌≡◌, ◌⊎◌, ℕ, ◌+◌, Bool, true, false, List, Some, None, refl, sym, subst, ⊎_elim, inl, inr}
 use Rattle.flash_model.specs.Chip.{Chip}
 use Rattle.sector_map.specs.declared.layout.SectorMap.{SectorMap}
 use Rattle.sector_map.specs.Part.{is_member}
@@ -9,7 +9,7 @@ use Rattle.upload.specs.Steady.{IsSteadyAt}
 use Rattle.certificate.specs.declared.table.Table.{Table}
 use Rattle.certificate.specs.declared.report.Report.{Report}
 use Rattle.certificate.specs.Rightness.{taken_in}
-use Rattle.machine.specs.States.{IsRaised, running_after, taken_for_good, taken_on_trial, new_trial}
+use Rattle.machine.specs.States.{IsRaised, running_after, with_taken, new_trial}
 use Rattle.machine.specs.Boots.{AsksForGood, IsChosen, IsDecision, IsReported}
 use Rattle.machine.specs.Holding.{IsSwapped, Stands, Rests, Tries, Swaps, Settles}
 use Rattle.machine.specs.Passing.{IsSwappingSome, IsUpgrading, IsTakenAt, IsUpgraded, EndsBoot, CutsBoot, reply_of}
@@ -59,7 +59,7 @@ taken_boots : (map : SectorMap) (w : Chip) (s : DeviceState) (table given : Tabl
     → EndsBoot map (left + 1) w s (Booted given report permanent)
 taken_boots map w s table given report mask left true floors trial decision reported raised at =
     let same = one_table s table given decision.chosen.rows reported.0.rows in (
-      taken_for_good s mask floors,
+      with_taken s mask floors None,
       (
         s,
         inl (trial, refl),
@@ -75,7 +75,7 @@ taken_boots map w s table given report mask left true floors trial decision repo
     )
 taken_boots map w s table given report mask left false floors trial decision reported raised at =
     let same = one_table s table given decision.chosen.rows reported.0.rows in (
-      taken_on_trial s mask (new_trial s mask left),
+      with_taken s mask s.floors (Some (new_trial s mask left)),
       (
         s,
         inl (trial, refl),

@@ -24,7 +24,7 @@ use Rattle.upload.specs.declared.sessions.Upload.{Upload}
 use Rattle.upload.specs.declared.error.UploadError.{UploadError}
 use Rattle.upload.specs.declared.error.UploadError.TheVariants as upload
 use Rattle.upload.proofs.OpenOnes.{open_of_sessions, sessions_of_open}
-use Rattle.machine.specs.Intake.{IsReady, IsTrying, Row, Setup, TakesManifest, TakesText, Uploads}
+use Rattle.machine.specs.Intake.{IsReady, Row, Setup, TakesManifest, TakesText, Uploads}
 use Rattle.machine.specs.Steps.{Completes, DeviceEvent, IsStep}
 use Rattle.machine.specs.Holding.{DeviceView, Holds, IsAtRest, IsTrialAt, Rests}
 use Rattle.machine.specs.Passing.{StepsTo, needs_rest, upload_reply}
@@ -62,16 +62,17 @@ pub steps_on_trial : (setup : Setup) (w : DeviceView) (state : State) (happened 
 steps_on_trial setup w state happened is_booted read kind needs m holds =
     let up = holds.is_booted ∙ is_booted in
     let trying = rest_tries setup.map w.flash m.kept state read kind (holds.rest up) in
-    (m, step happened needs (record { up = up; trial = trying }), holds)
+    (m, step happened needs up trying, holds)
   where
-    step : (e : DeviceEvent) → needs_rest e ≡ true → IsTrying m → IsStep setup m e (Refused no.OnTrial) m
-    step (event.Accept bytes) yet trying = (trying, refl)
-    step (event.Piece i bytes) yet trying = (trying, refl)
-    step (event.Finish i) yet trying = (trying, refl)
-    step (event.Withdraw i) yet trying = (trying, refl)
-    step (event.Confirm i) yet trying = absurd (true≢false (sym yet))
-    step event.Boot yet trying = absurd (true≢false (sym yet))
-    step event.Reset yet trying = absurd (true≢false (sym yet))
+    step : (e : DeviceEvent) → needs_rest e ≡ true → m.is_booted ≡ true
+        → (trial : Trial) × (m.kept.trial ≡ Some trial) → IsStep setup m e (Refused no.OnTrial) m
+    step (event.Accept bytes) yet up trying = (up, trying, refl)
+    step (event.Piece i bytes) yet up trying = (up, trying, refl)
+    step (event.Finish i) yet up trying = (up, trying, refl)
+    step (event.Withdraw i) yet up trying = (up, trying, refl)
+    step (event.Confirm i) yet up trying = absurd (true≢false (sym yet))
+    step event.Boot yet up trying = absurd (true≢false (sym yet))
+    step event.Reset yet up trying = absurd (true≢false (sym yet))
 
 -- ---- a call of uploads
 

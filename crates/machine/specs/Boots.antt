@@ -15,8 +15,8 @@ use Rattle.certificate.specs.StandardOrder.{IsInStandardOrder}
 use Rattle.image_reading.specs.declared.desc.Desc.{Desc}
 use Rattle.image_reading.specs.Image.{IsIntact}
 use Rattle.upload.specs.Device.{DeviceState, Machine, Trial, Wanted}
-use Rattle.machine.specs.States.{entry_of, IsConfirmed, IsRaised, IsBegun, running_after, settled, taken_for_good}
-use Rattle.machine.specs.States.{taken_on_trial, reverted, tried_again, with_confirmed}
+use Rattle.machine.specs.States.{entry_of, IsConfirmed, IsRaised, IsBegun, running_after, settled, with_taken}
+use Rattle.machine.specs.States.{reverted, tried_again, with_confirmed}
 use Rattle.machine.specs.declared.error.Fault.TheVariants as no
 use Rattle.machine.specs.declared.reply.Reply.{Reply}
 use Rattle.machine.specs.declared.reply.Reply.TheVariants.{Done, Booted, Reverted, TrialAgain, Refused}
@@ -115,19 +115,14 @@ IsReadAs s read = ((s.trial ≡ None) × (read ≡ s)) ⊎ ((trial : Trial) × (
 abbrev pub IsTaken : ℕ → DeviceState → ℕ → Bool → DeviceState → Type 0
 IsTaken boots s mask true next = (floors : List ℕ)
     × IsRaised s.images (running_after s mask) s.floors floors
-    × (next ≡ taken_for_good s mask floors)
+    × (next ≡ with_taken s mask floors None)
 IsTaken boots s mask false next = (trial : Trial) × IsBegun s mask boots trial
-    × (next ≡ taken_on_trial s mask trial)
+    × (next ≡ with_taken s mask s.floors (Some trial))
 
--- The report takes nothing, and the state is unchanged.
-abbrev pub IsPlain : DeviceState → Report → Bool → DeviceState → Type 0
-IsPlain s report permanent next = ((i : ℕ) → taken_in report i ≡ false)
-    × (permanent ≡ false) × (next ≡ s)
-
--- The state after a boot that replies with a report: the set of the report, if any, is taken.
+-- The state after a boot that replies with a report: unchanged, or the set of the report is taken.
 abbrev pub IsBooted : ℕ → DeviceState → Table → Report → Bool → DeviceState → Type 0
 IsBooted boots s table report permanent next = IsReported s table report
-    × (IsPlain s report permanent next
+    × (((i : ℕ) → taken_in report i ≡ false) × (permanent ≡ false) × (next ≡ s)
     ⊎ ((mask : ℕ) × (is_member mask ≡ taken_in report) × IsDecision s table mask permanent
     × IsTaken boots s mask permanent next))
 

@@ -26,11 +26,6 @@ pub record IsReady (m : Machine) : Type 0 where
   pub up : m.is_booted ≡ true
   pub rest : m.kept.trial ≡ None
 
--- A device is booted, and a set is on trial.
-pub record IsTrying (m : Machine) : Type 0 where
-  pub up : m.is_booted ≡ true
-  pub trial : (trial : Trial) × (m.kept.trial ≡ Some trial)
-
 -- The step of an upload call, by its result.
 abbrev pub Row : Type 1
 Row = Result Unit UploadError → Machine → Type 0
@@ -39,7 +34,8 @@ Row = Result Unit UploadError → Machine → Type 0
 abbrev pub Uploads : Row → Machine → Reply → Machine → Type 0
 Uploads row m Done next = IsReady m × row (Ok tt) next
 Uploads row m (Refused no.NotBooted) next = (m.is_booted ≡ false) × (next ≡ m)
-Uploads row m (Refused no.OnTrial) next = IsTrying m × (next ≡ m)
+Uploads row m (Refused no.OnTrial) next = (m.is_booted ≡ true)
+    × ((trial : Trial) × (m.kept.trial ≡ Some trial)) × (next ≡ m)
 Uploads row m (Refused (no.Upload error)) next =
     IsReady m × (is_flash {T = Unit} (Err error) ≡ false) × row (Err error) next
 Uploads row m other next = ⊥

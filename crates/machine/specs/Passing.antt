@@ -1,5 +1,5 @@
 -- What each phase of a boot, a confirmation, a step and a run leave on the flash.
-use Rattle.std.specs.Prelude.{◌≡◌, ◌⊎◌, ℕ, Bool, true, false, List, Result, Ok, Err}
+use Rattle.std.specs.Prelude.{◌≡◌, ◌⊎◌, ℕ, Bool, true, false, List, Some, None, Result, Ok, Err}
 use Rattle.common.specs.declared.event.Event.TheVariants as event
 use Rattle.flash_model.specs.Chip.{Chip}
 use Rattle.sector_map.specs.declared.layout.SectorMap.{SectorMap}
@@ -13,7 +13,7 @@ use Rattle.upload.specs.Device.{DeviceState, Machine, Trial}
 use Rattle.upload.specs.Steady.{IsSteadyAt}
 use Rattle.upload.specs.declared.error.UploadError.{UploadError}
 use Rattle.upload.specs.declared.error.UploadError.TheVariants as upload
-use Rattle.machine.specs.States.{IsRaised, new_trial, running_after, taken_for_good, taken_on_trial, with_confirmed}
+use Rattle.machine.specs.States.{IsRaised, new_trial, running_after, with_taken, with_confirmed}
 use Rattle.machine.specs.Boots.{Boots, GoesBack, IsBootCut, IsOnTrial, IsReported, is_answer}
 use Rattle.machine.specs.Intake.{Setup}
 use Rattle.machine.specs.Steps.{DeviceEvent, IsRun, IsStep}
@@ -43,9 +43,9 @@ IsUpgrading map chip s table mask permanent =
 
 -- The flash is at rest with a set taken: permanently with these floors, or with `left` boots left.
 abbrev pub IsTakenAt : View → DeviceState → ℕ → Bool → ℕ → List ℕ → Type 0
-IsTakenAt w s mask true left floors = IsSteadyAt w (taken_for_good s mask floors)
+IsTakenAt w s mask true left floors = IsSteadyAt w (with_taken s mask floors None)
 IsTakenAt w s mask false left floors =
-    IsTrialAt w (taken_on_trial s mask (new_trial s mask left)) (new_trial s mask left)
+    IsTrialAt w (with_taken s mask s.floors (Some (new_trial s mask left))) (new_trial s mask left)
 
 -- What is reported of a set that is taken.
 abbrev pub IsReportedOf : DeviceState → ℕ → Table → Report → Type 0

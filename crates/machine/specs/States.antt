@@ -5,7 +5,7 @@ use Rattle.certificate.specs.declared.table.Entry.{Entry}
 use Rattle.sector_map.specs.Part.{is_member}
 use Rattle.image_reading.specs.declared.desc.Desc.{Desc}
 use Rattle.image_reading.specs.Image.{IsIntact}
-use Rattle.upload.specs.Device.{DeviceState, Machine, Trial, Wanted, no_session}
+use Rattle.upload.specs.Device.{DeviceState, Machine, Trial, Wanted}
 
 -- What a decision knows of an image, by its description.
 abbrev pub entry_of : Desc → Entry
@@ -18,7 +18,7 @@ entry_of description = record {
 
 -- A machine with this state, no session open, and not booted.
 abbrev pub asleep : DeviceState → Machine
-asleep s = record { kept = s; session = no_session; is_booted = false }
+asleep s = record { kept = s; session = λ i. None; is_booted = false }
 
 -- The bytes of an intact image that is requested.
 abbrev pub wanted_bytes : Option Wanted → Option (List ℕ)
@@ -50,21 +50,13 @@ running_after s mask i = if is_member mask i then wanted_bytes (s.request i) els
 abbrev pub left_after : DeviceState → ℕ → ℕ → Option Wanted
 left_after s mask i = if is_member mask i then None else s.request i
 
--- The state after a set is taken permanently, with these floors.
-abbrev pub taken_for_good : DeviceState → ℕ → List ℕ → DeviceState
-taken_for_good s mask floors = record s {
+-- The state after a set is taken, with these floors: on this trial, or permanently.
+abbrev pub with_taken : DeviceState → ℕ → List ℕ → Option Trial → DeviceState
+with_taken s mask floors trial = record s {
   running = running_after s mask;
   request = left_after s mask;
   floors = floors;
-  trial = None;
-}
-
--- The state after a set is taken on trial.
-abbrev pub taken_on_trial : DeviceState → ℕ → Trial → DeviceState
-taken_on_trial s mask trial = record s {
-  running = running_after s mask;
-  request = left_after s mask;
-  trial = Some trial;
+  trial = trial;
 }
 
 -- A trial of this set begins in the first of `boots` boots: nothing is confirmed, what ran is kept.
@@ -100,12 +92,8 @@ reverted s trial = record s {
 abbrev pub tried_again : DeviceState → Trial → ℕ → DeviceState
 tried_again s trial left = record s { trial = Some (record trial { left = left }) }
 
--- A trial of which image i is confirmed also.
-abbrev pub confirmed_also : Trial → ℕ → Trial
-confirmed_also trial i = record trial {
-  confirmed = λ j. if j == i then true else trial.confirmed j;
-}
-
 -- The state of which image i on trial is confirmed also.
 abbrev pub with_confirmed : DeviceState → Trial → ℕ → DeviceState
-with_confirmed s trial i = record s { trial = Some (confirmed_also trial i) }
+with_confirmed s trial i = record s {
+  trial = Some (record trial { confirmed = λ j. if j == i then true else trial.confirmed j });
+}

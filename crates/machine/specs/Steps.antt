@@ -1,9 +1,9 @@
 -- The steps of the machine: complete ones, interrupted ones, and runs of them.
-use Rattle.std.specs.Prelude.{◌≡◌, ◌⊎◌, ℕ, ◌+◌, true, List, [], ◌∷◌}
+use Rattle.std.specs.Prelude.{◌≡◌, ◌⊎◌, ℕ, ◌+◌, true, List, [], ◌∷◌, None}
 use Rattle.std.specs.Borrow.{Bor}
 use Rattle.common.specs.declared.event.Event.{Event}
 use Rattle.common.specs.declared.event.Event.TheVariants as event
-use Rattle.upload.specs.Device.{Machine, Trial, no_session}
+use Rattle.upload.specs.Device.{Machine, Trial}
 use Rattle.upload.specs.Piece.{Pieces}
 use Rattle.upload.specs.Finish.{FinishRow}
 use Rattle.upload.specs.Withdrawal.{Withdraws}
@@ -11,16 +11,11 @@ use Rattle.machine.specs.States.{asleep, with_confirmed}
 use Rattle.machine.specs.Boots.{Boots, IsBootCut, is_answer, Confirms, IsOnTrial}
 use Rattle.machine.specs.Intake.{Setup, Uploads, IsUploadsCut, TakesManifest, TakesText}
 use Rattle.machine.specs.declared.reply.Reply.{Reply}
-use Rattle.machine.specs.declared.reply.Reply.TheVariants.{Done, Booted, Reverted, TrialAgain, Refused, Cut}
+use Rattle.machine.specs.declared.reply.Reply.TheVariants.{Done, Cut}
 
 -- An event of a device, whose bytes are borrowed.
 abbrev pub DeviceEvent : Type 0
 DeviceEvent = Event (Bor (List ℕ))
-
--- A reset: the sessions end, and the device isn't booted.
-abbrev pub Resets : Machine → Reply → Machine → Type 0
-Resets m Done next = next ≡ asleep m.kept
-Resets m other next = ⊥
 
 -- A complete step, by its event and reply.
 abbrev pub Completes : Setup → Machine → DeviceEvent → Reply → Machine → Type 0
@@ -30,8 +25,8 @@ Completes setup m (event.Finish i) reply next = Uploads (FinishRow m i) m reply 
 Completes setup m (event.Withdraw i) reply next = Uploads (Withdraws m i) m reply next
 Completes setup m (event.Confirm i) reply next = Confirms m i reply next
 Completes setup m event.Boot reply next = Boots setup.boots m.kept reply next.kept
-    × (next ≡ record { kept = next.kept; session = no_session; is_booted = is_answer reply })
-Completes setup m event.Reset reply next = Resets m reply next
+    × (next ≡ record { kept = next.kept; session = λ i. None; is_booted = is_answer reply })
+Completes setup m event.Reset reply next = (reply ≡ Done) × (next ≡ asleep m.kept)
 
 -- An interrupted step, by its event: the sessions end, and the device isn't booted.
 abbrev pub IsCutTo : Setup → Machine → DeviceEvent → Machine → Type 0
@@ -52,13 +47,13 @@ IsStep setup m event Cut next = IsCutTo setup m event next
 IsStep setup m event reply next = Completes setup m event reply next
 
 -- A run by steps of one kind: a reply and a step for each event.
-abbrev pub IsRunBy : (Machine → DeviceEvent → Reply → Machine → Type 0)
-    → Machine → List DeviceEvent → List Reply → Machine → Type 0
-IsRunBy Steps m [] [] last = last ≡ m
-IsRunBy Steps m [] (reply ∷ replies) last = ⊥
-IsRunBy Steps m (event ∷ events) [] last = ⊥
-IsRunBy Steps m (event ∷ events) (reply ∷ replies) last = (next : Machine)
-    × Steps m event reply next × IsRunBy Steps next events replies last
+abbrev pub IsRunBy : {S : Type 0} → (S → DeviceEvent → Reply → S → Type 0)
+    → S → List DeviceEvent → List Reply → S → Type 0
+IsRunBy Steps first [] [] last = last ≡ first
+IsRunBy Steps first [] (reply ∷ replies) last = ⊥
+IsRunBy Steps first (event ∷ events) [] last = ⊥
+IsRunBy {S} Steps first (event ∷ events) (reply ∷ replies) last = (next : S)
+    × Steps first event reply next × IsRunBy Steps next events replies last
 
 -- A run of the machine: each step is complete or interrupted.
 abbrev pub IsRun : Setup → Machine → List DeviceEvent → List Reply → Machine → Type 0

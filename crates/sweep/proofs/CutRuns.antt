@@ -42,7 +42,7 @@ pub runs_one : (setup : Setup) (old new : DeviceView) (happened : DeviceEvent) (
     → StepsCut setup old new happened reply → RunsCut setup old new (happened ∷ []) (reply ∷ [])
 runs_one setup old new happened reply one = record {
   runs = machine.runs_more setup old old new [] [] happened reply (machine.runs_none setup old) one.steps;
-  cuts = (new, one.steps, one.cut, refl);
+  cuts = (new, (one.steps, one.cut), refl);
 }
 
 -- A run of one more step.
