@@ -58,6 +58,7 @@ memory size sectors on armed first bytes cuts erases writes = record {
   erases = erases;
   writes = writes;
   faults = 0;
+  journaled = 0;
   fixed = armed_with armed (record unarmed { first = first });
 }
 

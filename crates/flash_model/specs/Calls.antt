@@ -38,6 +38,8 @@ pub record Programs (at : ℕ) (bytes : List ℕ) (old new : Chip) {T : Type 0}
   pub on : OnOk result (old.is_on ≡ true)
   -- No sector is erased.
   pub erases : new.erases ≡ old.erases
+  -- It asks a journal for 12 bytes and its own, if the flash has one.
+  pub journal : new.journaled ≤ old.journaled + (12 + length bytes)
   pub ends : Ends result old new
 
 -- A call erases a sector.
@@ -53,6 +55,8 @@ pub record Erases (sector : ℕ) (old new : Chip) {T : Type 0} (result : Result 
   pub erases : OnOk result (new.erases ≡ old.erases + 1)
   -- A failed erase isn't counted.
   pub uncounted : OnErr result (new.erases ≡ old.erases)
+  -- It asks a journal for 12 bytes, if the flash has one.
+  pub journal : new.journaled ≤ old.journaled + 12
   pub ends : Ends result old new
 
 -- A call reads n bytes from an address on, and returns whether they are erased.
@@ -79,6 +83,8 @@ pub record TellsErased (at n : ℕ) (old new : Chip) (result : Result Bool Flash
   pub refuses : old.is_on ≡ false → 0 < n → IsErrOf result Off
   -- No sector is erased.
   pub erases : new.erases ≡ old.erases
+  -- Nothing is written.
+  pub journal : new.journaled ≡ old.journaled
   pub ends : Ends result old new
 
 -- A call returns whether the unit at an address is erased.
@@ -94,6 +100,8 @@ pub record TellsUnitErased (at : ℕ) (old new : Chip) (result : Result Bool Fla
   pub refuses : old.is_on ≡ false → IsErrOf result Off
   -- No sector is erased.
   pub erases : new.erases ≡ old.erases
+  -- Nothing is written.
+  pub journal : new.journaled ≡ old.journaled
   pub ends : Ends result old new
 
 -- A call sets the unit at an address, by programming these bytes.
@@ -109,4 +117,6 @@ pub record SetsUnit (at : ℕ) (bytes : List ℕ) (old new : Chip) {T : Type 0}
   pub on : OnOk result (old.is_on ≡ true)
   -- No sector is erased.
   pub erases : new.erases ≡ old.erases
+  -- It asks a journal for at most 20 bytes.
+  pub journal : new.journaled ≤ old.journaled + 20
   pub ends : Ends result old new

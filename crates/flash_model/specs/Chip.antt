@@ -20,10 +20,22 @@ pub record Fixed : Type 0 where
   pub first : List ℕ
   -- The name of the borrow of its bytes if they are borrowed, else 0.
   pub name : ℕ
+  -- The name of the borrow of its journal if it has one, else 0.
+  pub journal : ℕ
+  -- The bytes that its journal had when the flash was made, none if it has no journal.
+  pub journal_first : List ℕ
 
--- A flash without armed writes, made of no bytes, with bytes of its own.
+-- A flash without armed writes and without a journal, made of no bytes, with bytes of its own.
 abbrev pub unarmed : Fixed
-unarmed = record { armed = []; numbers = []; cuttings = []; first = []; name = 0 }
+unarmed = record {
+  armed = [];
+  numbers = [];
+  cuttings = [];
+  first = [];
+  name = 0;
+  journal = 0;
+  journal_first = [];
+}
 
 -- The numbers of armed writes.
 abbrev pub numbers_of : List Armed → List ℕ
@@ -38,7 +50,8 @@ armed_with armed fixed = record fixed {
 }
 
 -- A flash: sectors of `sector_size` bytes, its bytes, whether it has power, how many writes were
--- interrupted, erases completed, programs and erases taken (up to 2 ^ 64 - 1), and cuts not armed.
+-- interrupted, erases completed, programs and erases taken (up to 2 ^ 64 - 1), and cuts not armed;
+-- and how many bytes of a journal its writes asked for, 0 if it has no journal.
 pub record Chip : Type 0 where
   pub sector_size : ℕ
   pub sectors : ℕ
@@ -48,6 +61,7 @@ pub record Chip : Type 0 where
   pub erases : ℕ
   pub writes : ℕ
   pub faults : ℕ
+  pub journaled : ℕ
   pub fixed : Fixed
 
 -- How many of the numbers from 1 to n are among these.

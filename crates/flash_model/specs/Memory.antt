@@ -23,6 +23,7 @@ chip_of flash = record {
   erases = flash.erases.amount;
   writes = flash.writes;
   faults = 0;
+  journaled = 0;
   fixed = armed_with flash.armed.items (record unarmed { first = flash.origin.first });
 }
 
@@ -37,6 +38,7 @@ new_chip size count all = record {
   erases = 0;
   writes = 0;
   faults = 0;
+  journaled = 0;
   fixed = record unarmed { first = all };
 }
 

@@ -22,6 +22,10 @@ use crate::error::Result;
 /// counts of writes, cuts, completed erases and faults. These counts exist for contracts only: a
 /// driver doesn't have to store them.
 ///
+/// A flash may record its writes in a journal, 12 bytes for each write, and for a program also its
+/// bytes. The count `journaled` is how many bytes the writes asked for. It is 0 for a flash without
+/// a journal, as for the driver of a real part.
+///
 /// # Implementing a driver
 ///
 /// A driver keeps the contract of each call and the laws below. It also keeps these rules:

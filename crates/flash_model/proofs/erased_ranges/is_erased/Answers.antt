@@ -14,5 +14,6 @@ returns-then-not-branch g c =
       answers = search rules;
       refuses = search rules;
       erases = search rules;
+      journal = search rules;
       ends = search rules;
     }

@@ -13,5 +13,6 @@ returns g c =
       flag = program.ok;
       on = program.on;
       erases = program.erases;
+      journal = program.journal;
       ends = program.ends;
     }

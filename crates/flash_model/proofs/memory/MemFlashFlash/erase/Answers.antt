@@ -26,6 +26,7 @@ returns-in-None-clause-chip g c =
       on = c.if-not-self.false;
       erases = c.add.ensures.amount;
       uncounted = tt;
+      journal = omega arith;
       ends = ends_well _ _ _ (record { on = refl; cuts = refl })
           (λ off. absurd (false≢true (sym off ∙ c.if-not-self.false)));
     }
@@ -55,6 +56,7 @@ returns-in-Some-clause-chip g c =
       on = tt;
       erases = tt;
       uncounted = refl;
+      journal = omega arith;
       ends = ends_cut c.if-not-self.false c.add-in-Some.ensures.amount refl;
     }
 

@@ -1,4 +1,4 @@
-use Rattle.std.proofs.Common.{None, Some, refl, sym, ap, ◌∙◌, ◌≤◌, ◌+◌, ◌-◌, ◌^◌, length}
+use Rattle.std.proofs.Common.{None, Some, refl, sym, ap, arith, ◌∙◌, ◌≤◌, ◌+◌, ◌-◌, ◌^◌, length}
 use Rattle.std.proofs.lemmas.List.{take_at}
 use Rattle.std.proofs.lemmas.Bool.{false≢true}
 use Rattle.flash_model.proofs.MemoryLaws.{none_behind, same_memory, torn_for_next, writes_done, writes_cut}
@@ -23,6 +23,7 @@ returns-in-None-clause-chip g c =
           (sym c.args.self.now.bytes.ok.0));
       on = c.if-not-self.false;
       erases = refl;
+      journal = omega arith;
       ends = ends_well _ _ _ (record { on = refl; cuts = refl })
           (λ off. absurd (false≢true (sym off ∙ c.if-not-self.false)));
     }
@@ -50,6 +51,7 @@ returns-in-Some-clause-chip g c =
       ok = tt;
       on = tt;
       erases = refl;
+      journal = omega arith;
       ends = ends_cut c.if-not-self.false c.add.ensures.amount refl;
     }
 
