@@ -3,6 +3,8 @@
 //! Expected bytes, sectors and addresses are constants.
 mod calls;
 mod flash_files;
+mod journal_flash;
 mod lent_flash;
 mod maps;
 mod memory_flash;
+mod read_only_flash;

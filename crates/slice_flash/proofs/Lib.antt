@@ -1,3 +1,6 @@
 pub mod Reaching
-mod Journal
+mod ByTable
+mod Recorded
+mod StepRows
 mod Writes
+mod ReadOnlyLaws

@@ -1,5 +1,5 @@
 -- Lemmas about ranges that a pattern fills, and about erases as writes of such a pattern.
-use Rattle.std.proofs.Common.{◌≡◌, ℕ, zero, suc, ◌+◌, ◌++◌, drop, take, ◌-◌, ◌*◌, ◌%◌, ◌<◌, List, [], ◌∷◌, length, replicate, slice_index, slice_range}
+use Rattle.std.proofs.Common.{◌≡◌, ℕ, zero, suc, ◌+◌, ◌++◌, drop, take, ◌-◌, ◌*◌, ◌%◌, ◌<◌, ◌≤◌, List, [], ◌∷◌, length, replicate, slice_index, slice_range}
 use Rattle.std.proofs.Common.{Ok, Err, refl, sym, ◌∙◌, ap, subst, arith}
 use Rattle.std.specs.Result.{is_ok}
 use borrow.Rule.Slice.PartMut.{Post-is}
@@ -42,10 +42,10 @@ blank_pattern sector sectors n bytes below whole =
     pattern_of_one 255 n _ (long ∙ omega (arith, whole, product_le sector sectors n below))
 
 -- A completed erase, which is counted after its write.
-pub erase_done : (sector m : ℕ) (old new : Chip) → m ≡ new.erases + 1
+pub erase_done : (sector m : ℕ) (old new : Chip) → m ≡ new.erases + 1 → new.journaled ≤ old.journaled + 12
     → Programs (sector * old.sector_size) (replicate old.sector_size 255) old new {T = Unit {0}} (Ok tt)
     → Erases sector old (record new { erases = m }) {T = Unit {0}} (Ok tt)
-erase_done sector m old new counted write =
+erase_done sector m old new counted journal write =
     let outside = write.outside in
     let long = length-replicate {A = ℕ} old.sector_size 255 in
     record {
@@ -65,6 +65,7 @@ erase_done sector m old new counted write =
       on = write.on;
       erases = counted ∙ ap (λ e. e + 1) write.erases;
       uncounted = tt;
+      journal = journal;
       ends = record {
         asleep = λ off. absurd (false≢true (sym off ∙ write.on));
         uncut = record { on = write.ends.uncut.on; cuts = write.ends.uncut.cuts };
@@ -74,16 +75,17 @@ erase_done sector m old new counted write =
     }
 
 -- An erase that was interrupted or refused.
-pub erase_failed : (sector : ℕ) (error : FlashError) (old new : Chip)
+pub erase_failed : (sector : ℕ) (error : FlashError) (old new : Chip) → new.journaled ≤ old.journaled + 12
     → Programs (sector * old.sector_size) (replicate old.sector_size 255) old new {T = Unit {0}} (Err error)
     → Erases sector old new {T = Unit {0}} (Err error)
-erase_failed sector error old new write = record {
+erase_failed sector error old new journal write = record {
   outside = subst (λ m. SameOutside (sector * old.sector_size) m old new)
       (length-replicate {A = ℕ} old.sector_size 255) write.outside;
   ok = tt;
   on = tt;
   erases = tt;
   uncounted = write.erases;
+  journal = journal;
   ends = write.ends;
 }
 

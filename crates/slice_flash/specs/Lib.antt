@@ -1,2 +1,6 @@
 pub mod Rows
 pub mod SliceFlash
+pub mod Steps
+pub mod Asked
+pub mod JournalFlash
+pub mod ReadOnly

@@ -31,6 +31,7 @@ chip_of flash = record {
   erases = flash.erases.amount;
   writes = flash.writes;
   faults = 0;
+  journaled = 0;
   fixed = fixed_by flash.table.now flash.origin.first flash.bytes.ghost_name;
 }
 

@@ -1,16 +1,20 @@
 //! A flash over the caller's bytes, without a heap: the example for authors of drivers.
 //!
 //! - Promises: A flash over the caller's bytes keeps the trait `Flash`, and is interrupted exactly
-//!   as its table says. The caller knows the bytes afterwards.
-//! - Main calls: `SliceFlash`
+//!   as its table says. The caller knows the bytes afterwards. A flash with a journal records each
+//!   write before it is done: the recorded writes, performed one by one on the bytes from before,
+//!   make the bytes afterwards. If the journal is as long as what the writes ask for, none is
+//!   refused.
+//! - Main calls: `SliceFlash`, `JournalFlash`, `ReadOnlyFlash`
 //! - Allocates: no.
 //! - Callers: any program without a heap, and tests.
 //!
-//! The caller passes a `&mut` to the bytes, and a table of the writes that are to be interrupted.
-//! When the flash is dropped, the caller knows about the bytes what the contracts of the flash
-//! said. This holds even if generic calls borrowed the flash in between.
+//! The caller passes a `&mut` to the bytes. For a `SliceFlash` it also passes a table of the writes
+//! that are to be interrupted, for a `JournalFlash` a `&mut` to the bytes of a journal. When the
+//! flash is dropped, the caller knows about the bytes what the contracts of the flash said. This
+//! holds even if generic calls borrowed the flash in between.
 //!
-//! A driver has these parts, with this one as the example:
+//! A driver has these parts, with `SliceFlash` as the example:
 //! - a `Chip` for contracts, `chip_of`, and the laws of `Flash`, as ghost fields of the struct;
 //! - an `Origin`, which takes no bytes: the first contents of the flash. With it the law `written`
 //!   says that the bytes are exactly what the counted writes made of the first ones;
@@ -21,7 +25,12 @@
 #![tactic(auto)]
 
 mod flash;
+mod journal;
+mod read_only;
+mod steps;
 mod table;
 
 pub use flash::SliceFlash;
+pub use journal::JournalFlash;
+pub use read_only::ReadOnlyFlash;
 pub use table::{ArmedCut, Left};

@@ -115,10 +115,12 @@ fn refused_of(
 }
 
 /// Manifests that are refused: the sequence number, the second image, and the fault. A missing
-/// image is reported before an old sequence number.
-const REFUSED: [(u32, u8, Fault); 3] = [
+/// image and one that is named twice are reported before an old sequence number.
+const REFUSED: [(u32, u8, Fault); 5] = [
     (2, 2, Fault::Manifest(ManifestError::NoComponent)),
     (0, 2, Fault::Manifest(ManifestError::NoComponent)),
+    (2, 0, Fault::Manifest(ManifestError::RepeatedComponent)),
+    (0, 0, Fault::Manifest(ManifestError::RepeatedComponent)),
     (0, 1, Fault::Upload(UploadError::OldSequence)),
 ];
 

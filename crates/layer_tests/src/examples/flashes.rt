@@ -7,7 +7,7 @@ use flash_model::{Flash, FlashError, MemFlash, Torn};
 use manifest::{Component, Manifest};
 use sector_map::{SectorMap, Side, is_within};
 use set_log::{RecordKind, State, append, read_state, start};
-use slice_flash::{ArmedCut, Left, SliceFlash};
+use slice_flash::{ArmedCut, JournalFlash, Left, SliceFlash};
 use std::marker::Brand;
 use std::process::Abort;
 use std::sync::ledger::{Blank, Ledger};
@@ -78,6 +78,49 @@ fn cut_in_bytes<L: Ledger>(
 
 fn cut_in_these_bytes(rt: &impl Abort, bytes: &mut [u8; 1024]) -> Result<(), FlashError> {
     cut_in_bytes::<Brand>(rt, Blank::new(2), bytes)
+}
+
+fn record_in_bytes<L: Ledger>(
+    rt: &impl Abort,
+    blank: Blank,
+    bytes: &mut [u8],
+    journal: &mut [u8],
+) -> Result<(), FlashError>
+    requires name { blank.name ≡ L.name }
+    requires parts { blank.parts ≡ L.parts }
+    requires three { L.parts ≡ 3 }
+    requires whole { length bytes.old ≡ 1024 }
+{
+    // example: slice_flash::JournalFlash::new
+    // `bytes` are two sectors of 512 bytes, and `journal` has 32 bytes.
+    let mut flash = JournalFlash::<L>::new(blank, bytes, 512, journal);
+    flash.erase(1)?;
+    assert!(rt; flash.used() == 12);
+    let answer = flash.program(512, &[7; 24]);
+    assert!(rt; answer == Err(FlashError::Cut) && flash.used() == 12);
+    // end of example
+    Ok(())
+}
+
+fn record_in_these_bytes(
+    rt: &impl Abort,
+    bytes: &mut [u8; 1024],
+    journal: &mut [u8; 32],
+) -> Result<(), FlashError> {
+    record_in_bytes::<Brand>(rt, Blank::new(3), bytes, journal)
+}
+
+#[test]
+fn writes_are_recorded(rt: HostRuntime) -> Result<(), Fail> {
+    let mut bytes = [7; 1024];
+    let mut journal = [0xee; 32];
+    record_in_these_bytes(&rt, &mut bytes, &mut journal)?;
+    let mut erased = [7; 1024];
+    erased[512..].fill(0xff);
+    let mut recorded = [0xee; 32];
+    recorded[..12].copy_from_slice(&[1, 0, 0, 0, 0, 2, 0, 0, 0, 2, 0, 0]);
+    assert!(rt; bytes == erased && journal == recorded);
+    Ok(())
 }
 
 #[test]

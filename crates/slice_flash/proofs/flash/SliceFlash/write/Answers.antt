@@ -2,7 +2,7 @@ use Rattle.std.proofs.Common.{◌≡◌, ◌+◌, length, slice_range, None, Som
 use Rattle.flash_model.specs.Torn.{with_pattern}
 use Rattle.flash_model.proofs.Ranges.{length_range}
 use Rattle.flash_model.proofs.TornBytes.{length-with_pattern}
-use Rattle.slice_flash.proofs.Journal.{number_of_cut, written_by_table}
+use Rattle.slice_flash.proofs.ByTable.{number_of_cut, written_by_table}
 use Rattle.slice_flash.proofs.Reaching.{reached_cut, reached_uncut}
 use Rattle.slice_flash.specs.Rows.{torn_bytes}
 use Rattle.slice_flash.proofs.Writes.{bytes_back, length-torn, put_back}

@@ -1,4 +1,4 @@
-use Rattle.std.proofs.Common.{rules, ◌≡◌, ◌*◌, ℕ, List, Err, sym, ◌∙◌, subst}
+use Rattle.std.proofs.Common.{arith, rules, ◌≡◌, ◌*◌, ℕ, List, Err, sym, ◌∙◌, subst}
 use Rattle.std.proofs.lemmas.List.{length-replicate}
 use Rattle.flash_model.specs.Written.{IsWrite}
 use Rattle.flash_model.proofs.WrittenLaws.{erase_taken}
@@ -9,7 +9,7 @@ pub returns-in_err-write-clause-chip : goal.returns-in_err-write-clause-chip
 returns-in_err-write-clause-chip g c =
     let flash = c.args.self.now in
     let same : c.from_residual.result ≡ Err c.in_err-write.field-0.0 = search rules in
-    rw same (erase_failed _ _ _ _ (c.in_err-write.ensures.chip _ (length-replicate {A = ℕ} flash.sector_size 255)
+    rw same (erase_failed _ _ _ _ (omega arith) (c.in_err-write.ensures.chip _ (length-replicate {A = ℕ} flash.sector_size 255)
     (blank_pattern _ _ _ _ c.requires flash.whole)))
 
 pub returns-in_err-write-clause-slice : goal.returns-in_err-write-clause-slice
@@ -22,7 +22,7 @@ returns-in_err-write-clause-slice g c =
 pub returns-clause-chip : goal.returns-clause-chip
 returns-clause-chip g c =
     let flash = c.args.self.now in
-    erase_done _ _ _ _ c.add.ensures.amount (c.in_ok-write.ensures.chip _ (length-replicate {A = ℕ} flash.sector_size 255)
+    erase_done _ _ _ _ c.add.ensures.amount (omega arith) (c.in_ok-write.ensures.chip _ (length-replicate {A = ℕ} flash.sector_size 255)
     (blank_pattern _ _ _ _ c.requires flash.whole))
 
 pub returns-clause-slice : goal.returns-clause-slice

@@ -1,0 +1,107 @@
+//! Tests of a flash that records its writes: the bytes of its journal after the flash is dropped.
+
+ghost use Rattle.std.specs.Prelude.{◌≡◌, length};
+
+use crate::medium::calls::{
+    Answered, CUT, Call, DONE, ERASED_2, ERASED_12, OFF, OLD, PROGRAMMED_12, are_answered, words_of,
+};
+use slice_flash::JournalFlash;
+use std::marker::Brand;
+use std::sync::ledger::{Blank, Ledger};
+
+/// Makes these calls on a flash over the bytes, and returns whether each had its expected result,
+/// and how many bytes of the journal are used.
+fn play<L: Ledger>(
+    blank: Blank,
+    bytes: &mut [u8],
+    journal: &mut [u8],
+    calls: &[Answered],
+) -> (bool, usize)
+    requires name { blank.name ≡ L.name }
+    requires parts { blank.parts ≡ L.parts }
+    requires three { L.parts ≡ 3 }
+    requires whole { length bytes.old ≡ 32 }
+{
+    let mut flash = JournalFlash::<L>::new(blank, bytes, 8, journal);
+    let are_right = are_answered(&mut flash, calls);
+    (are_right, flash.used())
+}
+
+/// A row: the calls on a flash of bytes 7, the length of the journal, how many of its bytes they
+/// use, and the bytes of the flash after them.
+type Played = (&'static [Answered], usize, usize, [u64; 4]);
+
+/// The journal after all writes that fit: two erases and a program.
+const WRITES: [u8; 52] = [
+    1, 0, 0, 0, 16, 0, 0, 0, 8, 0, 0, 0, 1, 0, 0, 0, 8, 0, 0, 0, 8, 0, 0, 0, 0, 0, 0, 0, 8, 0, 0,
+    0, 16, 0, 0, 0, 1, 2, 3, 4, 5, 6, 7, 8, 9, 10, 11, 12, 13, 14, 15, 16,
+];
+
+/// Journals that are long enough to the byte, too short by one byte, and empty.
+const PLAYED: [Played; 6] = [
+    (
+        &[
+            (Call::Erase(2), DONE),
+            (Call::Erase(1), DONE),
+            (Call::Program, DONE),
+        ],
+        52,
+        52,
+        PROGRAMMED_12,
+    ),
+    (
+        &[
+            (Call::Erase(2), DONE),
+            (Call::Erase(1), DONE),
+            (Call::Program, DONE),
+            (Call::Erase(0), CUT),
+            (Call::Erase(0), OFF),
+        ],
+        63,
+        52,
+        PROGRAMMED_12,
+    ),
+    (
+        &[
+            (Call::Erase(2), DONE),
+            (Call::Erase(1), DONE),
+            (Call::Program, CUT),
+            (Call::Erase(1), OFF),
+        ],
+        51,
+        24,
+        ERASED_12,
+    ),
+    (
+        &[
+            (Call::Erase(2), DONE),
+            (Call::Erase(1), CUT),
+            (Call::Restart, DONE),
+            (Call::Erase(1), CUT),
+        ],
+        23,
+        12,
+        ERASED_2,
+    ),
+    (&[(Call::Erase(2), CUT)], 11, 0, OLD),
+    (&[(Call::Erase(2), CUT)], 0, 0, OLD),
+];
+
+/// Whether the calls of a row have their expected results and leave the expected bytes and journal.
+fn are_recorded(row: &Played) -> bool {
+    let (calls, room, wanted, left) = row;
+    let mut bytes = [7; 32];
+    let mut all = [0xee; 64];
+    let mut expected = [0xee; 64];
+    let (used, length) = ((*wanted).min(52), (*room).min(64));
+    expected[..used].copy_from_slice(&WRITES[..used]);
+    let played = play::<Brand>(Blank::new(3), &mut bytes, &mut all[..length], calls);
+    played == (true, *wanted) && words_of(&bytes) == *left && all == expected
+}
+
+#[test]
+fn a_journal_has_the_bytes_of_each_write_that_fits(rt: HostRuntime) {
+    for row in &PLAYED {
+        assert!(rt; are_recorded(row));
+    }
+}

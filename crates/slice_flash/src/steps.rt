@@ -1,0 +1,75 @@
+//! The writes that a journal records: their bytes there, and what each leaves in its range.
+
+ghost use Rattle.std.specs.Prelude.{◌≡◌, ◌+◌, ◌^◌, ◌<◌, ℕ, length, slice_index};
+ghost use Rattle.slice_flash.specs.Steps.{header, range_of, spelled};
+ghost use Rattle.slice_flash.specs.Asked.{length_of, room_of, step_of};
+
+/// The length of an entry in bytes, without the bytes that a program writes.
+const HEADER: usize = 12;
+
+/// A write that is asked for.
+#[derive(Clone, Copy)]
+pub(crate) enum Asked<'a> {
+    /// Program these bytes.
+    Program(&'a [u8]),
+    /// Erase this number of bytes.
+    Erase(u32),
+}
+
+/// Returns the length of the range of a write in bytes.
+pub(crate) fn length_of(asked: Asked<'_>) -> usize
+    ensures { result ≡ length_of asked.entry }
+{
+    match asked {
+        Asked::Program(bytes) => bytes.len(),
+        Asked::Erase(n) => n as usize,
+    }
+}
+
+/// Returns how many bytes of a journal a write takes.
+pub(crate) fn room_of(asked: Asked<'_>) -> usize
+    requires { length_of asked < 2 ^ 32 }
+    ensures { result ≡ room_of asked.entry }
+{
+    match asked {
+        Asked::Program(bytes) => HEADER + bytes.len(),
+        Asked::Erase(_) => HEADER,
+    }
+}
+
+/// Fills 12 bytes with a kind, an address and a length.
+fn put_header(entry: &mut [u8], kind: u32, at: u32, n: u32)
+    requires { length entry.old ≡ 12 }
+    ensures { entry.new ≡ header kind at n }
+{
+    entry[..4].copy_from_slice(&kind.to_le_bytes());
+    entry[4..8].copy_from_slice(&at.to_le_bytes());
+    entry[8..].copy_from_slice(&n.to_le_bytes());
+}
+
+/// Fills the entry of a write.
+pub(crate) fn record(entry: &mut [u8], at: u32, asked: Asked<'_>)
+    requires room { length entry.old ≡ room_of asked }
+    requires short { length_of asked < 2 ^ 32 }
+    ensures { entry.new ≡ spelled (step_of at asked.entry) }
+{
+    match asked {
+        Asked::Program(bytes) => {
+            put_header(&mut entry[..HEADER], 0, at, bytes.len() as u32);
+            entry[HEADER..].copy_from_slice(bytes);
+        }
+        Asked::Erase(n) => put_header(entry, 1, at, n),
+    }
+}
+
+/// Does a write in its range.
+pub(crate) fn perform(range: &mut [u8], at: u32, asked: Asked<'_>)
+    requires { length range.old ≡ length_of asked }
+    ensures bytes { range.new ≡ range_of (step_of at asked.entry) }
+    ensures are_bytes { (k : ℕ) → slice_index range.new k < 256 }
+{
+    match asked {
+        Asked::Program(bytes) => range.copy_from_slice(bytes),
+        Asked::Erase(_) => range.fill(0xff),
+    }
+}
