@@ -1,6 +1,6 @@
 -- What each call on one sector or one place of the log does: one record for each call.
-use Rattle.std.specs.Prelude.{◌≡◌, ℕ, ◌+◌, ◌-◌, ◌*◌, ◌<◌, Bool, true, false, not, List, slice_range}
-use Rattle.std.specs.Prelude.{Result, OnOk, OnErr, IfOk}
+use Rattle.std.specs.Prelude.{◌≡◌, ℕ, ◌+◌, ◌-◌, ◌*◌, ◌<◌, ◌≤◌, Bool, true, false, not, List}
+use Rattle.std.specs.Prelude.{slice_range, Result, OnOk, OnErr, IfOk}
 use Rattle.flash_model.specs.declared.error.FlashError.{FlashError}
 use Rattle.flash_model.specs.Chip.{Chip, Ends, IsErased, Reads, SameOutside}
 use Rattle.sector_map.specs.declared.layout.SectorMap.{SectorMap}
@@ -80,6 +80,8 @@ pub record WritesBody (map : SectorMap) (sector place : ℕ) (body : List ℕ) (
       (Reads (log_of map new) (sector * map.sector_size + PLACE * place) body)
   -- No sector is erased.
   pub erases : new.erases ≡ old.erases
+  -- It asks a journal for at most 68 bytes.
+  pub journal : new.journaled ≤ old.journaled + 68
   pub ends : Ends result old new
 
 -- The place exists, and its gate is erased.
@@ -105,6 +107,8 @@ pub record SetsGate (map : SectorMap) (sector place : ℕ) (old new : Chip) {T :
       (Reads (log_of map new) (sector * map.sector_size + PLACE * place + GATE) flag)
   -- No sector is erased.
   pub erases : new.erases ≡ old.erases
+  -- It asks a journal for at most 20 bytes.
+  pub journal : new.journaled ≤ old.journaled + 20
   pub ends : Ends result old new
 
 -- The map is laid out on the flash, the log has a sector with this number, and the sector is open.
@@ -127,6 +131,8 @@ pub record Closes (map : SectorMap) (sector : ℕ) (old new : Chip) {T : Type 0}
   pub flag : OnOk result (HasClosingFlag map.sector_size (log_of map new) sector)
   -- No sector is erased.
   pub erases : new.erases ≡ old.erases
+  -- It asks a journal for at most 20 bytes.
+  pub journal : new.journaled ≤ old.journaled + 20
   pub ends : Ends result old new
 
 -- A call erases a sector.
@@ -145,4 +151,6 @@ pub record ErasesSector (map : SectorMap) (sector : ℕ) (old new : Chip) {T : T
   pub uncounted : OnErr result (new.erases ≡ old.erases)
   -- The call fails if the flash is off.
   pub on : OnOk result (old.is_on ≡ true)
+  -- It asks a journal for at most 12 bytes.
+  pub journal : new.journaled ≤ old.journaled + 12
   pub ends : Ends result old new

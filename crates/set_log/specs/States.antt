@@ -1,6 +1,6 @@
 -- What each call does that reads the state of the log, appends one, or starts a log: one record for
 -- each call.
-use Rattle.std.specs.Prelude.{◌≡◌, ◌⊎◌, ◌+◌, true, false, Some}
+use Rattle.std.specs.Prelude.{◌≡◌, ◌⊎◌, ◌+◌, ◌≤◌, true, false, Some}
 use Rattle.std.specs.Prelude.{Result, IsErrOf, OnOk, if◌then◌else◌}
 use Rattle.flash_model.specs.declared.error.FlashError.{FlashError}
 use Rattle.flash_model.specs.declared.error.FlashError.TheVariants.{Off}
@@ -48,6 +48,8 @@ pub record Appends (map : SectorMap) (state : State) (old new : Chip) {T : Type 
   pub erases : OnOk result (new.erases ≡ old.erases + (if is_place_free map old then 0 else 1))
   -- If the flash is off, the call returns `Off`.
   pub off : old.is_on ≡ false → IsErrOf result Off
+  -- It asks a journal for at most 120 bytes.
+  pub journal : new.journaled ≤ old.journaled + 120
   -- A call that succeeds wasn't cut. A cut turns the flash off. A flash that was off stays
   -- unchanged.
   pub ends : Ends result old new

@@ -1,5 +1,5 @@
 -- What each call does that writes a record: one record for each call.
-use Rattle.std.specs.Prelude.{◌≡◌, ◌⊎◌, ℕ, ◌+◌, ◌*◌, ◌<◌, true, false, List, Some}
+use Rattle.std.specs.Prelude.{◌≡◌, ◌⊎◌, ℕ, ◌+◌, ◌*◌, ◌<◌, ◌≤◌, true, false, List, Some}
 use Rattle.std.specs.Prelude.{Result, IsErrOf, OnOk, OnErr, if◌then◌else◌}
 use Rattle.flash_model.specs.declared.error.FlashError.{FlashError}
 use Rattle.flash_model.specs.declared.error.FlashError.TheVariants.{Off}
@@ -37,6 +37,8 @@ pub record WritesRecord (map : SectorMap) (sector place : ℕ) (body : List ℕ)
   pub written : OnOk result (IsWritten map.sector_size (log_of map new) sector place body)
   -- No sector is erased.
   pub erases : new.erases ≡ old.erases
+  -- It asks a journal for at most 88 bytes.
+  pub journal : new.journaled ≤ old.journaled + 88
   pub ends : Ends result old new
 
 -- A call writes a record in the sector after the active one, and makes that sector the active one.
@@ -55,6 +57,8 @@ pub record MovesOn (map : SectorMap) (active : ℕ) (body : List ℕ) (old new :
   pub moved : OnOk result (IsMovedOn map.sector_size active body (log_of map new))
   -- A call that succeeds erases one sector.
   pub erases : OnOk result (new.erases ≡ old.erases + 1)
+  -- It asks a journal for at most 120 bytes.
+  pub journal : new.journaled ≤ old.journaled + 120
   pub ends : Ends result old new
 
 -- A call writes a record after the current one.
@@ -73,6 +77,8 @@ pub record AppendsRecord (map : SectorMap) (body : List ℕ) (old new : Chip) {T
   pub erases : OnOk result (new.erases ≡ old.erases + (if is_place_free map old then 0 else 1))
   -- If the flash is off, the call returns `Off`.
   pub off : old.is_on ≡ false → IsErrOf result Off
+  -- It asks a journal for at most 120 bytes.
+  pub journal : new.journaled ≤ old.journaled + 120
   pub ends : Ends result old new
 
 -- A call erases the three sectors.
@@ -87,6 +93,8 @@ pub record ErasesLog (map : SectorMap) (old new : Chip) {T : Type 0} (result : R
   pub few : OnErr result (new.erases < old.erases + 3)
   -- The call fails if the flash is off.
   pub on : OnOk result (old.is_on ≡ true)
+  -- It asks a journal for at most 36 bytes.
+  pub journal : new.journaled ≤ old.journaled + 36
   pub ends : Ends result old new
 
 -- A call starts a log with a record, after which a statement about the log holds.
@@ -108,6 +116,8 @@ pub record BeginsLog (map : SectorMap) (bytes : List ℕ) (stands : Type 0) (old
   pub erases : OnOk result (new.erases ≡ old.erases + 3)
   -- If the flash is off, the call returns `Off`.
   pub off : old.is_on ≡ false → IsErrOf result Off
+  -- It asks a journal for at most 144 bytes.
+  pub journal : new.journaled ≤ old.journaled + 144
   -- A call that succeeds wasn't cut. A cut turns the flash off. A flash that was off stays
   -- unchanged.
   pub ends : Ends result old new

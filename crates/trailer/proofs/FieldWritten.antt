@@ -29,6 +29,7 @@ module _ {T : Type 0} (map : SectorMap) (image : ℕ) (side : Side) (old new : C
       ok = on_ok_weaker result says written.ok;
       bytes = written.ok;
       erases = written.erases;
+      journal = written.journal;
       off = written.off;
       ends = written.ends;
     }

@@ -1,5 +1,5 @@
 -- What a call that erases a trailer does.
-use Rattle.std.specs.Prelude.{◌≡◌, ℕ, ◌+◌, true, false, if◌then◌else◌, Result, IsErrOf, OnOk}
+use Rattle.std.specs.Prelude.{◌≡◌, ℕ, ◌+◌, ◌≤◌, true, false, if◌then◌else◌, Result, IsErrOf, OnOk}
 use Rattle.flash_model.specs.declared.error.FlashError.{FlashError}
 use Rattle.flash_model.specs.declared.error.FlashError.TheVariants.{Off}
 use Rattle.flash_model.specs.Chip.{Chip, Ends}
@@ -21,6 +21,8 @@ pub record ErasesTrailer (map : SectorMap) (image : ℕ) (side : Side) (old new 
   pub erases : OnOk result (new.erases ≡ old.erases + 1)
   -- If the flash is off, the call returns `Off`.
   pub off : old.is_on ≡ false → IsErrOf result Off
+  -- It asks a journal for at most 12 bytes.
+  pub journal : new.journaled ≤ old.journaled + 12
   pub ends : Ends result old new
 
 -- A call erases a trailer, unless each of its bytes is erased.
@@ -37,4 +39,6 @@ pub record Clears (map : SectorMap) (image : ℕ) (side : Side) (old new : Chip)
       + (if are_erased (trailer_bytes map old image side) then 0 else 1))
   -- If the flash is off, the call returns `Off`.
   pub off : old.is_on ≡ false → IsErrOf result Off
+  -- It asks a journal for at most 12 bytes.
+  pub journal : new.journaled ≤ old.journaled + 12
   pub ends : Ends result old new

@@ -1,5 +1,6 @@
 -- What a call that requests or confirms an image does.
-use Rattle.std.specs.Prelude.{◌≡◌, ◌⊎◌, ℕ, true, false, None, Some, Result, IsErrOf, OnOk}
+use Rattle.std.specs.Prelude.{◌≡◌, ◌⊎◌, ℕ, ◌+◌, ◌≤◌, true, false, None, Some}
+use Rattle.std.specs.Prelude.{Result, IsErrOf, OnOk}
 use Rattle.flash_model.specs.declared.error.FlashError.{FlashError}
 use Rattle.flash_model.specs.declared.error.FlashError.TheVariants.{Off}
 use Rattle.flash_model.specs.Chip.{Chip, Ends, SameOutside}
@@ -29,6 +30,8 @@ pub record MarksKind (map : SectorMap) (image : ℕ) (kind : Kind) (old new : Ch
   pub ok : OnOk result (fields_at map new image Secondary
       ≡ record erased_fields { image_ok = is_permanent kind })
   pub erases : OnOk result (new.erases ≡ old.erases)
+  -- It asks a journal for at most 20 bytes.
+  pub journal : new.journaled ≤ old.journaled + 20
   pub ends : Ends result old new
 
 -- A call requests an image.
@@ -51,6 +54,8 @@ pub record Requests (map : SectorMap) (image : ℕ) (kind : Kind) (old new : Chi
   pub erases : OnOk result (new.erases ≡ old.erases)
   -- If the flash is off, the call returns `Off`.
   pub off : old.is_on ≡ false → IsErrOf result Off
+  -- It asks a journal for at most 48 bytes.
+  pub journal : new.journaled ≤ old.journaled + 48
   pub ends : Ends result old new
 
 -- A call confirms an image.
@@ -75,4 +80,6 @@ pub record Confirms (map : SectorMap) (image : ℕ) (old new : Chip)
   pub erases : OnOk result (new.erases ≡ old.erases)
   -- If the flash is off, the call returns `Off`.
   pub off : old.is_on ≡ false → IsErrOf result Off
+  -- It asks a journal for at most 20 bytes.
+  pub journal : new.journaled ≤ old.journaled + 20
   pub ends : Ends result old new

@@ -1,5 +1,5 @@
 -- What a call that withdraws a request does.
-use Rattle.std.specs.Prelude.{◌≡◌, ◌⊎◌, ℕ, ◌+◌, true, false, None, if◌then◌else◌}
+use Rattle.std.specs.Prelude.{◌≡◌, ◌⊎◌, ℕ, ◌+◌, ◌≤◌, true, false, None, if◌then◌else◌}
 use Rattle.std.specs.Prelude.{Result, IsErrOf, OnOk}
 use Rattle.flash_model.specs.declared.error.FlashError.{FlashError}
 use Rattle.flash_model.specs.declared.error.FlashError.TheVariants.{Off}
@@ -33,6 +33,8 @@ pub record TakesBack (map : SectorMap) (image : ℕ) (old new : Chip)
   pub erases : OnOk result (new.erases ≡ old.erases)
   -- If the flash is off, the call returns `Off`.
   pub off : old.is_on ≡ false → IsErrOf result Off
+  -- It asks a journal for at most 20 bytes.
+  pub journal : new.journaled ≤ old.journaled + 20
   pub ends : Ends result old new
 
 -- A call erases the first sector of a slot, unless its first unit is erased.
@@ -53,6 +55,8 @@ pub record ErasesFront (map : SectorMap) (image : ℕ) (side : Side) (old new : 
       + (if first_is_set (part_of map old (Slot image side)) then 1 else 0))
   -- If the flash is off, the call returns `Off`.
   pub off : old.is_on ≡ false → IsErrOf result Off
+  -- It asks a journal for at most 12 bytes.
+  pub journal : new.journaled ≤ old.journaled + 12
   pub ends : Ends result old new
 
 -- A call withdraws the pending request of an image, if there is one.
@@ -86,4 +90,6 @@ pub record Withdraws (map : SectorMap) (image : ℕ) (old new : Chip)
       + (if are_erased (trailer_bytes map old image Secondary) then 0 else 1))
   -- If the flash is off, the call returns `Off`.
   pub off : old.is_on ≡ false → IsErrOf result Off
+  -- It asks a journal for at most 44 bytes.
+  pub journal : new.journaled ≤ old.journaled + 44
   pub ends : Ends result old new

@@ -35,6 +35,8 @@ pub record WritesUnits (map : SectorMap) (image : ℕ) (side : Side) (from_end :
   pub erases : OnOk result (new.erases ≡ old.erases)
   -- If the flash is off, the call returns `Off`.
   pub off : old.is_on ≡ false → IsErrOf result Off
+  -- It asks a journal for at most 12 bytes and its own.
+  pub journal : new.journaled ≤ old.journaled + (12 + length units)
   pub ends : Ends result old new
 
 -- A call writes one field of a trailer, in units that begin this many bytes before its end.
@@ -56,6 +58,8 @@ pub record WritesField (map : SectorMap) (image : ℕ) (side : Side) (from_end :
   pub erases : OnOk result (new.erases ≡ old.erases)
   -- If the flash is off, the call returns `Off`.
   pub off : old.is_on ≡ false → IsErrOf result Off
+  -- It asks a journal for at most 12 bytes and its own.
+  pub journal : new.journaled ≤ old.journaled + (12 + length units)
   pub ends : Ends result old new
 
 -- A call sets `image_ok`.

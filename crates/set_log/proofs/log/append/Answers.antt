@@ -18,6 +18,7 @@ returns g c =
           c.append_record.ensures.ok;
       put = rw c.to_bytes-body.ensures.is at c.append_record.ensures.put;
       erases = c.append_record.ensures.erases;
+      journal = c.append_record.ensures.journal;
       off = c.append_record.ensures.off;
       ends = c.append_record.ensures.ends;
     }

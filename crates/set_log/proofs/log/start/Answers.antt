@@ -13,6 +13,7 @@ returns g c =
       written = rw c.to_bytes-body.ensures.is at c.start_record.ensures.written;
       last = λ three closed. stands (c.start_record.ensures.last three closed) ∙ back;
       erases = c.start_record.ensures.erases;
+      journal = c.start_record.ensures.journal;
       off = c.start_record.ensures.off;
       ends = c.start_record.ensures.ends;
     }

@@ -25,5 +25,6 @@ returns g c =
       erases = search rules;
       uncounted = search rules;
       on = c.erase.ensures.on;
+      journal = c.erase.ensures.journal;
       ends = search rules;
     }

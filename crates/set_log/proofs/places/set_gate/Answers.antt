@@ -47,5 +47,6 @@ returns g c =
           log_reads map _ _ _ 8 flag reads here refl)
           c.set_unit.ensures.flag;
       erases = search rules;
+      journal = c.set_unit.ensures.journal;
       ends = search rules;
     }

@@ -37,5 +37,6 @@ returns g c =
           log_reads map _ _ _ 56 _ reads here c.told-body)
           c.program.ensures.ok;
       erases = search rules;
+      journal = omega (arith, c.program.ensures.journal, c.told-body);
       ends = search rules;
     }

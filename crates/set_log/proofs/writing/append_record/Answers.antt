@@ -1,4 +1,4 @@
-use Rattle.std.proofs.Common.{◌≡◌, ◌∙◌, false, sym}
+use Rattle.std.proofs.Common.{◌≡◌, ◌∙◌, arith, false, sym}
 use Rattle.std.proofs.lemmas.Bool.{false≢true}
 use Rattle.std.proofs.lemmas.Result.{on_ok_weaker}
 use Rattle.set_log.proofs.Turns.{register_none}
@@ -45,6 +45,7 @@ returns-in-Some-2 g c =
           erases_free map c.in-Some.active c.in-Some-2.place _ _ _ same active first.free
           c.write_record.ensures.erases)
           c.write_record.ensures.ok;
+      journal = omega (arith, rw same at c.write_record.ensures.journal);
       off = λ off. absurd (false≢true (sym off ∙ c.in_ok-active.ensures.on));
       ends = ends_then _ _ _ _ _ c.in_ok-active.ensures.ends
           (ends_then _ _ _ _ _ c.in_ok-place.ensures.ends c.write_record.ensures.ends);
@@ -76,6 +77,7 @@ returns-in-None g c =
           erases_full map c.in-Some.active _ _ _ _ c.find_active.ensures.same c.free_place.ensures.same active
           (rw c.in-None.is at c.in_ok-place.ensures.ok) one)
           c.move_on.ensures.erases;
+      journal = rw same at c.move_on.ensures.journal;
       off = λ off. absurd (false≢true (sym off ∙ c.in_ok-active.ensures.on));
       ends = ends_then _ _ _ _ _ c.in_ok-active.ensures.ends
           (ends_then _ _ _ _ _ c.in_ok-place.ensures.ends c.move_on.ensures.ends);

@@ -1,4 +1,4 @@
-use Rattle.std.proofs.Common.{◌∙◌, inl}
+use Rattle.std.proofs.Common.{◌∙◌, arith, inl}
 use Rattle.std.proofs.lemmas.Result.{on_ok_weaker}
 use Rattle.set_log.proofs.Moves.{has_places, moved, erased_keeps, moved_keeps, moved_active, moved_within, closing_torn, closing_done}
 use Rattle.set_log.proofs.Placing.{beside_next, beside_closed, moved_on}
@@ -18,6 +18,7 @@ returns-in_err-erase_sector g c =
           c.requires.active.within c.next_of-next.ensures c.erase_sector.ensures.within;
       moved = at_error _ _ c.from_residual.ensures.0;
       erases = at_error _ _ c.from_residual.ensures.0;
+      journal = omega (arith, c.erase_sector.ensures.journal);
       ends = ends_passed _ _ _ _ c.from_residual.ensures.1 c.in_err-erase_sector.ensures.ends;
     }
 
@@ -35,6 +36,7 @@ returns-in_err-write_record g c =
           c.requires.active.within c.next_of-next.ensures (moved_within _ _ _ _ _ _ here);
       moved = at_error _ _ c.from_residual-in_err-write_record.ensures.0;
       erases = at_error _ _ c.from_residual-in_err-write_record.ensures.0;
+      journal = omega (arith, c.erase_sector.ensures.journal, c.write_record.ensures.journal);
       ends = ends_then _ _ _ _ _ c.in_ok-erase_sector.ensures.ends
           (ends_passed _ _ _ _ c.from_residual-in_err-write_record.ensures.1 c.in_err-write_record.ensures.ends);
     }
@@ -75,6 +77,12 @@ returns g c =
       erases = on_ok_weaker c.close.result (λ closed.
           c.close.ensures.erases ∙ c.write_record.ensures.erases ∙ c.in_ok-erase_sector.ensures.erases)
           c.close.ensures.ok;
+      journal = omega (
+        arith,
+        c.erase_sector.ensures.journal,
+        c.write_record.ensures.journal,
+        c.close.ensures.journal,
+      );
       ends = ends_then _ _ _ _ _ c.in_ok-erase_sector.ensures.ends
           (ends_then _ _ _ _ _ c.in_ok-write_record.ensures.ends c.close.ensures.ends);
     }

@@ -17,6 +17,7 @@ returns-in_err-write_record g c = record {
       c.write_record.ensures.within in
       absurd (false≢true (sym stays ∙ closed));
   erases = at_error _ _ c.from_residual-in_err-write_record.ensures.0;
+  journal = omega (arith, c.erase_log.ensures.journal, c.write_record.ensures.journal);
   off = λ off. absurd (false≢true (sym off ∙ c.in_ok-erase_log.ensures.on));
   ends = ends_then _ _ _ _ _ c.in_ok-erase_log.ensures.ends
       (ends_passed _ _ _ _ c.from_residual-in_err-write_record.ensures.1 c.in_err-write_record.ensures.ends);
@@ -64,6 +65,12 @@ returns g c =
       erases = on_ok_weaker c.close.result (λ closed.
           c.close.ensures.erases ∙ c.write_record.ensures.erases ∙ c.in_ok-erase_log.ensures.erases)
           c.close.ensures.ok;
+      journal = omega (
+        arith,
+        c.erase_log.ensures.journal,
+        c.write_record.ensures.journal,
+        c.close.ensures.journal,
+      );
       off = λ off. absurd (false≢true (sym off ∙ c.in_ok-erase_log.ensures.on));
       ends = ends_then _ _ _ _ _ c.in_ok-erase_log.ensures.ends
           (ends_then _ _ _ _ _ c.in_ok-write_record.ensures.ends c.close.ensures.ends);

@@ -16,6 +16,7 @@ returns-in_err-write_body g c = record {
   ok = at_error _ _ c.from_residual.ensures.0;
   written = at_error _ _ c.from_residual.ensures.0;
   erases = c.write_body.ensures.erases;
+  journal = omega (arith, c.write_body.ensures.journal);
   ends = ends_passed _ _ _ _ c.from_residual.ensures.1 c.in_err-write_body.ensures.ends;
 }
 
@@ -34,5 +35,6 @@ returns g c =
           c.set_gate.ensures.within flag)
           c.set_gate.ensures.flag;
       erases = c.set_gate.ensures.erases ∙ c.write_body.ensures.erases;
+      journal = omega (arith, c.write_body.ensures.journal, c.set_gate.ensures.journal);
       ends = ends_then _ _ _ _ _ c.in_ok-write_body.ensures.ends c.set_gate.ensures.ends;
     }

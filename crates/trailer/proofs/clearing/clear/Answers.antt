@@ -28,6 +28,7 @@ returns g c =
           one ∙ ap (λ (chip : Chip). chip.erases + 1) same
           ∙ ap (λ all. old.erases + (if all then 0 else 1)) (sym written))
           c.erase_trailer.ensures.erases;
+      journal = rw same at c.erase_trailer.ensures.journal;
       off = refuses_first _ _ _ c.in_ok-is_range_erased.ensures.off;
       ends = ends_then _ _ _ _ _ c.in_ok-is_range_erased.ensures.ends c.erase_trailer.ensures.ends;
     }

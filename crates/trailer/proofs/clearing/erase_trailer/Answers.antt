@@ -33,6 +33,7 @@ returns g c =
           erased_fields_at map new c.args.image c.args.side (erased all) laid c.requires.there)
           c.erase.ensures.ok;
       erases = c.erase.ensures.erases;
+      journal = c.erase.ensures.journal;
       off = refuses _ _ _ c.erase.ensures.on c.erase.ensures.ends;
       ends = c.erase.ensures.ends;
     }

@@ -24,5 +24,6 @@ returns-in-Permanent g c =
       ok = on_ok_weaker c.write_units.result (λ is. own ∙ ap (λ b. record erased_fields { image_ok = b }) is
           ∙ ap (λ kind. record erased_fields { image_ok = is_permanent kind }) (sym c.in-Permanent.is)) set.ok;
       erases = set.erases;
+      journal = set.journal;
       ends = set.ends;
     }

@@ -44,6 +44,7 @@ returns-in_err-mark_kind g c =
       ok = at_error _ _ c.from_residual.ensures.0;
       flag = at_error _ _ c.from_residual.ensures.0;
       erases = at_error _ _ c.from_residual.ensures.0;
+      journal = omega (arith, c.mark_kind.ensures.journal);
       off = refuses_failed _ _ _ c.from_residual.ensures.0
           (ends_passed _ _ _ _ c.from_residual.ensures.1 c.in_err-mark_kind.ensures.ends);
       ends = ends_passed _ _ _ _ c.from_residual.ensures.1 c.in_err-mark_kind.ensures.ends;
@@ -71,6 +72,7 @@ returns g c =
           c.requires.image.there _ _ good.unit ∙ c.in_ok-mark_kind.ensures.flag permanent)
           good.ok;
       erases = on_ok_weaker c.write_units.result (λ none. none ∙ c.in_ok-mark_kind.ensures.erases) good.erases;
+      journal = omega (arith, c.mark_kind.ensures.journal, good.journal);
       off = λ off. good.off (c.in_ok-mark_kind.ensures.ends.uncut.on ∙ off);
       ends = ends_then _ _ _ _ _ c.in_ok-mark_kind.ensures.ends good.ends;
     }

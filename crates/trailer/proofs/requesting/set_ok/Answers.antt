@@ -32,6 +32,7 @@ returns g c =
           (λ is. set.own ∙ ap (λ b. record (fields_at map old c.args.image Primary) { image_ok = b }) is) set.ok;
       flag = on_ok_weaker c.write_units.result (λ is. λ unset. is) set.bytes;
       erases = set.erases;
+      journal = set.journal;
       off = refuses_first _ _ _ c.in_ok-is_unit_set.ensures.off;
       ends = ends_then _ _ _ _ _ c.in_ok-is_unit_set.ensures.ends c.write_units.ensures.ends;
     }

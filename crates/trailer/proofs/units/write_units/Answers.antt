@@ -43,6 +43,7 @@ returns g c =
           has.room (omega (arith, has.within, has.laid_out.is_map.trailers 0)) laid has.there)
           c.program.ensures.ok;
       erases = at_any _ c.program.result c.program.ensures.erases;
+      journal = c.program.ensures.journal;
       off = refuses _ _ _ c.program.ensures.on c.program.ensures.ends;
       ends = c.program.ensures.ends;
     }

@@ -36,6 +36,7 @@ returns g c =
           one ∙ ap (λ (chip : Chip). chip.erases + 1) c.is_front_set.ensures.same
           ∙ ap (λ front. (g.F.Flash.chip c.args.flash.now).erases + (if front then 1 else 0)) (sym set))
           c.erase.ensures.erases;
+      journal = rw c.is_front_set.ensures.same at c.erase.ensures.journal;
       off = refuses_first _ _ _ c.in_ok-is_front_set.ensures.off;
       ends = ends_then _ _ _ _ _ c.in_ok-is_front_set.ensures.ends c.erase.ensures.ends;
     }

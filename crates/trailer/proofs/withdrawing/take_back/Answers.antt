@@ -31,6 +31,7 @@ returns-in-Some g c =
       erased = at_any _ _ (still_written map old new c.args.image _ stood set.own c.requires.laid_out set.outside
           c.requires.there);
       erases = set.erases;
+      journal = set.journal;
       off = refuses_first _ _ _ c.in_ok-standing.ensures.off;
       ends = ends_then _ _ _ _ _ c.in_ok-standing.ensures.ends c.write_units.ensures.ends;
     }

@@ -1,4 +1,4 @@
-use Rattle.std.proofs.Common.{◌∙◌, ap, inr, refl}
+use Rattle.std.proofs.Common.{◌∙◌, ap, arith, inr, refl}
 use Rattle.std.proofs.lemmas.Result.{on_ok_weaker}
 use Rattle.trailer.proofs.Withdrawal.{none_after_front, none_after_trailer, front_after_trailer, erases_of, first_gone, unset_kept}
 use Rattle.trailer.proofs.Withdrawal.{nothing_left, rest_of_trailer, rest_trans}
@@ -27,6 +27,7 @@ returns-in_err-take_back g c =
       first = at_error _ _ e;
       unset = λ unset. slot;
       erases = at_error _ _ e;
+      journal = omega (arith, c.take_back.ensures.journal);
       off = refuses_failed _ _ _ e (ends_passed _ _ _ _ c.from_residual.ensures.1 c.in_err-take_back.ensures.ends);
       ends = ends_passed _ _ _ _ c.from_residual.ensures.1 c.in_err-take_back.ensures.ends;
     }
@@ -54,6 +55,7 @@ returns-in_err-erase_front g c =
       first = at_error _ _ e;
       unset = unset;
       erases = at_error _ _ e;
+      journal = omega (arith, c.take_back.ensures.journal, c.erase_front.ensures.journal);
       off = refuses_first _ _ _ c.in_ok-take_back.ensures.off;
       ends = ends_then _ _ _ _ _ c.in_ok-take_back.ensures.ends
           (ends_passed _ _ _ _ c.from_residual-in_err-erase_front.ensures.1 c.in_err-erase_front.ensures.ends);
@@ -88,6 +90,7 @@ returns g c =
           c.take_back.ensures.outside c.erase_front.ensures.outside c.in_ok-take_back.ensures.erased
           c.in_ok-take_back.ensures.erases c.in_ok-erase_front.ensures.erases erases)
           c.clear.ensures.erases;
+      journal = omega (arith, c.take_back.ensures.journal, c.erase_front.ensures.journal, c.clear.ensures.journal);
       off = refuses_first _ _ _ c.in_ok-take_back.ensures.off;
       ends = ends_then _ _ _ _ _ c.in_ok-take_back.ensures.ends
           (ends_then _ _ _ _ _ c.in_ok-erase_front.ensures.ends c.clear.ensures.ends);
