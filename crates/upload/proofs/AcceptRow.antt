@@ -1,4 +1,6 @@
 -- Accepting a manifest is a step of the machine: the successful call, and the interrupted one.
+use Rattle.std.specs.Option.{option_or}
+use Rattle.std.specs.Prelude.{is_some, option_map, if◌then◌else◌}
 use Rattle.std.proofs.Common.{◌≡◌, ◌⊎◌, ℕ, ◌<◌, ◌≤◌, false, List, [], length, Option, Some, None, refl, sym, ◌∙◌, ap, subst, arith, ⊎_elim, inl, inr}
 use Rattle.sector_map.specs.declared.layout.Side.TheVariants.{Primary, Secondary}
 use Rattle.sector_map.specs.Part.{Log, only}
@@ -11,7 +13,7 @@ use Rattle.upload.specs.Steady.{IsFront, IsRequested, IsImageAt, IsSteadyAt, log
 use Rattle.upload.specs.Sessions.{AllOpenAt, upload_at, session_of, HasSession, IsUpAt}
 use Rattle.upload.specs.Withdrawal.{IsKeptOrGone}
 use Rattle.upload.specs.Taking.{LeavesAccept}
-use Rattle.upload.specs.Accepted.{latest, OpenedAt, IsOpening, IsOpened, opened, session_after, request_after, accepted, IsAcceptCut}
+use Rattle.upload.specs.Accepted.{latest, OpenedAt, IsOpening, IsOpened, opened, accepted, IsAcceptCut}
 use Rattle.upload.specs.declared.sessions.Upload.{Upload}
 use Rattle.upload.proofs.Frames.{erased_stands, session_kept, unasked}
 use Rattle.upload.proofs.Added.{session_eq}
@@ -186,7 +188,7 @@ module _ (old mid new : View) (cs : List Component) (told tnew : List (Option Up
     (all : IsOpened mid new told tnew (latest cs)) where
   session_at : (i : ℕ) (o : Option Component) (s : Option Session) → latest cs i ≡ o
       → OpenedAt (upload_at tnew i) (upload_at told i) o → HasSession old i (upload_at told i) s
-      → HasSession new i (upload_at tnew i) (session_after o s)
+      → HasSession new i (upload_at tnew i) (option_or (option_map opened o) s)
   session_at i None s is now was = subst (λ u. HasSession new i u s) (sym now)
       (session_kept old new i (upload_at told i) s (all.opening.images ∙ keeps.images)
       (all.opening.slots i is ∙ keeps.slots i Secondary refl)
@@ -213,7 +215,7 @@ module _ (old mid new : View) (cs : List Component) (told tnew : List (Option Up
 
   asked_after : (i : ℕ) (wanted : Option Wanted) (o : Option Component) → latest cs i ≡ o
       → IsRequested (mid.trailer i Secondary) (mid.slot i Secondary) wanted
-      → IsRequested (new.trailer i Secondary) (new.slot i Secondary) (request_after o wanted)
+      → IsRequested (new.trailer i Secondary) (new.slot i Secondary) (if is_some o then None else wanted)
   asked_after i wanted None is was = as_before mid new (latest cs) all.opening i wanted
       (all.opening.slots i is) (all.opening.trailers i is) was
   asked_after i wanted (Some c) is was = unasked (new.trailer i Secondary) (new.slot i Secondary)
@@ -227,7 +229,7 @@ module _ (old mid new : View) (cs : List Component) (told tnew : List (Option Up
       record {
         up = up.up;
         rest = steady_left mid new (latest cs) all.opening (record m.kept { sequence = q })
-            (λ i. request_after (latest cs i) (m.kept.request i))
+            (λ i. if is_some (latest cs i) then None else m.kept.request i)
             (λ i lt. asked_after i (m.kept.request i) (latest cs i) refl (was.each i lt).request) was;
         open_ones = record {
           each = λ i. session_at i (latest cs i) (m.session i) refl (all.table i)
@@ -239,5 +241,5 @@ module _ (old mid new : View) (cs : List Component) (told tnew : List (Option Up
   pub opens_all : AllOpenAt old told → AllOpenAt new tnew
   opens_all opens =
       let had = sessions_of_open old told opens in
-      open_of_sessions new tnew (λ i. session_after (latest cs i) (had.0 i))
+      open_of_sessions new tnew (λ i. option_or (option_map opened (latest cs i)) (had.0 i))
       (record { each = λ i. session_at i (latest cs i) (had.0 i) refl (all.table i) (had.1.each i) })

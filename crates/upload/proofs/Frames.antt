@@ -7,7 +7,7 @@ use Rattle.sector_map.specs.declared.layout.Side.TheVariants.{Primary, Secondary
 use Rattle.sector_map.specs.Part.{Slot, only, incoming_of}
 use Rattle.trailer.specs.Fields.{Fields, erased_fields}
 use Rattle.upload.specs.View.{View, KeepsView}
-use Rattle.upload.specs.Device.{DeviceState, Machine, Wanted, Session, closed, no_session}
+use Rattle.upload.specs.Device.{DeviceState, Machine, Wanted, Session, closed}
 use Rattle.upload.specs.Steady.{IsFront, IsRequested, IsImageAt, IsSteadyAt, told_by}
 use Rattle.upload.specs.Sessions.{upload_at, IsWith, AllClosed, IsWritten, IsUploadAt, session_of, HasSession, HasSessions, IsUpAt}
 use Rattle.upload.specs.declared.sessions.Upload.{Upload}
@@ -144,7 +144,7 @@ module _ (i : ℕ) (old new : View) (keeps : IsOthersKept i old new) where
   }
 
 pub sessions_closed : (w : View) (sessions : List (Option Upload)) → AllClosed sessions
-    → HasSessions w sessions no_session
+    → HasSessions w sessions (λ i. None)
 sessions_closed w sessions none = record { each = λ j. subst (λ u. HasSession w j u None) (sym (none j)) tt }
 
 -- A machine whose uploads are all closed.

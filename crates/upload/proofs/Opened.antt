@@ -15,12 +15,14 @@ use Rattle.upload.specs.View.{View, KeepsView}
 use Rattle.upload.specs.Steady.{told_by, request_in}
 use Rattle.upload.specs.Sessions.{upload_at, IsWith, IsWritten}
 use Rattle.upload.specs.Withdrawal.{IsKeptOrGone}
-use Rattle.upload.specs.Accepted.{or_else, latest, is_some, is_named, named_parts, accepted_parts, IsFresh, OpenedAt, IsOpening, IsOpened}
+use Rattle.std.specs.Option.{option_or}
+use Rattle.std.specs.Prelude.{is_some}
+use Rattle.upload.specs.Accepted.{latest, is_named, named_parts, accepted_parts, IsFresh, OpenedAt, IsOpening, IsOpened}
 use Rattle.upload.specs.declared.sessions.Upload.{Upload}
 use Rattle.upload.proofs.Frames.{others_kept}
 
 if_same : (b : Bool) (x : Component) (o f : Option Component)
-    → or_else (if b then Some x else o) f ≡ (if b then Some x else or_else o f)
+    → option_or (if b then Some x else o) f ≡ (if b then Some x else option_or o f)
 if_same true x o f = refl
 if_same false x o f = refl
 
@@ -30,7 +32,7 @@ pub latest_more : (cs : List Component) (i : ℕ) (x : Component) (j : ℕ) → 
 latest_more [] i x j lt is = absurd (omega arith)
 latest_more (c ∷ cs) zero x j lt is = ap (λ (d : Component). if d.image == j then Some d else None) (sym is)
 latest_more (c ∷ cs) (suc i) x j lt is =
-    ap (λ o. or_else o (if c.image == j then Some c else None)) (latest_more cs i x j (omega arith) is)
+    ap (λ o. option_or o (if c.image == j then Some c else None)) (latest_more cs i x j (omega arith) is)
     ∙ if_same (x.image == j) x (latest (take i cs) j) (if c.image == j then Some c else None)
 
 -- A request is unchanged or withdrawn after two calls, if it is after each.
@@ -127,7 +129,7 @@ module _ (old mid new : View) (named after : ℕ → Option Component) (x : Comp
           (sym (now j ∙ ap (λ b. if b then Some u else upload_at tmid j) (eqb_sym j x.image false same)))
           (was.table j))
 
-or_none : (o f : Option Component) → or_else o f ≡ None → (o ≡ None) × (f ≡ None)
+or_none : (o f : Option Component) → option_or o f ≡ None → (o ≡ None) × (f ≡ None)
 or_none None f e = (refl, e)
 or_none (Some c) f e = absurd (none-some c (sym e))
 
@@ -138,7 +140,7 @@ latest_less [] (suc k) j e = refl
 latest_less (c ∷ cs) zero j e = refl
 latest_less (c ∷ cs) (suc k) j e =
     let parts = or_none (latest cs j) (if c.image == j then Some c else None) e in
-    ap (λ o. or_else o (if c.image == j then Some c else None)) (latest_less cs k j parts.0) ∙ parts.1
+    ap (λ o. option_or o (if c.image == j then Some c else None)) (latest_less cs k j parts.0) ∙ parts.1
 
 pub opening_wider : (old new : View) (named more : ℕ → Option Component)
     → ((j : ℕ) → more j ≡ None → named j ≡ None) → IsOpening old new named → IsOpening old new more
@@ -190,7 +192,7 @@ named_has P (d ∷ cs) i c all is =
           (all 0 d (omega arith), eqb-true d.image i same)
       here false same e = absurd (none-some c e)
 
-      by_rest : (o : Option Component) → latest cs i ≡ o → or_else o (if d.image == i then Some d else None) ≡ Some c
+      by_rest : (o : Option Component) → latest cs i ≡ o → option_or o (if d.image == i then Some d else None) ≡ Some c
           → (latest cs i ≡ Some c → P c × (c.image ≡ i)) → P c × (c.image ≡ i)
       by_rest None rest e again = here (d.image == i) refl e
       by_rest (Some x) rest e again = again (rest ∙ e)

@@ -18,7 +18,7 @@ use Rattle.upload.specs.Device.{DeviceState, Machine, closed}
 use Rattle.upload.specs.Steady.{IsFront, IsSteadyAt, logged}
 use Rattle.upload.specs.Sessions.{AllOpenAt, IsUpAt}
 use Rattle.upload.specs.Ending.{IsClosedAfter, is_flash}
-use Rattle.upload.specs.Accepted.{Accepts, AreBlank, AllFit, AreThere, MayAccept, latest, AllFollow, AllFollowAt, FrontHasDigest, HasDigest, IsPrecursor, accepted}
+use Rattle.upload.specs.Accepted.{Accepts, AreBlank, AllFit, AreThere, MayAccept, latest, AllFollow, AllFollowAt, FrontHasDigest, IsPrecursor, accepted}
 use Rattle.upload.specs.Taking.{CutsAccept, EndsAccept, IsNewer, IsTaken, IsUnchanged, LeavesAccept, MayTake, Refuses}
 use Rattle.upload.specs.declared.sessions.Upload.{Upload}
 use Rattle.upload.specs.declared.error.UploadError.{UploadError}
@@ -40,7 +40,7 @@ precursor_runs slot (Some digest) None front (bytes, starts, (description, intac
     absurd (front.none refl bytes description starts intact)
 precursor_runs slot (Some digest) (Some held) front (bytes, starts, (description, intact, same)) =
     let at = front.image held refl in
-    subst (λ l. HasDigest l digest)
+    subst (λ l. IsPrecursor (Some digest) (Some l))
     (same_front slot bytes held description at.1.0 starts at.0 intact at.1.1) (description, intact, same)
 
 runs_at_front : (slot : List ℕ) (digest running : Option (List ℕ)) → IsFront slot running → IsPrecursor digest running

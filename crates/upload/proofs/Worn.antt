@@ -20,8 +20,10 @@ use Rattle.set_log.specs.declared.state.State.{State}
 use Rattle.set_log.specs.Log.{state_of}
 use Rattle.upload.specs.View.{view}
 use Rattle.upload.specs.Sessions.{IsWritten}
-use Rattle.upload.specs.Accepted.{is_named, is_some, latest, or_else}
-use Rattle.upload.specs.Wear.{ErasesWorn, erases_of_record, one_unless_erased, sector_in, worn, worn_in, worn_of, worn_slot}
+use Rattle.std.specs.Option.{option_or}
+use Rattle.std.specs.Prelude.{is_some}
+use Rattle.upload.specs.Accepted.{is_named, latest}
+use Rattle.upload.specs.Wear.{ErasesWorn, erases_of_record, journal_of_components, one_unless_erased, sector_in, worn, worn_in, worn_of, worn_slot}
 use Rattle.upload.proofs.AcceptRow.{same_state}
 use Rattle.upload.proofs.Writing.{behind_at, next_sector, sector_place}
 
@@ -217,16 +219,16 @@ worn_kept map touched old new image keeps slot trailer =
 -- The first component names its image.
 named_here : (cs : List Component) (c : Component) (i : ℕ) → (c.image == i) ≡ true → is_named (c ∷ cs) i ≡ true
 named_here cs c i e =
-    ap (λ t. is_some (or_else (latest cs i) (if t then Some c else None))) e ∙ by (latest cs i) where
-      by : (other : Option Component) → is_some (or_else other (Some c)) ≡ true
+    ap (λ t. is_some (option_or (latest cs i) (if t then Some c else None))) e ∙ by (latest cs i) where
+      by : (other : Option Component) → is_some (option_or other (Some c)) ≡ true
       by None = refl
       by (Some d) = refl
 
 named_besides : (cs : List Component) (c : Component) (i : ℕ) → (c.image == i) ≡ false
     → is_named (c ∷ cs) i ≡ is_named cs i
 named_besides cs c i e =
-    ap (λ t. is_some (or_else (latest cs i) (if t then Some c else None))) e ∙ by (latest cs i) where
-      by : (other : Option Component) → is_some (or_else other None) ≡ is_some other
+    ap (λ t. is_some (option_or (latest cs i) (if t then Some c else None))) e ∙ by (latest cs i) where
+      by : (other : Option Component) → is_some (option_or other None) ≡ is_some other
       by None = refl
       by (Some d) = refl
 
@@ -286,6 +288,12 @@ worn_next map old mid new cs i d lt keeps none one before =
       worn_less map mid new image later keeps none,
       one_of (is_named later image) (worn map mid image),
     )
+
+-- What opening the slots of the next component and those after it asks a journal for.
+pub journal_next : (map : SectorMap) (cs : List Component) (i : ℕ) (d : Component) → i < length cs
+    → journal_of_components map (drop i cs)
+    ≡ (44 + 12 * slot_sectors map (get_or cs i d).image) + journal_of_components map (drop (i + 1) cs)
+journal_next map cs i d lt = ap (λ l. journal_of_components map l) (drop_more cs i d lt)
 
 -- No component is left to count.
 pub worn_last : (map : SectorMap) (chip : Chip) (cs : List Component) (i : ℕ) → length cs ≤ i

@@ -1,11 +1,12 @@
 -- The step of a machine that takes a manifest.
-use Rattle.std.specs.Prelude.{◌≡◌, ◌⊎◌, ℕ, ◌<◌, ◌≤◌, ◌==◌, ◌&&◌, Bool, true, false, List, [], ◌∷◌, length, Option, Some, None, Result, Ok, Err, All, if◌then◌else◌}
+use Rattle.std.specs.Prelude.{◌≡◌, ◌⊎◌, ℕ, ◌*◌, ◌<◌, ◌≤◌, ◌==◌, ◌&&◌, Bool, true, false, List, [], ◌∷◌, length, Option, Some, None, Result, Ok, Err, All, is_some, option_map, if◌then◌else◌}
+use Rattle.std.specs.Option.{option_or}
 use Rattle.flash_model.specs.declared.error.FlashError.TheVariants as flash
 use Rattle.sector_map.specs.declared.layout.SectorMap.{SectorMap}
 use Rattle.sector_map.specs.declared.layout.Side.TheVariants.{Primary, Secondary}
 use Rattle.sector_map.specs.Part.{Part, Slot, TrailerOf, Scratch, Log, same_side}
 use Rattle.flash_model.specs.Chip.{Chip, IsErased}
-use Rattle.sector_map.specs.Map.{length_of, start_of}
+use Rattle.sector_map.specs.Map.{length_of, slot_sectors, start_of}
 use Rattle.flash_model.specs.Units.{are_erased}
 use Rattle.trailer.specs.Fields.{erased_fields, trailer_bytes}
 use Rattle.trailer.specs.Standing.{kind_of}
@@ -16,26 +17,17 @@ use Rattle.upload.specs.declared.error.UploadError.{UploadError}
 use Rattle.upload.specs.declared.error.UploadError.TheVariants as no
 use Rattle.upload.specs.declared.sessions.Upload.{Upload}
 use Rattle.upload.specs.View.{View}
-use Rattle.upload.specs.Device.{DeviceState, Machine, Session, Wanted, closed}
+use Rattle.upload.specs.Device.{DeviceState, Machine, Session, closed}
 use Rattle.common.specs.Bytes.{Starts}
 use Rattle.upload.specs.Sessions.{IsWritten, upload_at}
 use Rattle.upload.specs.Withdrawal.{IsKeptOrGone}
 
 -- ---- what a manifest names
 
--- The first component or, if there is none, the other.
-abbrev pub or_else : Option Component → Option Component → Option Component
-or_else None other = other
-or_else (Some c) other = Some c
-
 -- The last component that names an image.
 abbrev pub latest : List Component → ℕ → Option Component
 latest [] i = None
-latest (c ∷ cs) i = or_else (latest cs i) (if c.image == i then Some c else None)
-
-abbrev pub is_some : Option Component → Bool
-is_some None = false
-is_some (Some c) = true
+latest (c ∷ cs) i = option_or (latest cs i) (if c.image == i then Some c else None)
 
 -- Whether a component names the image.
 abbrev pub is_named : List Component → ℕ → Bool
@@ -63,18 +55,14 @@ AreThere map cs = All (λ c. c.image < map.images) cs
 
 -- Each component fits the slot of its image.
 abbrev pub AllFit : SectorMap → List Component → Type 0
-AllFit map cs = All (λ c. c.size ≤ length_of map (Slot c.image Secondary)) cs
-
--- These bytes are an intact image with this digest entry.
-abbrev pub HasDigest : List ℕ → List ℕ → Type 0
-HasDigest bytes digest = (description : Desc) × IsIntact bytes description
-    × (description.digest ≡ digest)
+AllFit map cs = All (λ c. c.size ≤ slot_sectors map c.image * map.sector_size) cs
 
 -- What runs has the digest asked for, if any (RFC 9124, "Precursor Image Digest Condition").
 abbrev pub IsPrecursor : Option (List ℕ) → Option (List ℕ) → Type 0
 IsPrecursor None running = Unit
 IsPrecursor (Some digest) None = ⊥
-IsPrecursor (Some digest) (Some bytes) = HasDigest bytes digest
+IsPrecursor (Some digest) (Some bytes) =
+    (description : Desc) × IsIntact bytes description × (description.digest ≡ digest)
 
 -- Each component follows the image that runs: its precursor, if it names one.
 abbrev pub AllFollow : DeviceState → List Component → Type 0
@@ -91,7 +79,7 @@ pub record MayAccept (map : SectorMap) (s : DeviceState) (sequence : ℕ) (cs : 
 abbrev pub FrontHasDigest : List ℕ → Option (List ℕ) → Type 0
 FrontHasDigest slot None = Unit
 FrontHasDigest slot (Some digest) =
-    (bytes : List ℕ) × Starts slot bytes × HasDigest bytes digest
+    (bytes : List ℕ) × Starts slot bytes × IsPrecursor (Some digest) (Some bytes)
 
 -- Each component follows the image that the primary slot of its image begins with.
 abbrev pub AllFollowAt : View → List Component → Type 0
@@ -110,31 +98,16 @@ AreBlank map chip cs = All (λ c. IsBlank map chip c.image) cs
 
 -- The session that is opened for a component.
 abbrev pub opened : Component → Session
-opened c = record {
-  size = c.size;
-  digest = c.digest;
-  kind = kind_of c.permanent;
-  received = [];
-}
-
--- The session of an image after a manifest: an empty one if a component names it.
-abbrev pub session_after : Option Component → Option Session → Option Session
-session_after None before = before
-session_after (Some c) before = Some (opened c)
-
--- The request for an image after a manifest: none if a component names it.
-abbrev pub request_after : Option Component → Option Wanted → Option Wanted
-request_after None before = before
-request_after (Some c) before = None
+opened c = record { size = c.size; digest = c.digest; kind = kind_of c.permanent; received = [] }
 
 -- The manifest's sequence is kept, and each named image has an empty session and no request.
 abbrev pub accepted : Machine → ℕ → List Component → Machine
 accepted m sequence cs = record m {
   kept = record m.kept {
     sequence = sequence;
-    request = λ i. request_after (latest cs i) (m.kept.request i);
+    request = λ i. if is_some (latest cs i) then None else m.kept.request i;
   };
-  session = λ i. session_after (latest cs i) (m.session i);
+  session = λ i. option_or (option_map opened (latest cs i)) (m.session i);
 }
 
 -- After an interrupted Accept: the old sequence and all requests, or the new sequence and each

@@ -21,7 +21,7 @@ use Rattle.upload.specs.Steady.{IsSteadyAt}
 use Rattle.upload.specs.Sessions.{AllClosed, AllOpenAt, IsUpAt}
 use Rattle.upload.specs.Ending.{EndsUpload, is_flash}
 use Rattle.upload.specs.Accepted.{Accepts, AreBlank, IsAcceptCut, accepted_parts}
-use Rattle.upload.specs.Wear.{ErasesWorn, erases_of_record}
+use Rattle.upload.specs.Wear.{ErasesWorn, erases_of_record, journal_of_components}
 use Rattle.upload.specs.Taking.{EndsAccept, IsTaken, LeavesAccept}
 
 -- The log has this state, which fits the table of records. A sequence number isn't below the
@@ -47,6 +47,8 @@ pub record RecordsSequence (map : SectorMap) (state : State) (sequence : ℕ) (o
       ≡ old.erases + erases_of_record map old state.sequence sequence)
   -- An equal sequence number writes nothing.
   pub idle : state.sequence ≡ sequence → new ≡ old
+  -- It asks a journal for at most 120 bytes.
+  pub journal : new.journaled ≤ old.journaled + 120
   pub ends : Ends result old new
 
 -- A call applies a manifest that passed all checks.
@@ -71,6 +73,8 @@ pub record WritesManifest (map : SectorMap) (state : State) (sequence : ℕ) (cs
   pub equal : state.sequence ≡ sequence → part_of map new Log ≡ part_of map old Log
   -- If the number is equal and all listed slots and trailers are erased, nothing is written.
   pub idle : state.sequence ≡ sequence → AreBlank map old cs → new ≡ old
+  -- It asks a journal for at most 120 bytes, and those that opening each slot takes.
+  pub journal : new.journaled ≤ old.journaled + (120 + journal_of_components map cs)
   pub ends : Ends result old new
 
 -- A call accepts a manifest if no check fails.
@@ -98,6 +102,9 @@ pub record TakesManifest (map : SectorMap) (manifest : Manifest) (told tnew : Li
   pub idle : (state : State) → state_of map old ≡ Some state
       → state.sequence ≡ manifest.sequence → AreBlank map old manifest.components.items
       → new ≡ old
+  -- It asks a journal for at most 120 bytes, and those that opening each slot takes.
+  pub journal : new.journaled ≤ old.journaled
+      + (120 + journal_of_components map manifest.components.items)
   pub ends : EndsUpload result old new
 
 -- A call of `accept`, with the table of uploads before and after it.
@@ -134,4 +141,7 @@ pub record AcceptsManifest (map : SectorMap) (manifest : Manifest)
   pub row : (m : Machine) → IsUpAt (view map old) told m
       → (next : Machine) × Accepts map m manifest.sequence manifest.components.items result next
       × IsUpAt (view map new) tnew next
+  -- It asks a journal for at most 120 bytes, and those that opening each slot takes.
+  pub journal : new.journaled ≤ old.journaled
+      + (120 + journal_of_components map manifest.components.items)
   pub ends : EndsUpload result old new

@@ -41,6 +41,8 @@ pub record AddsBytes (map : SectorMap) (image : ℕ) (before after : Upload) (by
   pub held : length before.held.items + length bytes < 8 → IsOk result × (new ≡ old)
   -- Other bytes are added only if the flash is on.
   pub on : OnOk result (8 ≤ length before.held.items + length bytes → old.is_on ≡ true)
+  -- It asks a journal for at most 31 bytes and the number of these bytes.
+  pub journal : new.journaled ≤ old.journaled + (31 + length bytes)
   pub ends : Ends result old new
 
 -- A call of `piece`, with the table of uploads before and after it.
@@ -87,6 +89,8 @@ pub record TakesPiece (map : SectorMap) (image : ℕ) (bytes : List ℕ)
       → (next : Machine) × Pieces m image bytes result next × IsUpAt (view map new) tnew next
   -- If the call succeeds, no sector is erased.
   pub erases : OnOk result (new.erases ≡ old.erases)
+  -- It asks a journal for at most 31 bytes and the number of these bytes.
+  pub journal : new.journaled ≤ old.journaled + (31 + length bytes)
   pub ends : EndsUpload result old new
 
 -- A call holds bytes in memory.

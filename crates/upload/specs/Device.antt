@@ -39,10 +39,6 @@ pub record Machine : Type 0 where
   pub session : ℕ → Option Session
   pub is_booted : Bool
 
--- No session is open.
-abbrev pub no_session : ℕ → Option Session
-no_session image = None
-
 -- The machine with its sessions closed and with this state kept.
 abbrev pub closed : Machine → DeviceState → Machine
-closed machine kept = record machine { kept = kept; session = no_session }
+closed machine kept = record machine { kept = kept; session = λ i. None }

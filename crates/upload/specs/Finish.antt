@@ -29,10 +29,6 @@ pub record IsGoodUpload (session : Session) : Type 0 where
 abbrev pub HasSize : Session → Type 0
 HasSize session = length session.received ≡ session.size
 
--- An upload has the length and the digest that the manifest gives.
-abbrev pub HasSizeAndDigest : Session → Type 0
-HasSizeAndDigest session = HasSize session × (sha256 session.received ≡ session.digest)
-
 -- A session ends: its image is requested, or the first check that fails is returned. If the flash
 -- stops the call, the length was right, nothing was requested, and all sessions end; a power cut
 -- may leave a good upload requested, and nothing else changed.
@@ -43,7 +39,8 @@ Finishes m i session (Err no.SizeWrong) next =
     (HasSize session → ⊥) × (next ≡ with_session m i None)
 Finishes m i session (Err no.DigestWrong) next = HasSize session
     × (sha256 session.received ≢ session.digest) × (next ≡ with_session m i None)
-Finishes m i session (Err (no.NotAnImage fault)) next = HasSizeAndDigest session
+Finishes m i session (Err (no.NotAnImage fault)) next =
+    (HasSize session × (sha256 session.received ≡ session.digest))
     × IsFirstFault session.received fault × (next ≡ with_session m i None)
 Finishes m i session (Err (no.Flash flash.Cut)) next = HasSize session × (m.kept.request i ≡ None)
     × ((next ≡ closed m m.kept) ⊎ (IsGoodUpload session
@@ -80,7 +77,8 @@ EndsFinish w i session (Err no.SizeWrong) =
     (HasSize session → ⊥) × (w.trailer i Secondary ≡ erased_fields)
 EndsFinish w i session (Err no.DigestWrong) = HasSize session
     × (sha256 session.received ≢ session.digest) × (w.trailer i Secondary ≡ erased_fields)
-EndsFinish w i session (Err (no.NotAnImage fault)) = HasSizeAndDigest session
+EndsFinish w i session (Err (no.NotAnImage fault)) =
+    (HasSize session × (sha256 session.received ≡ session.digest))
     × IsFirstFault session.received fault × (w.trailer i Secondary ≡ erased_fields)
 EndsFinish w i session (Err (no.Flash flash.Cut)) =
     HasSize session × ((request_in w i ≡ None) ⊎ IsFinishedAt w i session)

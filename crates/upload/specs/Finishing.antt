@@ -1,6 +1,6 @@
 -- Contracts of the calls that finish an upload: one record for each call.
-use Rattle.std.specs.Prelude.{◌≡◌, ℕ, ◌+◌, ◌-◌, true, false, List, [], length, take, Option, Some}
-use Rattle.std.specs.Prelude.{None, Result, Err, IfErr, IfOk, IsErrOf, OnOk}
+use Rattle.std.specs.Prelude.{◌≡◌, ℕ, ◌+◌, ◌-◌, ◌≤◌, true, false, List, [], length, take, Option}
+use Rattle.std.specs.Prelude.{Some, None, Result, Err, IfErr, IfOk, IsErrOf, OnOk}
 use Rattle.sha2.specs.Sha256.{sha256}
 use Rattle.flash_model.specs.declared.error.FlashError.{FlashError}
 use Rattle.flash_model.specs.declared.error.FlashError.TheVariants.{Off}
@@ -78,6 +78,8 @@ pub record FinishesTaken (map : SectorMap) (image : ℕ) (upload : Upload) (old 
   pub refused : RefusesFinish map image (Some upload) old new result
   -- If all bytes were received and the flash is off, that is the result.
   pub off : old.is_on ≡ false → upload.received ≡ upload.size → IsErrOf result (Flash Off)
+  -- It asks a journal for at most 68 bytes.
+  pub journal : new.journaled ≤ old.journaled + 68
   pub ends : EndsUpload result old new
 
 -- A call of `finish`, with the table of uploads before and after it.
@@ -109,4 +111,6 @@ pub record FinishesUpload (map : SectorMap) (image : ℕ) (told tnew : List (Opt
       → (next : Machine) × FinishRow m image result next × IsUpAt (view map new) tnew next
   -- If the call succeeds, no sector is erased.
   pub erases : OnOk result (new.erases ≡ old.erases)
+  -- It asks a journal for at most 68 bytes.
+  pub journal : new.journaled ≤ old.journaled + 68
   pub ends : EndsUpload result old new

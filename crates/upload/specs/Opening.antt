@@ -1,11 +1,11 @@
 -- Contracts of the calls that open uploads: one record for each call.
-use Rattle.std.specs.Prelude.{◌≡◌, ℕ, ◌+◌, List, [], Option, Some, Result, OnOk}
+use Rattle.std.specs.Prelude.{◌≡◌, ℕ, ◌+◌, ◌*◌, ◌≤◌, List, [], Option, Some, Result, OnOk}
 use Rattle.flash_model.specs.declared.error.FlashError.{FlashError}
 use Rattle.flash_model.specs.Chip.{Chip, Ends}
 use Rattle.sector_map.specs.declared.layout.SectorMap.{SectorMap}
 use Rattle.sector_map.specs.declared.layout.Side.TheVariants.{Secondary}
 use Rattle.sector_map.specs.Part.{incoming_of}
-use Rattle.sector_map.specs.Map.{Keeps}
+use Rattle.sector_map.specs.Map.{Keeps, slot_sectors}
 use Rattle.trailer.specs.Fields.{erased_fields, fields_at}
 use Rattle.trailer.specs.Standing.{incoming_slot}
 use Rattle.manifest.specs.declared.manifest.Component.{Component}
@@ -15,7 +15,7 @@ use Rattle.upload.specs.Sessions.{IsWith, IsWritten}
 use Rattle.upload.specs.Withdrawal.{IsKeptOrGone}
 use Rattle.upload.specs.Accepted.{AreBlank, IsBlank, IsFresh, IsOpened, IsOpening, latest}
 use Rattle.upload.specs.Accepted.{named_parts}
-use Rattle.upload.specs.Wear.{worn, worn_of}
+use Rattle.upload.specs.Wear.{journal_of_components, worn, worn_of}
 
 -- A call withdraws the request of an image, and erases its secondary slot.
 pub record OpensSlot (map : SectorMap) (image : ℕ) (old new : Chip) {T : Type 0}
@@ -33,6 +33,8 @@ pub record OpensSlot (map : SectorMap) (image : ℕ) (old new : Chip) {T : Type 
   pub erased : OnOk result (worn map new image ≡ 0)
   -- If slot and trailer were erased, nothing changes.
   pub idle : IsBlank map old image → new ≡ old
+  -- It asks a journal for at most 44 bytes, and 12 for each sector of the slot.
+  pub journal : new.journaled ≤ old.journaled + (44 + 12 * slot_sectors map image)
   pub ends : Ends result old new
 
 -- A call opens an upload for a component, in a table of uploads.
@@ -57,4 +59,6 @@ pub record OpensUploads (map : SectorMap) (cs : List Component) (told tnew : Lis
   pub erases : OnOk result (new.erases ≡ old.erases + worn_of map old cs)
   -- If all these parts were erased, nothing changes.
   pub idle : AreBlank map old cs → new ≡ old
+  -- It asks a journal for at most the bytes that opening each slot takes.
+  pub journal : new.journaled ≤ old.journaled + journal_of_components map cs
   pub ends : Ends result old new

@@ -30,7 +30,8 @@ HasRoom session bytes = length session.received + length bytes ≤ session.size
 -- changes: nothing was requested for the image.
 abbrev pub Pieces : Machine → ℕ → List ℕ → Result Unit UploadError → Machine → Type 0
 Pieces m i bytes (Ok done) next = (session : Session) × (m.session i ≡ Some session)
-    × HasRoom session bytes × (next ≡ with_session m i (Some (appended session bytes)))
+    × HasRoom session bytes × (next ≡ with_session m i
+    (Some (record session { received = session.received ++ bytes })))
 Pieces m i bytes (Err no.NoSession) next = (m.session i ≡ None) × (next ≡ m)
 Pieces m i bytes (Err no.TooMuch) next = (session : Session) × (m.session i ≡ Some session)
     × (session.size < length session.received + length bytes)

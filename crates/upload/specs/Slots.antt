@@ -38,6 +38,8 @@ pub record Appends (map : SectorMap) (image at : ℕ) (bytes : List ℕ) (width 
   pub on : OnOk result (0 < length bytes → old.is_on ≡ true)
   -- No sector is erased, even if the call fails.
   pub erases : new.erases ≡ old.erases
+  -- It asks a journal for at most 12 bytes and those of the units.
+  pub journal : new.journaled ≤ old.journaled + (12 + width)
   pub ends : Ends result old new
 
 -- A call erases a sector of a secondary slot, given by its index.
@@ -59,6 +61,8 @@ pub record ErasesSector (map : SectorMap) (image index : ℕ) (old new : Chip) {
   -- If the call succeeds, one sector is erased exactly if this one wasn't erased before.
   pub worn : OnOk result (new.erases ≡ old.erases
       + one_unless_erased (sector_in map.sector_size (incoming_slot map old image) index))
+  -- It asks a journal for at most 12 bytes.
+  pub journal : new.journaled ≤ old.journaled + 12
   pub ends : Ends result old new
 
 -- A call erases a secondary slot.
@@ -75,4 +79,6 @@ pub record ErasesSlot (map : SectorMap) (image : ℕ) (old new : Chip) {T : Type
   pub erases : OnOk result (new.erases ≤ old.erases + slot_sectors map image)
   -- If the call succeeds, as many sectors are erased as weren't erased before.
   pub worn : OnOk result (new.erases ≡ old.erases + worn_slot map old image)
+  -- It asks a journal for at most 12 bytes for each sector of the slot.
+  pub journal : new.journaled ≤ old.journaled + 12 * slot_sectors map image
   pub ends : Ends result old new

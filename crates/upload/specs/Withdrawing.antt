@@ -28,6 +28,8 @@ pub record WithdrawsStanding (map : SectorMap) (image : ℕ) (old new : Chip)
   pub erases : OnOk result (new.erases ≡ old.erases + 2)
   -- If the flash is off, that is the result.
   pub off : old.is_on ≡ false → IsErrOf result (Flash Off)
+  -- It asks a journal for at most 44 bytes.
+  pub journal : new.journaled ≤ old.journaled + 44
   pub ends : EndsUpload result old new
 
 -- A call of `withdraw`, with the table of uploads before and after it.
@@ -52,4 +54,6 @@ pub record WithdrawsRequest (map : SectorMap) (image : ℕ) (told tnew : List (O
   -- On a flash that holds a state, the call is the step of a machine that knows complete images.
   pub row : (m : Machine) → IsUpAt (view map old) told m
       → (next : Machine) × Withdraws m image result next × IsUpAt (view map new) tnew next
+  -- It asks a journal for at most 44 bytes.
+  pub journal : new.journaled ≤ old.journaled + 44
   pub ends : EndsUpload result old new

@@ -1,4 +1,4 @@
-use Rattle.std.proofs.Common.{◌≡◌, ◌∙◌, List, ap, subst, Err, Ok, true≢false}
+use Rattle.std.proofs.Common.{◌≡◌, ◌+◌, ◌≤◌, ◌∙◌, List, ap, subst, Err, Ok, true≢false}
 use Rattle.flash_model.specs.Chip.{Chip}
 use Rattle.flash_model.proofs.Ending.{no_error}
 use Rattle.sector_map.specs.Map.{Keeps}
@@ -6,6 +6,7 @@ use Rattle.manifest.specs.declared.manifest.Component.{Component}
 use Rattle.upload.specs.Accepted.{accepted_parts}
 use Rattle.upload.specs.Ending.{EndsUpload}
 use Rattle.upload.specs.View.{view}
+use Rattle.upload.specs.Wear.{journal_of_components}
 use Rattle.upload.specs.declared.error.UploadError.TheVariants as no
 use Rattle.upload.specs.Taking.{CutsAccept, IsTaken, LeavesAccept}
 use Rattle.upload.proofs.Ends.{ends_flash, ends_well, err_passed, same_off}
@@ -48,6 +49,8 @@ returns g c =
           equal_blank map old _ after state c.in_ok-state.state sequence _ _ c.judge_manifest.ensures.same
           c.as_slice-components.ensures.value read c.in_ok-state.ensures.ok.newer.read equal blank
           c.write_manifest.ensures.idle;
+      journal = given (λ chip xs. after.journaled ≤ chip.journaled + (120 + journal_of_components map xs))
+          c.write_manifest.ensures.journal;
       ends = subst (λ chip. EndsUpload (Ok tt) chip after) c.judge_manifest.ensures.same
           (ends_well _ _ _ _ c.in_ok-write_manifest.ensures.ends);
     }
@@ -82,6 +85,8 @@ returns-in_err-write_manifest g c =
           equal_blank map old _ after state c.in_ok-state.state sequence _ _ c.judge_manifest.ensures.same
           c.as_slice-components.ensures.value read c.in_ok-state.ensures.ok.newer.read equal blank
           c.write_manifest.ensures.idle;
+      journal = given (λ chip xs. after.journaled ≤ chip.journaled + (120 + journal_of_components map xs))
+          c.write_manifest.ensures.journal;
       ends = subst (λ chip. EndsUpload {T = Unit} (Err (no.Flash error)) chip after) c.judge_manifest.ensures.same
           (ends_flash error _ _ c.in_err-write_manifest.ensures.ends);
     })

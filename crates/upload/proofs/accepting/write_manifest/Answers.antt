@@ -1,4 +1,4 @@
-use Rattle.std.proofs.Common.{refl, ◌∙◌, ap, subst, sym}
+use Rattle.std.proofs.Common.{refl, ◌∙◌, ap, arith, subst, sym}
 use Rattle.sector_map.specs.Part.{Log}
 use Rattle.sector_map.specs.Map.{part_of}
 use Rattle.std.proofs.lemmas.Result.{on_ok_weaker}
@@ -27,6 +27,7 @@ returns-in_err-record_sequence g c =
       erases = tt;
       equal = λ equal. ap (λ chip. part_of map chip Log) (c.record_sequence.ensures.idle equal);
       idle = λ equal blank. c.record_sequence.ensures.idle equal;
+      journal = omega (arith, c.record_sequence.ensures.journal);
       ends = c.in_err-record_sequence.ensures.ends;
     })
 
@@ -63,6 +64,7 @@ returns g c =
       idle = λ equal blank.
           let same = c.record_sequence.ensures.idle equal in
           c.open_all.ensures.idle (subst (λ chip. AreBlank map chip cs) (sym same) blank) ∙ same;
+      journal = omega (arith, c.record_sequence.ensures.journal, c.open_all.ensures.journal);
       ends = ends_after _ _ (g.F.Flash.chip c.record_sequence.new.flash) _ c.in_ok-record_sequence.ensures.ends.uncut
           c.in_ok-record_sequence.ensures.ends.asleep c.open_all.ensures.ends;
     }

@@ -23,6 +23,7 @@ returns-then-len-bytes-lt-UNIT g c =
       held = λ few. (refl, refl);
       on = λ enough. absurd (
           let few = c.if-len-bytes-lt-UNIT.true in omega (arith, c.len.ensures.value, few, enough));
+      journal = omega arith;
       ends = reads_well _ _ _ refl;
     }
 

@@ -112,6 +112,7 @@ returns-in_err-write_slot g c =
       erases = tt;
       held = λ few. absurd (let enough = c.requires.enough in omega (arith, few, enough));
       on = tt;
+      journal = omega (arith, full, c.write_slot.ensures.journal);
       ends = c.in_err-write_slot.ensures.ends;
     })
 
@@ -132,6 +133,15 @@ returns-in_err-write_slot-2 g c =
       erases = tt;
       held = λ few. absurd (let enough = c.requires.enough in omega (arith, few, enough));
       on = tt;
+      journal = omega (
+        arith,
+        full,
+        was.few,
+        units_fit _ _ _ _ _ _ _ c.len-2.ensures.value was.few c.split_at.ensures.back_len
+            c.split_at-2.ensures.front_len c.split_at-2.ensures.back_len,
+        c.write_slot.ensures.journal,
+        c.write_slot-2.ensures.journal,
+      );
       ends = ends_after _ _ (g.F.Flash.chip c.write_slot.new.flash) _ first.uncut first.asleep
           c.in_err-write_slot-2.ensures.ends;
     })
@@ -191,6 +201,14 @@ returns g c =
       erases = c.write_slot-2.ensures.erases ∙ c.write_slot.ensures.erases;
       held = λ few. absurd (let enough = c.requires.enough in omega (arith, few, enough));
       on = λ enough. c.in_ok-write_slot.ensures.on (omega (arith, full));
+      journal = omega (
+        arith,
+        full,
+        was.few,
+        fits,
+        c.write_slot.ensures.journal,
+        c.write_slot-2.ensures.journal,
+      );
       ends = ends_well _ _ _ (uncut_trans _ (g.F.Flash.chip c.write_slot.new.flash) _ one.uncut two.uncut)
           (asleep_trans _ (g.F.Flash.chip c.write_slot.new.flash) _ one.uncut one.asleep two.asleep);
     }

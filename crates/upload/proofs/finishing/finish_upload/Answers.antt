@@ -1,6 +1,7 @@
 use Rattle.std.proofs.Common.{◌-◌, arith, ◌∙◌, ap, subst}
 use Rattle.std.proofs.Common.{Err, Ok, length-append, refl, sym}
 use Rattle.std.proofs.lemmas.Grind.{common_steps}
+use Rattle.flash_model.specs.Chip.{Chip}
 use Rattle.flash_model.proofs.Ending.{no_error}
 use Rattle.sector_map.specs.declared.layout.Side.TheVariants.{Secondary}
 use Rattle.sector_map.specs.Part.{Slot, incoming_of, only}
@@ -62,6 +63,7 @@ returns-in_err-write_last g c =
       refused = stopped_finish _ _ _ _ _ c.in_err-write_last.field-0.0;
       off = λ off size. ap (λ error. Err (no.Flash error)) (off_stops c.in_err-write_last.field-0.0 _ _
           c.in_err-write_last.ensures.ends off);
+      journal = omega (arith, c.write_last.ensures.journal);
       ends = ends_flash c.in_err-write_last.field-0.0 _ _ c.in_err-write_last.ensures.ends;
     })
 
@@ -87,6 +89,7 @@ returns-in_err-judge g c =
           (last_unit map c.args.image c.len.result c.args.upload _ _ _ _ n c.judge.ensures.same c.write_last.ensures)
           (ap (λ chip. chip.erases) c.judge.ensures.same ∙ c.write_last.ensures.erases);
       off = λ off size. c.in_err-judge.ensures.off (first.uncut.on ∙ off);
+      journal = omega (arith, c.write_last.ensures.journal, ap (λ (chip : Chip). chip.journaled) c.judge.ensures.same);
       ends = ends_later _ _ (g.F.Flash.chip c.write_last.new.flash) _ first.uncut first.asleep
           c.in_err-judge.ensures.ends;
     })
@@ -107,6 +110,12 @@ returns g c =
           ∙ c.write_last.ensures.erases;
       refused = done_finish _ _ _ _ _;
       off = λ off size. absurd (no_error tt _ (c.in_ok-judge.ensures.off (first.uncut.on ∙ off)));
+      journal = omega (
+        arith,
+        c.write_last.ensures.journal,
+        ap (λ (chip : Chip). chip.journaled) c.judge.ensures.same,
+        c.request.ensures.journal,
+      );
       ends = ends_later _ _ (g.F.Flash.chip c.write_last.new.flash) _ first.uncut first.asleep
           (subst (λ chip. EndsUpload (Ok tt) chip (g.F.Flash.chip c.request.new.flash)) c.judge.ensures.same
           (ends_well _ _ _ _ c.in_ok-request.ensures.ends));
@@ -129,6 +138,12 @@ returns-in_err-request g c =
       erases = tt;
       refused = stopped_finish _ _ _ _ _ c.in_err-request.field-0.0;
       off = λ off size. absurd (no_error tt _ (c.in_ok-judge.ensures.off (first.uncut.on ∙ off)));
+      journal = omega (
+        arith,
+        c.write_last.ensures.journal,
+        ap (λ (chip : Chip). chip.journaled) c.judge.ensures.same,
+        c.request.ensures.journal,
+      );
       ends = ends_later _ _ (g.F.Flash.chip c.write_last.new.flash) _ first.uncut first.asleep
           (subst (λ chip. EndsUpload {T = Unit} (Err (no.Flash c.in_err-request.field-0.0)) chip
           (g.F.Flash.chip c.request.new.flash)) c.judge.ensures.same

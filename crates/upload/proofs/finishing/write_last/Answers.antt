@@ -45,5 +45,6 @@ returns g c =
           (ok front long written)) c.write_slot.ensures.ok;
       on = on_ok_weaker c.write_slot.result (λ on. λ some. on (omega (arith, whole))) c.write_slot.ensures.on;
       erases = c.write_slot.ensures.erases;
+      journal = omega (arith, whole, c.write_slot.ensures.journal);
       ends = c.write_slot.ensures.ends;
     }

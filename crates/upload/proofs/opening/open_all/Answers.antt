@@ -8,7 +8,7 @@ use Rattle.upload.specs.Accepted.{IsBlank, IsOpened, latest, named_parts}
 use Rattle.upload.proofs.Views.{view_kept, view_long}
 use Rattle.upload.proofs.Opened.{first_parts, keeps_more, latest_at, latest_less, opening_more, opening_wider, opened_more, opened_none}
 use Rattle.upload.proofs.Ends.{err_passed}
-use Rattle.upload.proofs.Worn.{worn_last, worn_next}
+use Rattle.upload.proofs.Worn.{journal_next, worn_last, worn_next}
 use Rattle.upload.proofs.opening.open_all.Goals as goal
 
 abbrev blank : Component
@@ -19,6 +19,7 @@ loop-component-init g c = record {
   outside = keeps_refl _ _ _;
   opened = opened_none _ _ c.args.components.now;
   erases = omega arith;
+  journal = omega arith;
   idle = λ still. refl;
   uncut = uncut_refl _;
   asleep = λ off. refl;
@@ -49,6 +50,12 @@ returns-in_err-open_one g c =
           c.open_one.ensures.opens.either c.loop-component.invariant.opened.opening);
       opened = tt;
       erases = tt;
+      journal = omega (
+        arith,
+        journal_next map cs c.loop-component.component-index blank c.loop-component-test.true,
+        c.open_one.ensures.opens.journal,
+        c.loop-component.invariant.journal,
+      );
       idle = λ still.
           let same = c.loop-component.invariant.idle still in
           c.open_one.ensures.opens.idle (subst (λ chip. IsBlank map chip
@@ -75,6 +82,12 @@ loop-component-preserved g c =
       erases = worn_next map _ _ _ cs c.loop-component.component-index blank c.loop-component-test.true
           c.open_one.ensures.opens.outside c.in_ok-open_one.ensures.opens.erased c.in_ok-open_one.ensures.opens.erases
           c.loop-component.invariant.erases;
+      journal = omega (
+        arith,
+        journal_next map cs c.loop-component.component-index blank c.loop-component-test.true,
+        c.open_one.ensures.opens.journal,
+        c.loop-component.invariant.journal,
+      );
       idle = λ still.
           let same = c.loop-component.invariant.idle still in
           c.open_one.ensures.opens.idle (subst (λ chip. IsBlank c.args.map.now chip
@@ -102,6 +115,7 @@ returns g c =
       opening = opened.opening;
       opened = opened;
       erases = omega (arith, worn_last map new cs c.loop-component.component-index past, all.erases);
+      journal = omega (arith, all.journal);
       idle = all.idle;
       ends = ends_well _ _ _ all.uncut all.asleep;
     }

@@ -1,4 +1,4 @@
-use Rattle.std.proofs.Common.{◌≡◌, ◌∙◌, ap, refl, inr, subst, sym}
+use Rattle.std.proofs.Common.{◌≡◌, ◌∙◌, ap, arith, refl, inr, subst, sym}
 use Rattle.std.proofs.lemmas.Result.{on_ok_weaker}
 use Rattle.sector_map.specs.declared.layout.Side.TheVariants.{Secondary}
 use Rattle.upload.specs.View.{view}
@@ -27,6 +27,7 @@ returns-in_err-withdraw g c = rw (err_passed _ _ c.from_residual.ensures.1) (rec
   erased = tt;
   idle = λ blank. c.withdraw.ensures.idle
       (front_blank c.args.map.now _ c.args.image c.requires.laid_out c.requires.there blank.slot) blank.trailer;
+  journal = omega (arith, c.withdraw.ensures.journal);
   ends = c.in_err-withdraw.ensures.ends;
 })
 
@@ -58,6 +59,7 @@ returns g c =
           (ap are_erased (c.erase_slot.ensures.outside.parts (TrailerOf c.args.image Secondary) refl)
           ∙ c.in_ok-withdraw.ensures.bytes)) c.erase_slot.ensures.ok;
       idle = idle;
+      journal = omega (arith, c.withdraw.ensures.journal, c.erase_slot.ensures.journal);
       ends = ends_after _ _ (g.F.Flash.chip c.withdraw.new.flash) _ c.in_ok-withdraw.ensures.ends.uncut
           c.in_ok-withdraw.ensures.ends.asleep c.erase_slot.ensures.ends;
     }

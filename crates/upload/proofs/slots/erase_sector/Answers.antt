@@ -67,6 +67,7 @@ returns-then-branch g c =
         ap {B = ℕ} (λ t. if t then 0 else 1)
             (sym told ∙ c.if-branch.true),
       );
+      journal = omega (arith, c.is_erased.ensures.journal);
       ends = reads_well _ _ _ c.is_erased.ensures.same;
     }
 
@@ -93,5 +94,6 @@ returns g c =
           c.erase.ensures.erases;
       worn = on_ok_weaker c.erase.result (λ more. omega (arith, more, c.is_erased.ensures.erases, one))
           c.erase.ensures.erases;
+      journal = omega (arith, c.is_erased.ensures.journal, c.erase.ensures.journal);
       ends = subst (λ chip. Ends c.erase.result chip (g.F.Flash.chip c.erase.new.self)) same c.erase.ensures.ends;
     }

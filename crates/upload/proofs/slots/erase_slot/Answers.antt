@@ -29,6 +29,7 @@ returns g c =
       erases = omega (arith, c.loop-index-test.false, c.slot_sectors-index-end.ensures, all.erases);
       worn = subst (λ n. (g.F.Flash.chip c.loop-index.flash).erases ≡ (g.F.Flash.chip c.args.flash.now).erases
           + worn_in map.sector_size (incoming_slot map (g.F.Flash.chip c.args.flash.now) c.args.image) n) every all.worn;
+      journal = omega (arith, every, all.journal);
       ends = ends_well _ _ _ all.uncut all.asleep;
     }
 
@@ -43,6 +44,13 @@ returns-in_err-erase_sector g c =
           (rw c.slot_sectors-index-end.ensures at c.loop-index-test.true) all.idle c.erase_sector.ensures.idle;
       erases = tt;
       worn = tt;
+      journal = omega (
+        arith,
+        c.loop-index-test.true,
+        c.slot_sectors-index-end.ensures,
+        c.erase_sector.ensures.journal,
+        all.journal,
+      );
       ends = ends_after _ _ (g.F.Flash.chip c.loop-index.flash) _ all.uncut all.asleep
           c.in_err-erase_sector.ensures.ends;
     })
@@ -62,6 +70,7 @@ loop-index-preserved g c =
           c.in_ok-erase_sector.ensures.ok;
       uncut = uncut_trans _ (g.F.Flash.chip c.loop-index.flash) _ all.uncut c.in_ok-erase_sector.ensures.ends.uncut;
       erases = omega (arith, c.in_ok-erase_sector.ensures.erases, all.erases);
+      journal = omega (arith, c.erase_sector.ensures.journal, all.journal);
       worn = worn_more map _ _ c.args.image c.loop-index.index _ _ c.requires.laid_out laid lt all.outside.size
           all.behind all.worn c.in_ok-erase_sector.ensures.worn;
       behind = λ k low. c.erase_sector.ensures.sector.after k (omega (arith, low, place, next))

@@ -13,6 +13,7 @@ invariant-loop-index g l = record {
   erased : IsErased (g.F.Flash.chip l.flash) (start_of l.map (Slot l.image Secondary)) (l.index * l.map.sector_size);
   uncut : IsUncut (g.F.Flash.chip l.initial.flash) (g.F.Flash.chip l.flash);
   erases : (g.F.Flash.chip l.flash).erases ≤ (g.F.Flash.chip l.initial.flash).erases + l.index;
+  journal : (g.F.Flash.chip l.flash).journaled ≤ (g.F.Flash.chip l.initial.flash).journaled + 12 * l.index;
   worn : (g.F.Flash.chip l.flash).erases ≡ (g.F.Flash.chip l.initial.flash).erases
       + worn_in l.map.sector_size (incoming_slot l.map (g.F.Flash.chip l.initial.flash) l.image) l.index;
   behind : (k : ℕ) → start_of l.map (Slot l.image Secondary) + l.index * l.map.sector_size ≤ k

@@ -49,6 +49,7 @@ returns-then-is_empty g c =
       ok = λ front long was. rw (none, append-nil) was;
       on = λ some. absurd (no_bytes c.args.bytes.now none some);
       erases = refl;
+      journal = omega arith;
       ends = ends_well _ _ _ (uncut_refl _) (λ off. refl);
     }
 
@@ -68,5 +69,6 @@ returns g c = record {
       c.program.ensures.ok;
   on = on_ok_weaker c.program.result (λ on some. on) c.program.ensures.on;
   erases = c.program.ensures.erases;
+  journal = c.program.ensures.journal;
   ends = c.program.ensures.ends;
 }

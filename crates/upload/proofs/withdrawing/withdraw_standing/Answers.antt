@@ -30,5 +30,6 @@ returns g c =
           + (if are_erased (trailer_bytes map before image Secondary) then 0 else 1))
           c.standing.ensures.same c.in_ok-withdraw.ensures.erases);
       off = λ off. absurd (no_error _ _ (c.in_ok-standing.ensures.off off));
+      journal = rw c.standing.ensures.same at c.withdraw.ensures.journal;
       ends = search rules;
     }

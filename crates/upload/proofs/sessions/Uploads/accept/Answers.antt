@@ -20,5 +20,6 @@ returns g c =
       erases = taken.erases;
       closed = c.close_after.ensures.closed;
       row = accept_row map _ _ told _ _ sequence cs c.requires.there _ taken.accepts c.close_after.ensures;
+      journal = taken.journal;
       ends = taken.ends;
     }

@@ -28,6 +28,7 @@ returns g c =
       row = finish_row c.args.image _ _ kept told _ _ c.in-Some.upload c.in-Some.ensures.value c.take.ensures.rest
           _ c.finish_upload-answer.ensures.finish c.close_after.ensures;
       erases = c.finish_upload-answer.ensures.erases;
+      journal = c.finish_upload-answer.ensures.journal;
       ends = c.finish_upload-answer.ensures.ends;
     }
 

@@ -36,6 +36,7 @@ returns-then-room-bytes g c = record {
   row = piece_more c.args.image (view c.args.map.now (g.F.Flash.chip c.args.flash.now)) c.args.self.now.sessions _
       c.in-Some.upload c.args.bytes.now c.in-Some.ensures.value c.take.ensures.rest (search rules);
   erases = tt;
+  journal = omega arith;
   ends = ends_unstopped _ _ _ refl (λ off. refl) (uncut_refl _);
 }
 
@@ -74,6 +75,7 @@ returns-in-Ok g c =
       row = piece_done c.args.image _ _ kept told c.in-Some.upload c.in-Some.ensures.value _ c.args.bytes.now _ _
           c.take.ensures.rest c.put.ensures (let fits = at.1.fits in omega (arith, fits)) c.in-Ok.ensures.ok;
       erases = c.in-Ok.ensures.erases;
+      journal = c.add_bytes.ensures.journal;
       ends = ends_well _ _ _ _ c.in-Ok.ensures.ends;
     }
 
@@ -102,6 +104,7 @@ returns-in-Err g c =
       row = piece_cut c.args.image _ _ kept c.args.self.now.sessions c.in-Some.upload c.in-Some.ensures.value
           c.args.bytes.now c.in-Err.error _ c.close.ensures (let fits = at.1.fits in omega (arith, fits));
       erases = tt;
+      journal = c.add_bytes.ensures.journal;
       ends = ends_flash c.in-Err.error _ _ c.in-Err.ensures.ends;
     }
 

@@ -18,5 +18,6 @@ returns g c =
       erases = done.erases;
       table = c.close_after.ensures;
       row = withdraw_row c.args.image _ _ (omega arith) kept told _ _ done.withdraws c.close_after.ensures;
+      journal = done.journal;
       ends = done.ends;
     }
