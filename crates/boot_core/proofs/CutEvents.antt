@@ -8,7 +8,7 @@ use Rattle.machine.specs.Intake.{Setup}
 use Rattle.machine.specs.Passing.{StepsTo}
 use Rattle.machine.specs.Steps.{DeviceEvent, cut_of, cuts_in}
 use Rattle.machine.specs.declared.reply.Reply.{Reply}
-use Rattle.boot_core.specs.CutEvents.{CutsEach, DueEach, IsCutAsDue, IsCutByWrite, StepsEach}
+use Rattle.boot_core.specs.CutEvents.{CutsEach, IsCutAsDue, IsCutByWrite, StepsEach}
 
 -- ---- counts of armed writes
 
@@ -128,8 +128,7 @@ steps_join Holds setup old mid new (event ∷ events) more [] answered first las
 steps_join Holds setup old mid new (event ∷ events) more (reply ∷ replies) answered first last = (
   first.0,
   first.1,
-  first.2,
-  steps_join Holds setup first.0 mid new events more replies answered first.3 last,
+  steps_join Holds setup first.0 mid new events more replies answered first.2 last,
 )
 
 pub steps_more : (Holds : Chip → Reply → Chip → Type 0) (setup : Setup) (old mid new : DeviceView)
@@ -138,16 +137,16 @@ pub steps_more : (Holds : Chip → Reply → Chip → Type 0) (setup : Setup) (o
     → Holds mid.flash reply new.flash
     → StepsEach Holds setup old (events ++ event ∷ []) (replies ++ reply ∷ []) new
 steps_more Holds setup old mid new events replies event reply first step holds =
-    steps_join Holds setup old mid new events (event ∷ []) replies (reply ∷ []) first (new, step, holds, refl)
+    steps_join Holds setup old mid new events (event ∷ []) replies (reply ∷ []) first (new, (step, holds), refl)
 
 -- A loop extends its run by one event.
 pub due_on : (setup here : Setup) (old mid new : DeviceView) (events more : List DeviceEvent)
     (replies answered : List Reply) (event : DeviceEvent) (reply : Reply) → here ≡ setup
-    → more ≡ events ++ event ∷ [] → answered ≡ replies ++ reply ∷ [] → DueEach setup old events replies mid
-    → StepsTo here mid new event reply → IsCutAsDue mid.flash reply new.flash → DueEach setup old more answered new
+    → more ≡ events ++ event ∷ [] → answered ≡ replies ++ reply ∷ [] → StepsEach IsCutAsDue setup old events replies mid
+    → StepsTo here mid new event reply → IsCutAsDue mid.flash reply new.flash → StepsEach IsCutAsDue setup old more answered new
 due_on setup here old mid new events more replies answered event reply same is also first step due =
-    subst (λ es. DueEach setup old es answered new) (sym is)
-    (subst (λ rs. DueEach setup old (events ++ event ∷ []) rs new) (sym also)
+    subst (λ es. StepsEach IsCutAsDue setup old es answered new) (sym is)
+    (subst (λ rs. StepsEach IsCutAsDue setup old (events ++ event ∷ []) rs new) (sym also)
     (steps_more IsCutAsDue setup old mid new events replies event reply first
     (subst (λ s. StepsTo s mid new event reply) same step) due))
 
@@ -161,8 +160,8 @@ cuts_total setup old new [] [] each =
 cuts_total setup old new [] (reply ∷ replies) each = absurd each
 cuts_total setup old new (event ∷ events) [] each = absurd each
 cuts_total setup old new (event ∷ events) (reply ∷ replies) each =
-    let rest = cuts_total setup each.0 new events replies each.3 in
-    let one = each.2.counted in
-    let first = ap (λ f. reached f.numbers each.0.flash.writes) each.2.fixed in
-    let last = ap (λ f. reached f.numbers new.flash.writes) each.2.fixed in
+    let rest = cuts_total setup each.0 new events replies each.2 in
+    let one = each.1.1.counted in
+    let first = ap (λ f. reached f.numbers each.0.flash.writes) each.1.1.fixed in
+    let last = ap (λ f. reached f.numbers new.flash.writes) each.1.1.fixed in
     omega (arith, rest, one, first, last)

@@ -31,3 +31,4 @@ pub mod Wears
 mod Taken
 mod Finished
 mod Opening
+mod Repeats

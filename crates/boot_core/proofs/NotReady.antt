@@ -1,6 +1,6 @@
 -- Lemmas for calls of uploads on a device: what each leaves if the device takes no uploads, and if
 -- it does.
-use Rattle.std.proofs.Common.{◌≡◌, Bool, true, false, List, Option, Result, Ok, Err, refl, sym, ◌∙◌, ap, subst}
+use Rattle.std.proofs.Common.{◌≡◌, Bool, true, false, List, Option, Result, Ok, Err, arith, refl, sym, ◌∙◌, ap, subst}
 use Rattle.std.proofs.Common.{true≢false}
 use Rattle.std.specs.Prelude.{IsErrAnd}
 use Rattle.flash_model.specs.Chip.{Chip}
@@ -85,6 +85,7 @@ module _ (map : SectorMap) (old mid : Chip) (told tnew : List (Option Upload)) (
           is = ap (λ f. Err f) after.is ∙ asked.off here off;
           same = asked.same;
         };
+        journal = omega (arith, ap (λ (chip : Chip). chip.journaled) asked.same);
         ends = not_ready_ends (state_of map old) old mid told tnew up upn asked.same given fault after.is asked.ready
             (stops fault given told tnew up upn after);
       };

@@ -1,5 +1,5 @@
 -- Lemmas for a manifest that is accepted or declined: what the calls below left, of the device.
-use Rattle.std.proofs.Common.{◌≡◌, ℕ, Bool, false, true, List, Option, Result, Ok, Err, ap, refl, subst, sym}
+use Rattle.std.proofs.Common.{◌≡◌, ℕ, Bool, false, true, List, Option, Result, Ok, Err, ap, arith, refl, subst, sym}
 use Rattle.std.specs.Borrow.{Bor}
 use Rattle.std.specs.Prelude.{IsErrAnd}
 use Rattle.common.specs.declared.event.Event.TheVariants as event
@@ -10,8 +10,9 @@ use Rattle.sector_map.specs.Map.{IsLaidOut}
 use Rattle.sector_map.specs.Part.{any_part}
 use Rattle.sector_map.proofs.Parts.{keeps_refl, laid_out_kept}
 use Rattle.manifest.specs.Fault.{IsManifest}
-use Rattle.manifest.specs.Manifest.{NamesImages}
-use Rattle.manifest.specs.declared.error.ManifestError.TheVariants.{NoComponent}
+use Rattle.manifest.specs.Manifest.{NamesEachOnce, NamesImages}
+use Rattle.manifest.specs.declared.error.ManifestError.{ManifestError}
+use Rattle.manifest.specs.declared.error.ManifestError.TheVariants.{NoComponent, RepeatedComponent}
 use Rattle.manifest.specs.declared.identity.Identity.{Identity}
 use Rattle.manifest.specs.declared.manifest.Manifest as given
 use Rattle.upload.specs.Accepted.{Accepts, accepted_parts}
@@ -68,10 +69,12 @@ module _ (map : SectorMap) (identity : Identity) (old new : DeviceView) (fault :
           refused = declined.refused;
           kept = all_left;
           told = not_ready_told identity manifest _ _ _ fault asks.asked.ready;
+          journal = omega (arith, ap (λ (chip : Chip). chip.journaled) asks.asked.same);
           ends = declined.ends;
         };
         down = declined.down;
         lacks = λ on up rests more. absurd (ready_not _ _ _ fault asks.asked.ready on up rests);
+        repeats = λ on up rests names twice. absurd (ready_not _ _ _ fault asks.asked.ready on up rests);
         off = declined.off;
       }
 
@@ -112,6 +115,27 @@ module _ (map : SectorMap) (identity : Identity) (before after : DeviceView)
       → IsOff result before.flash new.flash
   never_off result new up off = absurd (no_error tt _ (asks.asked.off up off))
 
+  -- The manifest is refused for its components, and no text has its meaning. Nothing is touched.
+  refused_untouched : (manifest : given.Manifest) (error : ManifestError)
+      → RefusesManifest identity manifest (no.Manifest error)
+      → ((text : Bor (List ℕ)) → IsManifest identity text.now manifest → ⊥) → IsLaidOut map before.flash
+      → AllOpenAt (view map before.flash) before.sessions
+      → OpensUploads map identity manifest before before (Err (no.Manifest error))
+  refused_untouched manifest error refuses meant laid opens = record {
+    laid = laid;
+    opens = opens;
+    steps = λ boots text on means. absurd {A = StepsTo (made map identity boots) before before (event.Accept text)
+        (Refused (no.Manifest error))} (meant text means);
+    holds = λ on m held. (m, held);
+    outside = keeps_refl map (accepted_parts manifest.components.items) before.flash;
+    refused = λ own. refl;
+    kept = λ own. refl;
+    told = refuses;
+    journal = omega arith;
+    ends = idle_ends before.flash before.flash before.sessions before.sessions before.up before.up
+        (Refused (no.Manifest error)) refl refl refl;
+  }
+
   -- The manifest names an image that the device lacks.
   pub manifest_lacks : (manifest : given.Manifest) → (NamesImages identity manifest → ⊥) → IsLaidOut map before.flash
       → AllOpenAt (view map before.flash) before.sessions
@@ -119,22 +143,26 @@ module _ (map : SectorMap) (identity : Identity) (before after : DeviceView)
   manifest_lacks manifest lacks laid opens =
       subst (λ at. TakesManifestHere map identity manifest before at (Err (no.Manifest NoComponent))) (sym asks.taken)
       (record {
-        taken = record {
-          laid = laid;
-          opens = opens;
-          steps = λ boots text on means. absurd {A = StepsTo (made map identity boots) before before (event.Accept text)
-              (Refused (no.Manifest NoComponent))} (lacks means.meaning.images);
-          holds = λ on m held. (m, held);
-          outside = keeps_refl map (accepted_parts manifest.components.items) before.flash;
-          refused = λ own. refl;
-          kept = λ own. refl;
-          told = lacks;
-          ends = idle_ends before.flash before.flash before.sessions before.sessions before.up before.up
-              (Refused (no.Manifest NoComponent)) refl refl refl;
-        };
+        taken = refused_untouched manifest NoComponent lacks (λ text means. lacks means.meaning.images) laid opens;
         down = not_down (Err (no.Manifest NoComponent)) before before asks.asked.ready.0;
         lacks = λ on up rests more. (refl, refl);
+        repeats = λ on up rests names twice. absurd (lacks names);
         off = never_off (Err (no.Manifest NoComponent)) before;
+      })
+
+  -- The device has each image of the manifest, and the manifest names one twice.
+  pub manifest_repeats : (manifest : given.Manifest) → NamesImages identity manifest → (NamesEachOnce manifest → ⊥)
+      → IsLaidOut map before.flash → AllOpenAt (view map before.flash) before.sessions
+      → TakesManifestHere map identity manifest before after (Err (no.Manifest RepeatedComponent))
+  manifest_repeats manifest names twice laid opens =
+      subst (λ at. TakesManifestHere map identity manifest before at (Err (no.Manifest RepeatedComponent)))
+      (sym asks.taken) (record {
+        taken = refused_untouched manifest RepeatedComponent (names, twice) (λ text means. twice means.meaning.once) laid
+            opens;
+        down = not_down (Err (no.Manifest RepeatedComponent)) before before asks.asked.ready.0;
+        lacks = λ on up rests more. absurd (more names);
+        repeats = λ on up rests present again. (refl, refl);
+        off = never_off (Err (no.Manifest RepeatedComponent)) before;
       })
 
   pub can_open : (manifest : given.Manifest) → IsLaidOut map before.flash → identity.images ≡ map.images
@@ -157,12 +185,13 @@ module _ (map : SectorMap) (identity : Identity) (before after : DeviceView)
       subst (λ at. OpensUploads map identity manifest at new result) asks.taken opened
 
   pub manifest_opened : (manifest : given.Manifest) (new : DeviceView) (result : Result Unit Fault)
-      → NamesImages identity manifest → OpensUploads map identity manifest after new result
+      → NamesImages identity manifest → NamesEachOnce manifest → OpensUploads map identity manifest after new result
       → TakesManifestHere map identity manifest before new result
-  manifest_opened manifest new result names opens = record {
+  manifest_opened manifest new result names once opens = record {
     taken = opened_before manifest new result opens;
     down = not_down result before new asks.asked.ready.0;
     lacks = λ on up rests more. absurd (more names);
+    repeats = λ on up rests present twice. absurd (twice once);
     off = never_off result new;
   }
 
@@ -176,7 +205,7 @@ module _ (map : SectorMap) (identity : Identity) (before after : DeviceView)
         opens = opened.opens;
         steps = λ boots on. opened.steps boots text on means;
         outside = keeps_any opened.outside;
-        named = Named manifest means opened.outside;
+        named = Named manifest means opened.outside opened.journal;
         down = not_down result before new asks.asked.ready.0;
         refused = opened.refused;
         kept = opened.kept;
@@ -235,6 +264,7 @@ module _ (map : SectorMap) (identity : Identity) (manifest : given.Manifest) (ol
         refused = tt;
         kept = tt;
         told = tt;
+        journal = accepts.journal;
         ends = done_ends old old new told tmid up refl accepts.ends;
       })
   opens_passed (Ok done) (Err fault) accepts passed = absurd passed
@@ -261,5 +291,6 @@ module _ (map : SectorMap) (identity : Identity) (manifest : given.Manifest) (ol
         kept = λ own. all_stays old old new told tmid tnew up upn (no.Upload error) fault passed.is stopped (same own)
             (accepts.stays (own_error error fault passed.is own)) own;
         told = subst (λ f. RefusesManifest identity manifest f) (sym passed.is) tt;
+        journal = accepts.journal;
         ends = failed_ends old old new told tmid tnew up upn error refl accepts.ends stopped fault passed.is;
       }

@@ -1,5 +1,5 @@
 -- Lemmas for a call of `Uploads` on a device that takes uploads: its result is passed on.
-use Rattle.std.proofs.Common.{◌≡◌, ℕ, Bool, true, false, List, Option, Result, Ok, Err, IfErr, refl, sym, ap, subst}
+use Rattle.std.proofs.Common.{◌≡◌, ◌+◌, ◌≤◌, ℕ, Bool, true, false, List, Option, Result, Ok, Err, IfErr, refl, sym, ap, subst}
 use Rattle.std.specs.Borrow.{Bor}
 use Rattle.common.specs.declared.event.Event.TheVariants as event
 use Rattle.flash_model.proofs.Ending.{no_error}
@@ -32,7 +32,7 @@ use Rattle.machine.proofs.Uploading.{TakesRow, row_steps, upload_refused}
 use Rattle.boot_core.specs.Answers.{IsOff, is_stop, keeps_all, may_close}
 use Rattle.boot_core.specs.Device.{made, seen}
 use Rattle.boot_core.specs.Ready.{LogsNoTrial}
-use Rattle.boot_core.specs.Taking.{AsksReady, PassesOn, TakesCall, TakesHere}
+use Rattle.boot_core.specs.Taking.{AsksReady, PassesOn, TakesCall, TakesHere, journal_of}
 use Rattle.boot_core.proofs.Keeping.{all_stays, keeps_unstopped, up_stays}
 use Rattle.boot_core.proofs.NotReady.{not_down, refused_after, stops}
 use Rattle.boot_core.proofs.Stopping.{done_ends, failed, failed_ends, finish_down, opens_stopped, piece_down, withdraw_down}
@@ -110,6 +110,7 @@ pub record IsTaken (map : SectorMap) (happened : DeviceEvent) (touched : Part �
   pub ends : EndsUpload taken old new
   pub kept : IfErr taken (λ error. keeps_all (may_close happened) (no.Upload error) ≡ true
       → (new ≡ old) × (tmid ≡ told))
+  pub journal : new.journaled ≤ old.journaled + journal_of happened
   pub row : TakesRow map old new told tmid Takes taken
 
 module _ (map : SectorMap) (happened : DeviceEvent) (touched : Part → Bool) (before : DeviceView) (old new : Chip)
@@ -143,6 +144,7 @@ module _ (map : SectorMap) (happened : DeviceEvent) (touched : Part → Bool) (b
           outside = call.outside;
           down = not_down (Ok passed) (seen old told up) (seen new tmid up) now.0;
           off = never_off (Ok passed);
+          journal = call.journal;
           ends = done_ends old old new told tmid up refl call.ends;
         };
         up = tt;
@@ -167,6 +169,7 @@ module _ (map : SectorMap) (happened : DeviceEvent) (touched : Part → Bool) (b
           outside = call.outside;
           down = not_down (Err fault) (seen old told up) (seen new tnew upn) now.0;
           off = never_off (Err fault);
+          journal = call.journal;
           ends = failed_ends old old new told tmid tnew up upn error refl call.ends stopped fault passed.is;
         };
         up = up_stays old new new told tmid tnew up upn (no.Upload error) fault passed.is stopped;

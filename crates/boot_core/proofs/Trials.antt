@@ -89,5 +89,6 @@ confirm_ends map image old new told up answer result laid opens booted confirms 
   outside = confirms.outside;
   down = not_down result (seen old told up) (seen new told up) booted;
   off = λ here off. absurd (no_error answer _ (confirms.off off));
+  journal = confirms.journal;
   ends = ended old new told told up up (reply_of_result result) none unstopped confirms.ends.uncut;
 }

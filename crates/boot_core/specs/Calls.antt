@@ -8,11 +8,11 @@ use Rattle.sector_map.specs.declared.layout.SectorMap.{SectorMap}
 use Rattle.sector_map.specs.Map.{Keeps}
 use Rattle.sector_map.specs.Part.{Part, Slot, TrailerOf, any_part, incoming_of, only}
 use Rattle.sector_map.specs.declared.layout.Side.TheVariants.{Primary, Secondary}
-use Rattle.manifest.specs.declared.error.ManifestError.TheVariants.{NoComponent}
+use Rattle.manifest.specs.declared.error.ManifestError.TheVariants.{NoComponent, RepeatedComponent}
 use Rattle.manifest.specs.declared.identity.Identity.{Identity}
 use Rattle.manifest.specs.declared.manifest.Manifest as given
 use Rattle.manifest.specs.Fault.{IsManifest}
-use Rattle.manifest.specs.Manifest.{NamesImages}
+use Rattle.manifest.specs.Manifest.{NamesEachOnce, NamesImages}
 use Rattle.set_log.specs.Log.{state_of}
 use Rattle.set_log.specs.declared.state.RecordKind.{RecordKind}
 use Rattle.set_log.specs.declared.state.State.{State}
@@ -35,7 +35,7 @@ use Rattle.upload.specs.declared.error.UploadError.TheVariants.{SizeWrong}
 use Rattle.upload.specs.declared.sessions.Upload.{Upload}
 use Rattle.upload.specs.Finishing.{WritesLastUnit}
 use Rattle.boot_core.specs.Answers.{reply_of_boot, reply_of_result}
-use Rattle.boot_core.specs.CutEvents.{DueEach, IsCutAsDue}
+use Rattle.boot_core.specs.CutEvents.{IsCutAsDue, StepsEach}
 use Rattle.boot_core.specs.Device.{StaysHeld, Whole, made}
 use Rattle.boot_core.specs.Found.{IsStopped}
 use Rattle.boot_core.specs.Ready.{LogsNoTrial, LogsTrialOf, RefusesManifest}
@@ -163,12 +163,19 @@ pub record TakesManifest (manifest : given.Manifest) (old new : Whole) (result :
       → LogsNoTrial (state_of old.setup.map old.here.flash)
       → (NamesImages old.setup.identity manifest → ⊥)
       → (result ≡ Err (no.Manifest NoComponent)) × (new.here ≡ old.here)
+  -- With power, a device that takes uploads and has each image of the manifest reports
+  -- RepeatedComponent if the manifest names one twice, and nothing is changed.
+  pub repeats : old.here.flash.is_on ≡ true → old.here.up ≡ true
+      → LogsNoTrial (state_of old.setup.map old.here.flash)
+      → NamesImages old.setup.identity manifest → (NamesEachOnce manifest → ⊥)
+      → (result ≡ Err (no.Manifest RepeatedComponent)) × (new.here ≡ old.here)
   -- Unless the flash stopped the call, a refusal leaves the flash unchanged.
   pub refused : IfErr result (λ fault. is_stop fault ≡ false
       → new.here.flash ≡ old.here.flash)
   -- Unless the flash stopped the call, a refusal leaves the complete device unchanged.
   pub kept : IfErr result (λ fault. is_stop fault ≡ false → new.here ≡ old.here)
-  -- The manifest itself is refused only for an image that the device lacks; memory never runs out.
+  -- The manifest itself is refused only for an image that the device lacks, or that is named twice;
+  -- memory never runs out.
   pub told : IfErr result (RefusesManifest old.setup.identity manifest)
   -- If a booted device's flash is off, the result says so and the flash is unchanged.
   pub off : old.here.up ≡ true → old.here.flash.is_on ≡ false
@@ -263,7 +270,8 @@ pub record Runs (events : List DeviceEvent) (old new : Whole) {A E : Type 0}
   pub cuts : IfOk result (λ replies.
       new.here.flash.cuts ≡ old.here.flash.cuts + cuts_in replies.items)
   -- Each reply is Cut exactly if, during its event, the flash took an armed write or had a fault.
-  pub due : IfOk result (λ replies. DueEach old.setup old.here events replies.items new.here)
+  pub due : IfOk result (λ replies.
+      StepsEach IsCutAsDue old.setup old.here events replies.items new.here)
   -- The flash has power, and the setup is unchanged, so another run can follow.
   pub on : new.here.flash.is_on ≡ true
   pub setup : new.setup ≡ old.setup

@@ -1,5 +1,6 @@
 -- Contracts of the functions that confirm an image: one record for each.
-use Rattle.std.specs.Prelude.{◌≡◌, ◌⊎◌, ℕ, ◌<◌, Bool, true, false, Result, Ok, Err, IfOk, IsErrOf}
+use Rattle.std.specs.Prelude.{◌≡◌, ◌⊎◌, ℕ, ◌+◌, ◌<◌, ◌≤◌, Bool, true, false, Result, Ok, Err, IfOk}
+use Rattle.std.specs.Prelude.{IsErrOf}
 use Rattle.flash_model.specs.Chip.{Chip, Ends}
 use Rattle.flash_model.specs.declared.error.FlashError.{FlashError}
 use Rattle.flash_model.specs.declared.error.FlashError.TheVariants.{Cut, Off}
@@ -57,6 +58,8 @@ pub record ConfirmsImage (map : SectorMap) (mask image : ℕ) (old new : Chip)
       → IsTrialAt (view map old) s trial → IsOnTrial s image trial
   -- If the result is no, the flash is as it was.
   pub same : IfOk result (λ yes. yes ≡ false → new ≡ old)
+  -- It asks a journal for at most 20 bytes.
+  pub journal : new.journaled ≤ old.journaled + 20
   pub ends : Ends result old new
 
 -- A call confirms an image if it is on trial, and returns whether it is.
@@ -77,4 +80,6 @@ pub record Confirms (map : SectorMap) (image : ℕ) (old new : Chip)
   pub off : old.is_on ≡ false → IsErrOf result Off
   -- If the result is no, the flash is as it was.
   pub same : IfOk result (λ yes. yes ≡ false → new ≡ old)
+  -- It asks a journal for at most 20 bytes.
+  pub journal : new.journaled ≤ old.journaled + 20
   pub ends : Ends result old new

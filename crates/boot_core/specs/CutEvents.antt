@@ -1,11 +1,11 @@
 -- Which replies of a run are Cut, by the writes that the flash took during each event.
-use Rattle.std.specs.Prelude.{◌≡◌, ℕ, ◌+◌, ◌<◌, ◌≤◌, ◌==◌, true, false, List, [], ◌∷◌}
+use Rattle.std.specs.Prelude.{◌≡◌, ℕ, ◌+◌, ◌<◌, ◌≤◌, ◌==◌, true, false, List}
 use Rattle.std.specs.List.{list_any}
 use Rattle.flash_model.specs.Chip.{Chip, reached}
 use Rattle.machine.specs.Holding.{DeviceView}
 use Rattle.machine.specs.Intake.{Setup}
 use Rattle.machine.specs.Passing.{StepsTo}
-use Rattle.machine.specs.Steps.{DeviceEvent, cut_of}
+use Rattle.machine.specs.Steps.{DeviceEvent, IsRunBy, cut_of}
 use Rattle.machine.specs.declared.reply.Reply.{Reply}
 use Rattle.machine.specs.declared.reply.Reply.TheVariants.{Cut}
 
@@ -35,17 +35,9 @@ pub record IsCutAsDue (old : Chip) (reply : Reply) (new : Chip) : Type 0 where
 -- A run of the machine in which `Holds` relates each reply to the flash before and after its event.
 abbrev pub StepsEach : (Chip → Reply → Chip → Type 0) → Setup → DeviceView → List DeviceEvent
     → List Reply → DeviceView → Type 0
-StepsEach Holds setup old [] [] new = new ≡ old
-StepsEach Holds setup old [] (reply ∷ replies) new = ⊥
-StepsEach Holds setup old (event ∷ events) [] new = ⊥
-StepsEach Holds setup old (event ∷ events) (reply ∷ replies) new = (mid : DeviceView)
-    × StepsTo setup old mid event reply × Holds old.flash reply mid.flash
-    × StepsEach Holds setup mid events replies new
+StepsEach Holds setup = IsRunBy (λ old event reply new.
+    StepsTo setup old new event reply × Holds old.flash reply new.flash)
 
 -- A run in which each reply is Cut exactly if the flash took an armed write during the event.
 abbrev pub CutsEach : Setup → DeviceView → List DeviceEvent → List Reply → DeviceView → Type 0
 CutsEach setup old events replies new = StepsEach IsCutByWrite setup old events replies new
-
--- A run in which each reply is Cut exactly if the flash took an armed write, or had a fault.
-abbrev pub DueEach : Setup → DeviceView → List DeviceEvent → List Reply → DeviceView → Type 0
-DueEach setup old events replies new = StepsEach IsCutAsDue setup old events replies new

@@ -1,5 +1,6 @@
 -- What the call that provisions a device does, and what each of its steps does.
-use Rattle.std.specs.Prelude.{◌≡◌, ◌⊎◌, ℕ, Bool, true, false, List, Option, Result, Err, IfErr, OnOk}
+use Rattle.std.specs.Prelude.{◌≡◌, ◌⊎◌, ◌≤◌, ℕ, ◌+◌, ◌*◌, Bool, true, false, List, Option, Result}
+use Rattle.std.specs.Prelude.{Err, IfErr, OnOk}
 use Rattle.flash_model.specs.declared.error.FlashError.{FlashError}
 use Rattle.flash_model.specs.Chip.{Chip, Ends}
 use Rattle.sector_map.specs.declared.layout.SectorMap.{SectorMap}
@@ -38,11 +39,13 @@ IsClearedIn map image chip = (side : Side) → IsTrailerErased map chip image si
 abbrev pub AreClearedIn : SectorMap → Chip → Type 0
 AreClearedIn map chip = AreCleared map chip map.images
 
--- A call writes only these parts and, if it is `Ok`, `says` is true of the flash.
-pub record Leaves (map : SectorMap) (touched : Part → Bool) (says : Chip → Type 0)
+-- A call writes only these parts and, if it is `Ok`, `says` is true of the flash. It asks a journal
+-- for at most `most` bytes.
+pub record Leaves (map : SectorMap) (touched : Part → Bool) (says : Chip → Type 0) (most : ℕ)
     (old new : Chip) {T : Type 0} (result : Result T FlashError) : Type 0 where
   pub outside : Keeps map touched old new
   pub ok : OnOk result (says new)
+  pub journal : new.journaled ≤ old.journaled + most
   pub ends : Ends result old new
 
 -- Only trailers were written, or all trailers are erased: the log isn't written before that.
@@ -57,6 +60,8 @@ pub record BeginsAfresh (map : SectorMap) (floors : List ℕ) (old new : Chip) {
   -- Whatever happens, the log isn't written before all trailers are erased.
   pub order : IsInOrder map old new
   pub ok : OnOk result (IsBegunAfresh map floors new)
+  -- It asks a journal for at most 144 bytes, and 24 for each image.
+  pub journal : new.journaled ≤ old.journaled + (144 + 24 * map.images)
   pub ends : Ends result old new
 
 -- A call provisions a flash if its primary slots begin with intact and valid images.
@@ -72,6 +77,8 @@ pub record MakesDevice (map : SectorMap) (old new : Chip) (result : Result Unit 
   -- If the flash is off, the result says so.
   pub off : old.is_on ≡ false → result ≡ Err (Flash Off)
   pub asleep : old.is_on ≡ false → new ≡ old
+  -- It asks a journal for at most 144 bytes, and 24 for each image.
+  pub journal : new.journaled ≤ old.journaled + (144 + 24 * map.images)
 
 -- A call provisions a device.
 pub record Provisions (map : SectorMap) (old new : Chip) (result : Result Unit Fault)
@@ -96,5 +103,7 @@ pub record Provisions (map : SectorMap) (old new : Chip) (result : Result Unit F
   pub whole : old.is_on ≡ true → IsValidThere map old → IsDoneOrCut result
   -- If the flash is off, the result says so and nothing is changed.
   pub off : old.is_on ≡ false → IsOff result old new
+  -- It asks a journal for at most 144 bytes, and 24 for each image.
+  pub journal : new.journaled ≤ old.journaled + (144 + 24 * map.images)
   -- The result is Cut only if a write was interrupted, and Off only if the flash was off.
   pub ends : EndsMaking result old new

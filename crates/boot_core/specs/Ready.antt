@@ -4,7 +4,7 @@ use Rattle.flash_model.specs.declared.error.FlashError.TheVariants as flash
 use Rattle.manifest.specs.declared.identity.Identity.{Identity}
 use Rattle.manifest.specs.declared.manifest.Manifest.{Manifest}
 use Rattle.manifest.specs.Fault.{IsRefusal}
-use Rattle.manifest.specs.Manifest.{NamesImages}
+use Rattle.manifest.specs.Manifest.{NamesEachOnce, NamesImages}
 use Rattle.manifest.specs.declared.error.ManifestError.{ManifestError}
 use Rattle.manifest.specs.declared.error.ManifestError.TheVariants as text
 use Rattle.sector_map.specs.Part.{is_member}
@@ -58,10 +58,13 @@ RefusesText identity bytes no.NoMemory = Unit
 RefusesText identity bytes other = ⊥
 
 -- Which refusals a manifest that was parsed before can have. NoComponent comes only if the manifest
--- names an image that the device lacks. No other refusal of a text comes, nor NoMemory.
+-- names an image that the device lacks. RepeatedComponent comes only if the device has each image
+-- and the manifest names one twice. No other refusal of a text comes, nor NoMemory.
 abbrev pub RefusesManifest : Identity → Manifest → Fault → Type 0
 RefusesManifest identity manifest (no.Manifest text.NoComponent) =
     NamesImages identity manifest → ⊥
+RefusesManifest identity manifest (no.Manifest text.RepeatedComponent) =
+    NamesImages identity manifest × (NamesEachOnce manifest → ⊥)
 RefusesManifest identity manifest (no.Manifest error) = ⊥
 RefusesManifest identity manifest no.NoMemory = ⊥
 RefusesManifest identity manifest other = Unit

@@ -1,6 +1,7 @@
 -- Contracts of the calls of a device that is held in parts: a flash, the open uploads, and whether
 -- the device is booted.
-use Rattle.std.specs.Prelude.{◌≡◌, ℕ, Bool, true, false, List, Option, Some, Result, Ok, Err, IfErr, OnOk}
+use Rattle.std.specs.Prelude.{◌≡◌, ◌≤◌, ℕ, ◌+◌, Bool, true, false, List, length, Option, Some}
+use Rattle.std.specs.Prelude.{Result, Ok, Err, IfErr, OnOk}
 use Rattle.std.specs.Borrow.{Bor}
 use Rattle.common.specs.declared.event.Event.TheVariants as event
 use Rattle.flash_model.specs.Chip.{Chip}
@@ -9,15 +10,16 @@ use Rattle.sector_map.specs.declared.layout.SectorMap.{SectorMap}
 use Rattle.sector_map.specs.Map.{IsLaidOut, Keeps}
 use Rattle.sector_map.specs.Part.{Part, Slot, TrailerOf, any_part, incoming_of, only}
 use Rattle.sector_map.specs.declared.layout.Side.TheVariants.{Primary, Secondary}
-use Rattle.manifest.specs.declared.error.ManifestError.TheVariants.{NoComponent}
+use Rattle.manifest.specs.declared.error.ManifestError.TheVariants.{NoComponent, RepeatedComponent}
 use Rattle.manifest.specs.declared.identity.Identity.{Identity}
 use Rattle.manifest.specs.declared.manifest.Manifest as given
 use Rattle.manifest.specs.Fault.{IsManifest}
-use Rattle.manifest.specs.Manifest.{NamesImages}
+use Rattle.manifest.specs.Manifest.{NamesEachOnce, NamesImages}
 use Rattle.set_log.specs.Log.{state_of}
 use Rattle.upload.specs.Accepted.{accepted_parts}
 use Rattle.upload.specs.Sessions.{AllClosed, AllOpenAt, upload_at}
 use Rattle.upload.specs.View.{view}
+use Rattle.upload.specs.Wear.{journal_of_components}
 use Rattle.upload.specs.declared.sessions.Upload.{Upload}
 use Rattle.machine.specs.Holding.{DeviceView}
 use Rattle.machine.specs.Passing.{StepsTo}
@@ -73,6 +75,15 @@ PassesOn (Err error) old was_up new is_booted (Err fault) =
     Stops (no.Upload error) old was_up new is_booted fault
 PassesOn taken old was_up new is_booted result = ⊥
 
+-- The bytes that a call with this event asks a journal for, at most. The number for a manifest or a
+-- boot isn't used: a manifest is counted by its components.
+abbrev pub journal_of : DeviceEvent → ℕ
+journal_of (event.Piece image more) = 31 + length more.now
+journal_of (event.Finish image) = 68
+journal_of (event.Withdraw image) = 44
+journal_of (event.Confirm image) = 20
+journal_of other = 0
+
 -- A call passes an event to a device with this map. This holds for each event, whatever a refusal
 -- leaves.
 pub record StepsHere (map : SectorMap) (event : DeviceEvent) (touched : Part → Bool)
@@ -91,6 +102,8 @@ pub record StepsHere (map : SectorMap) (event : DeviceEvent) (touched : Part →
   pub down : old.up ≡ false → IsNotBooted result old new
   -- If the device is booted and the flash is off, that is the result, and nothing is written.
   pub off : old.up ≡ true → old.flash.is_on ≡ false → IsOff result old.flash new.flash
+  -- It asks a journal for at most the bytes of its event.
+  pub journal : new.flash.journaled ≤ old.flash.journaled + journal_of event
   pub ends : EndsCall (reply_of_result result) old new
 
 -- A call of uploads on a device with this map, whatever a refusal leaves of the flash.
@@ -112,11 +125,14 @@ pub record TakesHere (map : SectorMap) (event : DeviceEvent) (touched : Part →
   pub refused : IfErr result (λ fault. is_stop fault ≡ false → new.flash ≡ old.flash)
 
 -- Accepting a text touches only the log, and the secondary slots and trailers of the images that
--- its manifest names. A text that isn't a manifest for this identity touches nothing.
+-- its manifest names, and asks a journal for at most 120 bytes, and those that opening each slot
+-- takes. A text that isn't a manifest for this identity touches nothing.
 pub data TouchesNamed (map : SectorMap) (identity : Identity) (text : List ℕ) (old new : Chip)
     : Type 0 where
   Named : (manifest : given.Manifest) → IsManifest identity text manifest
       → Keeps map (accepted_parts manifest.components.items) old new
+      → new.journaled ≤ old.journaled
+      + (120 + journal_of_components map manifest.components.items)
       → TouchesNamed map identity text old new
   Untouched : new ≡ old → TouchesNamed map identity text old new
 
@@ -175,8 +191,11 @@ pub record OpensUploads (map : SectorMap) (identity : Identity) (manifest : give
   pub refused : IfErr result (λ fault. is_stop fault ≡ false → new.flash ≡ old.flash)
   -- Such a refusal leaves the uploads too, and whether the device is booted.
   pub kept : IfErr result (λ fault. is_stop fault ≡ false → new ≡ old)
-  -- Of the refusals of a manifest only NoComponent can come.
+  -- Of the refusals of a manifest only NoComponent and RepeatedComponent can come.
   pub told : IfErr result (RefusesManifest identity manifest)
+  -- It asks a journal for at most 120 bytes, and those that opening each slot takes.
+  pub journal : new.flash.journaled ≤ old.flash.journaled
+      + (120 + journal_of_components map manifest.components.items)
   pub ends : EndsCall (reply_of_result result) old new
 
 -- A call accepts a manifest that was parsed before, on a device with this map and this identity.
@@ -192,6 +211,11 @@ pub record TakesManifestHere (map : SectorMap) (identity : Identity) (manifest :
   pub lacks : old.flash.is_on ≡ true → old.up ≡ true → LogsNoTrial (state_of map old.flash)
       → (NamesImages identity manifest → ⊥)
       → (result ≡ Err (no.Manifest NoComponent)) × (new ≡ old)
+  -- If uploads are taken, the device has each image and the manifest names one twice, that is the
+  -- result, and nothing is touched.
+  pub repeats : old.flash.is_on ≡ true → old.up ≡ true → LogsNoTrial (state_of map old.flash)
+      → NamesImages identity manifest → (NamesEachOnce manifest → ⊥)
+      → (result ≡ Err (no.Manifest RepeatedComponent)) × (new ≡ old)
   -- If the device is booted and the flash is off, that is the result, and nothing is written.
   pub off : old.up ≡ true → old.flash.is_on ≡ false → IsOff result old.flash new.flash
 

@@ -169,8 +169,7 @@ impl<F: Flash> Device<F> {
     /// an upload for each image that the manifest names, and cancels pending requests for these
     /// images. Does not allocate.
     ///
-    /// If two components name the same image, the last one counts. A `Manifest` has neither vendor
-    /// nor class: its reader compares them with those of the device.
+    /// A `Manifest` has neither vendor nor class: its reader compares them with those of the device.
     ///
     /// # Errors
     /// The first that applies:
@@ -180,6 +179,7 @@ impl<F: Flash> Device<F> {
     /// - `OnTrial`: a set is on trial.
     /// - `NotProvisioned`: the log has no state.
     /// - `Manifest` with `NoComponent`: it names an image that the device lacks.
+    /// - `Manifest` with `RepeatedComponent`: two components name the same image.
     /// - `Upload` with `OldSequence`, `TooBig` or `WrongPrecursor`.
     /// - `Upload` with `Flash(Cut)`: power failed, as in `accept`.
     ///

@@ -1,10 +1,10 @@
 //! Calls of uploads: the device's own checks before each, and its state after the flash stopped
 //! one.
 
-ghost use Rattle.std.specs.Prelude.{◌≡◌, ◌↔◌, IfErr, IfOk, IsTrue};
+ghost use Rattle.std.specs.Prelude.{◌≡◌, ◌≢◌, ◌↔◌, All, AllPairs, IfErr, IfOk, IsTrue};
 ghost use Rattle.common.specs.declared.event.Event.TheVariants as event;
 ghost use Rattle.manifest.specs.Fault.{IsManifest};
-ghost use Rattle.manifest.specs.Manifest.{NamesImages};
+ghost use Rattle.manifest.specs.Manifest.{NamesEachOnce, NamesImages};
 ghost use Rattle.sector_map.specs.Map.{IsLaidOut};
 ghost use Rattle.sector_map.specs.Part.{Slot, incoming_of, only};
 ghost use Rattle.sector_map.specs.declared.layout.Side.TheVariants.{Secondary};
@@ -20,7 +20,7 @@ ghost use Rattle.boot_core.specs.Taking.{TakesManifestHere};
 use crate::confirming::is_trial;
 use flash_model::Flash;
 use machine::Fault;
-use manifest::{Identity, Manifest, ManifestError};
+use manifest::{Component, Identity, Manifest, ManifestError};
 use sector_map::SectorMap;
 use set_log::{LogError, read_state};
 use std::alloc::Global;
@@ -141,6 +141,30 @@ fn names_images(manifest: &Manifest, identity: &Identity) -> bool
     components.iter().all(|component| component.image < images)
 }
 
+/// Whether no component is for this image.
+fn name_others(components: &[Component], image: u8) -> bool
+    ensures { IsTrue result ↔ All (λ component. image ≢ component.image) components.now }
+{
+    components.iter().all(|component| image != component.image)
+}
+
+/// Whether no two components are for the same image.
+fn name_each_once(components: &[Component]) -> bool
+    ensures { IsTrue result ↔ AllPairs (λ one other. one.image ≢ other.image) components.now }
+{
+    match components {
+        [] => true,
+        [first, others @ ..] => name_others(others, first.image) && name_each_once(others),
+    }
+}
+
+/// Whether a manifest names no image twice.
+fn names_each_once(manifest: &Manifest) -> bool
+    ensures { IsTrue result ↔ NamesEachOnce manifest.now }
+{
+    name_each_once(manifest.components.as_slice())
+}
+
 /// Opens the uploads of a manifest on a device that takes uploads.
 fn open_uploads<F: Flash>(
     flash: &mut F,
@@ -209,6 +233,9 @@ pub fn accept_manifest<F: Flash>(
     ready(flash, map, uploads, is_booted)?;
     if !names_images(manifest, identity) {
         return Err(Fault::Manifest(ManifestError::NoComponent));
+    }
+    if !names_each_once(manifest) {
+        return Err(Fault::Manifest(ManifestError::RepeatedComponent));
     }
     open_uploads(flash, map, identity, uploads, is_booted, manifest)
 }

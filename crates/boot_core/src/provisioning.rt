@@ -1,6 +1,6 @@
 //! Provisions a flash: makes it a device's.
 
-ghost use Rattle.std.specs.Prelude.{◌≡◌, ℕ, ◌≤◌, List, OnOk, slice_index};
+ghost use Rattle.std.specs.Prelude.{◌≡◌, ℕ, ◌*◌, ◌≤◌, List, OnOk, slice_index};
 ghost use Rattle.sector_map.specs.Map.{HasImage, IsLaidOut};
 ghost use Rattle.sector_map.specs.Part.{trailers_of};
 ghost use Rattle.image_reading.specs.Image.{BeginsIntact};
@@ -89,7 +89,7 @@ fn judge<F: Flash>(flash: &mut F, map: &SectorMap) -> Result<[u32; MOST_IMAGES],
 /// Erases both trailers of an image.
 fn clear_image<F: Flash>(flash: &mut F, map: &SectorMap, image: u8) -> Result<()>
     requires { HasImage map.now image (F.chip flash.old) }
-    ensures { Leaves map.now (trailers_of image) (IsClearedIn map.now image)
+    ensures { Leaves map.now (trailers_of image) (IsClearedIn map.now image) 24
         (F.chip flash.old) (F.chip flash.new) result }
 {
     clear(flash, map, image, Side::Primary)?;
@@ -99,7 +99,7 @@ fn clear_image<F: Flash>(flash: &mut F, map: &SectorMap, image: u8) -> Result<()
 /// Erases the trailers of all images.
 fn clear_all<F: Flash>(flash: &mut F, map: &SectorMap) -> Result<()>
     requires laid_out { IsLaidOut map.now (F.chip flash.old) }
-    ensures { Leaves map.now any_trailer (AreClearedIn map.now)
+    ensures { Leaves map.now any_trailer (AreClearedIn map.now) (24 * map.now.images)
         (F.chip flash.old) (F.chip flash.new) result }
 {
     let images = map.images;

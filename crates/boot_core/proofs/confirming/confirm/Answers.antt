@@ -20,5 +20,6 @@ returns-then-on_trial g c = record {
       c.confirm_image.ensures.answers;
   off = λ off. absurd (true≢false (sym c.in-Ok.ensures.answers.1 ∙ off));
   same = rw c.read_state.ensures.same at c.confirm_image.ensures.same;
+  journal = rw c.read_state.ensures.same at c.confirm_image.ensures.journal;
   ends = rw c.read_state.ensures.same at c.confirm_image.ensures.ends;
 }

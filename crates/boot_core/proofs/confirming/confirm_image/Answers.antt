@@ -21,6 +21,7 @@ returns-in_err-set_ok g c =
           (lt, member);
       tried = search rules;
       same = tt;
+      journal = c.set_ok.ensures.journal;
       ends = err_ends c.in_err-set_ok.ensures.ends;
     })
 
@@ -38,5 +39,6 @@ returns g c =
       answers = ((lt, member), ap (λ (t : Fields). t.image_ok) c.in_ok-set_ok.ensures.ok);
       tried = search rules;
       same = search rules;
+      journal = c.set_ok.ensures.journal;
       ends = ok_ends c.in_ok-set_ok.ensures.ends;
     }

@@ -66,6 +66,7 @@ returns-in-Err g c =
         down = not_down _ _ _ c.if-not-is_booted.false;
         off = λ up off. flash_off c.in-Err.error c.stop.result old new c.stop.ensures.is c.in-Err.ensures.ends
             (c.in-Err.ensures.off off);
+        journal = c.confirm.ensures.journal;
         ends = rw c.stop.ensures.is (stopped_ends _ _ _ _ _ _ closed down c.in-Err.error c.in-Err.ensures.ends);
       };
       refused = λ own. absurd (no_own c.in-Err.error c.stop.result c.stop.ensures.is own);

@@ -21,6 +21,7 @@ returns g c =
       opens = c.finish.ensures.all_open;
       ends = c.finish.ensures.ends;
       kept = kept_by_finish _ _ _ _ _ c.finish.ensures.refused.no_session c.finish.ensures.stays;
+      journal = c.finish.ensures.journal;
       row = c.finish.ensures.row;
     }) c.pass_on.ensures) c.finish.ensures.refused c.pass_on.ensures
 

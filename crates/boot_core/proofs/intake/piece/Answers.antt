@@ -20,6 +20,7 @@ returns g c =
       opens = c.piece.ensures.all_open;
       ends = c.piece.ensures.ends;
       kept = kept_by_piece _ _ _ _ _ c.piece.ensures.nothing c.piece.ensures.stays;
+      journal = c.piece.ensures.journal;
       row = c.piece.ensures.row;
     }) c.piece.ensures.nothing c.pass_on.ensures
 

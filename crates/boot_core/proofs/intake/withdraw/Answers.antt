@@ -19,6 +19,7 @@ returns g c =
       opens = c.withdraw.ensures.all_open;
       ends = c.withdraw.ensures.ends;
       kept = kept_by_withdraw _ _ _ _ _ c.withdraw.ensures.nothing c.withdraw.ensures.table;
+      journal = c.withdraw.ensures.journal;
       row = c.withdraw.ensures.row;
     }) c.withdraw.ensures.nothing c.pass_on.ensures
 

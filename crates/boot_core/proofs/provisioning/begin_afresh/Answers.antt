@@ -1,4 +1,4 @@
-use Rattle.std.proofs.Common.{rules, ◌≡◌, Err, inl, inr}
+use Rattle.std.proofs.Common.{rules, arith, ◌≡◌, Err, inl, inr}
 use Rattle.std.proofs.lemmas.Result.{on_ok_weaker}
 use Rattle.boot_core.proofs.Afresh.{begun_afresh, cleared_kept, first_fits, provided_log, provided_trailers}
 use Rattle.boot_core.proofs.provisioning.begin_afresh.Goals as goal
@@ -13,6 +13,7 @@ returns-in_err-clear_all g c =
       outside = provided_trailers c.args.map.now _ _ c.clear_all.ensures.outside;
       order = inl c.clear_all.ensures.outside;
       ok = tt;
+      journal = omega (arith, c.clear_all.ensures.journal);
       ends = search rules;
     })
 
@@ -24,5 +25,6 @@ returns g c = record {
       (λ recorded. begun_afresh c.args.map.now c.args.floors.now _ _ c.in_ok-clear_all.ensures.ok
       c.start.ensures.outside recorded)
       c.start.ensures.ok;
+  journal = omega (arith, c.clear_all.ensures.journal, c.start.ensures.journal);
   ends = search rules;
 }

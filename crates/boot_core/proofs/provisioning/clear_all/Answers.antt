@@ -8,6 +8,7 @@ loop-image-init g c = record {
   laid_out = c.requires.laid_out;
   outside = keeps_refl _ _ _;
   cleared = λ i lt side. absurd (omega arith);
+  journal = omega arith;
   uncut = search rules;
   asleep = search rules;
 }
@@ -18,6 +19,7 @@ loop-image-preserved g c = record {
   outside = trailers_more _ _ _ _ _ c.loop-image.invariant.outside c.clear_image.ensures.outside;
   cleared = cleared_more c.args.map.now _ _ _ c.loop-image.invariant.cleared c.clear_image.ensures.outside
       c.in_ok-clear_image.ensures.ok;
+  journal = omega (arith, c.loop-image.invariant.journal, c.clear_image.ensures.journal);
   uncut = search rules;
   asleep = search rules;
 }

@@ -1,4 +1,4 @@
-use Rattle.std.proofs.Common.{rules, Result, Ok, Err, OnOk}
+use Rattle.std.proofs.Common.{rules, arith, Result, Ok, Err, OnOk}
 use Rattle.boot_core.proofs.Afresh.{both_cleared}
 use Rattle.boot_core.proofs.provisioning.clear_image.Goals as goal
 
@@ -14,5 +14,6 @@ returns g c = record {
       (record { bytes = c.in_ok-clear.ensures.bytes; fields = c.in_ok-clear.ensures.ok }) c.clear-2.ensures.outside
       (record { bytes = bytes; fields = fields })) c.clear-2.ensures.bytes
       c.clear-2.ensures.ok;
+  journal = omega (arith, c.clear.ensures.journal, c.clear-2.ensures.journal);
   ends = search rules;
 }

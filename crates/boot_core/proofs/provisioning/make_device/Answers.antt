@@ -27,4 +27,5 @@ returns g c = record {
   erased = c.in_ok-begin_afresh.ensures.ok.cleared;
   off = λ off. absurd (no_error _ _ (c.in_ok-floors.ensures.off off));
   asleep = search rules;
+  journal = rw c.judge.ensures.same at c.begin_afresh.ensures.journal;
 }

@@ -21,5 +21,6 @@ returns-clause-all g c = record {
   whole = λ on there. whole_answer c.args.map.now _ _ c.make_device.result
       c.make_device.ensures.answers on there;
   off = λ off. record { is = c.make_device.ensures.off off; same = c.make_device.ensures.asleep off };
+  journal = c.make_device.ensures.journal;
   ends = search rules;
 }

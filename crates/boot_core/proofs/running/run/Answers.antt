@@ -3,7 +3,7 @@ use Rattle.std.proofs.lemmas.List.{take_all, take_more}
 use Rattle.machine.specs.Passing.{RunsTo}
 use Rattle.machine.specs.Steps.{cuts_in}
 use Rattle.machine.proofs.Runs.{cuts_on, runs_on}
-use Rattle.boot_core.specs.CutEvents.{DueEach}
+use Rattle.boot_core.specs.CutEvents.{IsCutAsDue, StepsEach}
 use Rattle.boot_core.proofs.CutEvents.{due_on}
 use Rattle.boot_core.proofs.running.run.Goals as goal
 
@@ -37,7 +37,7 @@ returns g c =
           c.loop-event.replies.items) (take_all c.loop-event.event-index c.args.events.now all) done.runs;
       each = omega (arith, done.count, all);
       cuts = done.cuts;
-      due = subst (λ events. DueEach c.args.device.now.setup c.args.device.now.here events
+      due = subst (λ events. StepsEach IsCutAsDue c.args.device.now.setup c.args.device.now.here events
           c.loop-event.replies.items c.loop-event.device.here) (take_all c.loop-event.event-index c.args.events.now all)
           done.due;
       on = done.on;

@@ -18,6 +18,7 @@ returns g c =
       outside = c.accept_manifest.ensures.outside;
       down = c.accept_manifest.ensures.down;
       lacks = c.accept_manifest.ensures.lacks;
+      repeats = c.accept_manifest.ensures.repeats;
       refused = c.accept_manifest.ensures.refused;
       told = c.accept_manifest.ensures.told;
       kept = c.accept_manifest.ensures.kept;
