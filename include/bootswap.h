@@ -10,7 +10,8 @@
  * struct; no pointer is null, not even with a length of 0; a buffer that is written overlaps nothing else that is
  * passed. A call reads the slots of the open uploads, so upload in large pieces.
  *
- * The flash is memory: a driver in C can't be called. `docs/PORTING.md` says how a device with its own flash runs
+ * The flash is memory: a driver in C can't be called. The calls named `bootswap_journal_` record each write in a journal,
+ * so that their caller can make the same writes on a part. `docs/PORTING.md` says how a device with its own flash runs
  * bootswap.
  */
 #ifndef BOOTSWAP_H
@@ -23,20 +24,31 @@
 extern "C" {
 #endif
 
-/* What a call returns. */
+/* The version, as `bootswap --version` prints it. */
+#define BOOTSWAP_VERSION "0.1.0"
+
+/* The most images of a device, cuts of a call, dependencies and groups of an image, and alternatives of a group. */
+#define BOOTSWAP_MAX_IMAGES 8
+#define BOOTSWAP_MAX_CUTS 16
+#define BOOTSWAP_MAX_NEEDS 16
+#define BOOTSWAP_MAX_GROUPS 4
+#define BOOTSWAP_MAX_ALTERNATIVES 4
+
+/* What a call returns. bootswap_names.h has names for it, and for the numbers of reasons. */
 enum bootswap_number {
     BOOTSWAP_DONE = 0,         /* done, the bytes are an intact image, or the report is right */
     BOOTSWAP_BOOTED = 1,       /* the device booted, and decided what runs */
     BOOTSWAP_REVERTED = 2,     /* it booted, and the old images of a set on trial run again */
     BOOTSWAP_TRIAL_AGAIN = 3,  /* it booted, and the set on trial is tried again */
     BOOTSWAP_REFUSED = 4,      /* the call is refused: `fault` says why */
-    BOOTSWAP_CUT = 5,          /* power failed during the call: the device isn't booted */
+    BOOTSWAP_CUT = 5,          /* power failed during the call, or its journal is too short: the device isn't booted */
     /* No call was made, and nothing changed: */
     BOOTSWAP_NO_MAP = 16,      /* no map has the setup's sizes */
     BOOTSWAP_NO_TRIAL = 17,    /* a trial has 1 to 7 boots */
     BOOTSWAP_NO_FLASH = 18,    /* the flash isn't whole sectors, is shorter than the map, or has 2^32 bytes or more */
     BOOTSWAP_NO_IMAGE = 19,    /* there is no such image, or no such side of it */
     BOOTSWAP_TOO_MANY = 20,    /* more than 8 components, or more than 16 cuts */
+    BOOTSWAP_NO_LOG = 21,      /* the flash has no log of a device */
     /* For texts: */
     BOOTSWAP_NO_TABLE = 24,    /* the text is no table */
     BOOTSWAP_NO_REPORT = 25,   /* the text is no report */
@@ -53,8 +65,14 @@ enum bootswap_fault {
     BOOTSWAP_NOT_PROVISIONED = 4, /* the flash has no log of a device */
     BOOTSWAP_RUNNING_DAMAGED = 5, /* the running image `detail` is damaged */
     BOOTSWAP_RUNNING_INVALID = 6, /* the running images don't fit each other */
-    BOOTSWAP_MANIFEST = 9,        /* a component is for an image that the device lacks: `detail` is 6 */
+    BOOTSWAP_MANIFEST = 9,        /* `detail` is a bootswap_manifest_fault */
     BOOTSWAP_UPLOAD = 10          /* `detail` is a bootswap_upload_fault */
+};
+
+/* Why a manifest is refused: `detail` of BOOTSWAP_MANIFEST. */
+enum bootswap_manifest_fault {
+    BOOTSWAP_NO_COMPONENT = 6,      /* a component is for an image that the device lacks */
+    BOOTSWAP_REPEATED_COMPONENT = 7 /* the device has each image, and two components are for the same one */
 };
 
 /* Why an upload is refused: `detail` of BOOTSWAP_UPLOAD. */
@@ -74,7 +92,7 @@ enum bootswap_upload_fault {
 struct bootswap_setup {
     uint32_t sector_size; /* the length of a sector in bytes: a multiple of 64 from 512 to 131072 */
     uint32_t images;      /* the number of images, 1 to 8 */
-    uint32_t sectors[8];  /* the number of sectors of each slot of an image */
+    uint32_t sectors[BOOTSWAP_MAX_IMAGES]; /* the number of sectors of each slot of an image */
     uint32_t trial_boots; /* the number of boots of a trial, 1 to 7 */
     uint8_t vendor[16];   /* the vendor: a UUID (RFC 9562), the bytes in the order of its text */
     uint8_t class_id[16]; /* the class of devices, a UUID. No call compares these two with anything. */
@@ -93,7 +111,7 @@ struct bootswap_kept {
         uint8_t unused;      /* 0 */
         uint8_t held[8];     /* the last bytes that were received, which don't fill a unit of 8 yet */
         uint8_t digest[32];  /* the SHA-256 that the file must have */
-    } uploads[8];            /* one for each image */
+    } uploads[BOOTSWAP_MAX_IMAGES]; /* one for each image */
 };
 
 /* A write that is to be cut in a call. A write is a program or an erase. */
@@ -122,7 +140,7 @@ struct bootswap_refusal {
     uint32_t image;                /* the image whose request is refused */
     uint32_t reason;               /* 1 damaged, 2 older, 3 counter, 4 no such image, 5 needs, 6 needs one of several */
     uint32_t count;                /* the number of `needs`: 1 for reasons 4 and 5, up to 4 for reason 6 */
-    struct bootswap_need needs[4]; /* what it needs. For reason 4 only the image counts. */
+    struct bootswap_need needs[BOOTSWAP_MAX_ALTERNATIVES]; /* what it needs. For reason 4 only the image counts. */
 };
 
 /* The result of a call. A field that doesn't apply to the returned number is 0. */
@@ -130,6 +148,8 @@ struct bootswap_told {
     uint64_t writes;                      /* the number of writes of the call. Exactly these, torn as the rows say,
                                              change the old bytes into the new ones. If a write is cut, it is the last
                                              one. */
+    uint64_t journal_length;              /* the number of bytes of the journal that record these writes, from its first
+                                             byte on. 0 for a call without a journal. */
     uint32_t fault;                       /* refused: a bootswap_fault */
     uint32_t detail;                      /* refused: the number of the underlying error */
     uint32_t check;                       /* refused: the first check of an image that fails, 1 to 15 */
@@ -140,8 +160,8 @@ struct bootswap_told {
     uint32_t refusals;                    /* booted: the number of refused requests */
     uint32_t table_length;                /* booted: the length of the table's text, 0 if its buffer was too short */
     uint32_t report_length;               /* booted: the same for the report */
-    struct bootswap_version versions[8];  /* booted: the running version of each image */
-    struct bootswap_refusal refused[8];   /* booted: the refusals, in the order of the report */
+    struct bootswap_version versions[BOOTSWAP_MAX_IMAGES]; /* booted: the running version of each image */
+    struct bootswap_refusal refused[BOOTSWAP_MAX_IMAGES];  /* booted: the refusals, in the order of the report */
 };
 
 /* One image that may be uploaded. */
@@ -159,13 +179,13 @@ struct bootswap_component {
 struct bootswap_manifest {
     uint32_t sequence; /* rises from manifest to manifest */
     uint32_t count;    /* the number of components, 1 to 8 */
-    struct bootswap_component components[8];
+    struct bootswap_component components[BOOTSWAP_MAX_IMAGES];
 };
 
 /* A group of alternatives: at least one of these needs has to be met. */
 struct bootswap_group {
     uint32_t count; /* 1 to 4 */
-    struct bootswap_need alternatives[4];
+    struct bootswap_need alternatives[BOOTSWAP_MAX_ALTERNATIVES];
 };
 
 /* The description of an image. */
@@ -176,9 +196,19 @@ struct bootswap_description {
     uint32_t flags;                  /* ih_flags */
     uint32_t needs_count;            /* 0 to 16 */
     uint32_t groups_count;           /* 0 to 4 */
-    struct bootswap_need needs[16];  /* its dependencies, in the order of its entries */
-    struct bootswap_group groups[4];
+    struct bootswap_need needs[BOOTSWAP_MAX_NEEDS]; /* its dependencies, in the order of its entries */
+    struct bootswap_group groups[BOOTSWAP_MAX_GROUPS];
     uint8_t digest[32]; /* the SHA-256 of its header, body and protected area */
+};
+
+/* The state of a device that persists across its boots, as the log of its flash has it. */
+struct bootswap_state {
+    uint32_t kind;      /* 1 steady, 2 swap, 3 settle, 4 trial, 5 back, 6 back-settle: the phase of an upgrade */
+    uint32_t set;       /* bit i for image i: the images of the upgrade */
+    uint32_t permanent; /* 1 if the set stays without a trial */
+    uint32_t left;      /* in a trial: the number of further boots that it lasts, 0 to 6 */
+    uint32_t sequence;  /* the sequence number of the last accepted manifest */
+    uint32_t floors[BOOTSWAP_MAX_IMAGES]; /* the lowest security counter that each image may have */
 };
 
 /* A SHA-256. */
@@ -211,7 +241,7 @@ uint32_t bootswap_boot(const struct bootswap_setup *setup, uint8_t *flash, size_
 
 /*
  * Accepts a manifest: opens an upload for each image it lists, and cancels pending requests for those images. Returns
- * BOOTSWAP_DONE, BOOTSWAP_REFUSED or BOOTSWAP_CUT.
+ * BOOTSWAP_DONE, BOOTSWAP_REFUSED or BOOTSWAP_CUT. A manifest with two components for the same image is refused.
  */
 uint32_t bootswap_accept(const struct bootswap_setup *setup, uint8_t *flash, size_t flash_length,
                          struct bootswap_kept *kept, const struct bootswap_cut *cuts, size_t cuts_count,
@@ -240,15 +270,71 @@ uint32_t bootswap_confirm(const struct bootswap_setup *setup, uint8_t *flash, si
                           struct bootswap_kept *kept, const struct bootswap_cut *cuts, size_t cuts_count,
                           uint8_t image, struct bootswap_told *told);
 
+/*
+ * The same calls with a journal of their writes. No write is cut but by the end of the journal. A write is recorded
+ * before it is made in `flash`. It takes 12 bytes of the journal: three numbers of 4 bytes, the lowest byte first.
+ *
+ *     0  the kind: 0 a program, 1 an erase
+ *     4  the address in bytes
+ *     8  the length of the range in bytes, of an erase the length of a sector
+ *    12  only of a program: its bytes
+ *
+ * The writes follow each other from the first byte of the journal on, with nothing between them. `journal_length` in the
+ * result says where they end. The bytes of the journal after them stay as they were. Made in this order on a part with
+ * the old bytes of `flash`, the writes leave its new bytes there: each program is of whole units of 8 erased bytes, and
+ * each erase is of one sector.
+ *
+ * If a write doesn't fit in the journal, it isn't made, and the call returns BOOTSWAP_CUT. The writes before it are
+ * recorded and made. The device isn't booted then, and the next boot continues, as after a loss of power. A call returns
+ * BOOTSWAP_CUT for no other reason. The journal is long enough if it has this number of bytes:
+ *
+ *     bootswap_journal_provision  144, and 24 for each image
+ *     bootswap_journal_accept     120, and for each component 44, and 12 for each sector of its slot
+ *     bootswap_journal_piece      31, and the number of the bytes that are added
+ *     bootswap_journal_finish     68
+ *     bootswap_journal_withdraw   44
+ *     bootswap_journal_confirm    20
+ *
+ * A boot has no such bound. After a boot that returned BOOTSWAP_CUT the next one repeats the step of a swap that didn't
+ * fit: give it a journal of several sectors, since one that is too short for a step is too short each time.
+ */
+uint32_t bootswap_journal_provision(const struct bootswap_setup *setup, uint8_t *flash, size_t flash_length,
+                                    uint8_t *journal, size_t journal_room, struct bootswap_told *told);
+uint32_t bootswap_journal_boot(const struct bootswap_setup *setup, uint8_t *flash, size_t flash_length,
+                               struct bootswap_kept *kept, uint8_t *journal, size_t journal_room, char *table,
+                               size_t table_room, char *report, size_t report_room, struct bootswap_told *told);
+uint32_t bootswap_journal_accept(const struct bootswap_setup *setup, uint8_t *flash, size_t flash_length,
+                                 struct bootswap_kept *kept, uint8_t *journal, size_t journal_room,
+                                 const struct bootswap_manifest *manifest, struct bootswap_told *told);
+uint32_t bootswap_journal_piece(const struct bootswap_setup *setup, uint8_t *flash, size_t flash_length,
+                                struct bootswap_kept *kept, uint8_t *journal, size_t journal_room, uint8_t image,
+                                const uint8_t *bytes, size_t bytes_length, struct bootswap_told *told);
+uint32_t bootswap_journal_finish(const struct bootswap_setup *setup, uint8_t *flash, size_t flash_length,
+                                 struct bootswap_kept *kept, uint8_t *journal, size_t journal_room, uint8_t image,
+                                 struct bootswap_told *told);
+uint32_t bootswap_journal_withdraw(const struct bootswap_setup *setup, uint8_t *flash, size_t flash_length,
+                                   struct bootswap_kept *kept, uint8_t *journal, size_t journal_room, uint8_t image,
+                                   struct bootswap_told *told);
+uint32_t bootswap_journal_confirm(const struct bootswap_setup *setup, uint8_t *flash, size_t flash_length,
+                                  struct bootswap_kept *kept, uint8_t *journal, size_t journal_room, uint8_t image,
+                                  struct bootswap_told *told);
+
 /* Resets the device: all uploads are closed, and it isn't booted. */
 void bootswap_reset(struct bootswap_kept *kept);
 
 /*
- * Describes the image at the front of a slot: side 0 is the primary slot, 1 the secondary one. No byte changes. Returns
- * 0, the number of the first check that fails, 1 to 15, or why there is no such slot.
+ * Describes the image at the front of a slot: side 0 is the primary slot, 1 the secondary one. Returns 0, the number of
+ * the first check that fails, 1 to 15, or why there is no such slot.
  */
-uint32_t bootswap_slot(const struct bootswap_setup *setup, uint8_t *flash, size_t flash_length, uint8_t image,
+uint32_t bootswap_slot(const struct bootswap_setup *setup, const uint8_t *flash, size_t flash_length, uint8_t image,
                        uint8_t side, struct bootswap_description *description);
+
+/*
+ * Reads the state in the log of a flash. Returns 0; BOOTSWAP_NO_LOG if the log has none; or why there is no such flash.
+ * `state` is all zero then.
+ */
+uint32_t bootswap_state(const struct bootswap_setup *setup, const uint8_t *flash, size_t flash_length,
+                        struct bootswap_state *state);
 
 /* Describes the image that the bytes are. Returns 0, or the number of the first check that fails, 1 to 15. */
 uint32_t bootswap_describe(const uint8_t *bytes, size_t bytes_length, struct bootswap_description *description);
@@ -276,9 +362,10 @@ uint32_t bootswap_check(const char *table, size_t table_length, const char *repo
 _Static_assert(sizeof(struct bootswap_setup) == 76, "the setup of a device");
 _Static_assert(sizeof(struct bootswap_kept) == 420, "the saved state of a device");
 _Static_assert(sizeof(struct bootswap_cut) == 24, "a cut");
-_Static_assert(sizeof(struct bootswap_told) == 592, "the result of a call");
+_Static_assert(sizeof(struct bootswap_told) == 600, "the result of a call");
 _Static_assert(sizeof(struct bootswap_manifest) == 584, "a manifest");
 _Static_assert(sizeof(struct bootswap_description) == 464, "a description");
+_Static_assert(sizeof(struct bootswap_state) == 52, "the state in a log");
 #endif
 
 #endif

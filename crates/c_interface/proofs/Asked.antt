@@ -90,7 +90,7 @@ same_asked rows table are few =
 
 -- ---- the last write
 
-cut_or_not : (reply : Reply) → (cut_of reply ≡ 0) ⊎ (cut_of reply ≡ 1)
+pub cut_or_not : (reply : Reply) → (cut_of reply ≡ 0) ⊎ (cut_of reply ≡ 1)
 cut_or_not reply_is.Done = inl refl
 cut_or_not (reply_is.Booted table report permanent) = inl refl
 cut_or_not (reply_is.Reverted mask) = inl refl
@@ -195,3 +195,10 @@ pub dark_provided : (map : SectorMap) (a b : Chip) (result : Result Unit Fault) 
     → Provisions map a b result → reply ≡ reply_of_result result → cut_of reply ≡ 1 → b.is_on ≡ false
 dark_provided map a b result reply is same =
     subst (λ r. cut_of r ≡ 1 → b.is_on ≡ false) (sym same) (dark_made map a b result is)
+
+-- ---- the new bytes by another name
+
+pub writes_over : (asked : Fixed) (size : ℕ) (old bytes new : List ℕ) (writes : ℕ) → bytes ≡ new
+    → WritesAsAsked asked size old bytes writes → WritesAsAsked asked size old new writes
+writes_over asked size old bytes new writes same =
+    subst (λ (l : List ℕ). WritesAsAsked asked size old l writes) same

@@ -11,15 +11,14 @@ use Rattle.c_interface.specs.Setup.{HasRoom}
 use Rattle.c_interface.specs.Slots.{DescribesSlot}
 use Rattle.c_interface.proofs.StepLaws.{borrowed_flash}
 
--- The result for a slot of a flash that was just made of the bytes and still has them.
-pub describes_slot : (map : SectorMap) (old : List ℕ) (image : ℕ) (side : Side) (new : List ℕ) (description : Description)
-    (number : ℕ) (chip : Chip) (fixed : Fixed) → HasRoom map old
-    → chip ≡ record (new_chip map.sector_size (length old / map.sector_size) old) { fixed = fixed } → new ≡ old
+-- The result for a slot of a flash that was just made of the bytes.
+pub describes_slot : (map : SectorMap) (bytes : List ℕ) (image : ℕ) (side : Side) (description : Description) (number : ℕ)
+    (chip : Chip) (fixed : Fixed) → HasRoom map bytes
+    → chip ≡ record (new_chip map.sector_size (length bytes / map.sector_size) bytes) { fixed = fixed }
     → AnswersFront (slot_bytes map chip image side) description number
-    → DescribesSlot map old image side new description number
-describes_slot map old image side new description number chip fixed room is same answers = record {
-  same = same;
+    → DescribesSlot map bytes image side description number
+describes_slot map bytes image side description number chip fixed room is answers = record {
   chip = chip;
-  flash = borrowed_flash map old chip fixed map.is_map room is;
+  flash = borrowed_flash map bytes chip fixed map.is_map room is;
   answers = answers;
 }

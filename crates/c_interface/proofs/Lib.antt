@@ -8,4 +8,5 @@ mod ShortReports
 mod TextLengths
 mod Asked
 mod Counting
+mod Recorded
 mod Lifecycle

@@ -1,7 +1,7 @@
 -- Laws of provisioning: each flash of the same bytes holds the provisioned state.
-use Rattle.std.proofs.Common.{◌≡◌, ℕ, List, Result, subst, sym, ◌∙◌}
+use Rattle.std.proofs.Common.{◌≡◌, ℕ, List, Result, sym, ◌∙◌}
 use Rattle.std.proofs.lemmas.Result.{on_ok_weaker}
-use Rattle.flash_model.specs.Chip.{Chip, Fixed}
+use Rattle.flash_model.specs.Chip.{Chip}
 use Rattle.sector_map.specs.declared.layout.SectorMap.{SectorMap}
 use Rattle.sector_map.specs.Map.{IsLaidOut}
 use Rattle.upload.specs.Device.{DeviceState}
@@ -11,9 +11,8 @@ use Rattle.machine.specs.declared.reply.Reply.{Reply}
 use Rattle.boot_core.specs.Answers.{reply_of_result}
 use Rattle.boot_core.specs.Provisioned.{IsFirstState, IsProvisioned}
 use Rattle.boot_core.specs.Provisions.{Provisions}
-use Rattle.c_interface.specs.Cuts.{IsCutAsAsked, WritesAsAsked}
 use Rattle.c_interface.specs.SavedState.{IsFlashOf}
-use Rattle.c_interface.specs.Provisioning.{ProvisionsOn}
+use Rattle.c_interface.specs.Provisioning.{ProvisionsBetween}
 use Rattle.c_interface.proofs.SameBytes.{same_stands}
 use Rattle.c_interface.proofs.StepLaws.{laid_same}
 
@@ -28,16 +27,10 @@ stands_new map new before after laid is (state, first, steady, sound, all) = (
       (Rests steady),
 )
 
-pub provisions_on : (map : SectorMap) (old new : List ℕ) (before after : Chip) (result : Result Unit Fault)
+pub provisions_between : (map : SectorMap) (old new : List ℕ) (before after : Chip) (result : Result Unit Fault)
     (reply : Reply) → IsFlashOf map old before → after.bytes ≡ new → Provisions map before after result
-    → reply ≡ reply_of_result result → (asked : Fixed) (writes : ℕ)
-    → IsCutAsAsked asked.numbers before after reply writes → WritesAsAsked asked map.sector_size old after.bytes writes
-    → ProvisionsOn map asked old new reply writes
-provisions_on map old new before after result reply flash is provisions replies asked writes cut torn = record {
-  cut_as_asked = cut;
-  writes_as_asked = subst (λ (l : List ℕ). WritesAsAsked asked map.sector_size old l writes) is torn;
-  before = before;
-  after = after;
+    → reply ≡ reply_of_result result → ProvisionsBetween map old new reply before after
+provisions_between map old new before after result reply flash is provisions replies = record {
   result = result;
   is_before = flash;
   is_after = is;

@@ -30,8 +30,7 @@ use Rattle.c_interface.specs.declared.dispatch.DeviceCall.TheVariants.{Accept, P
 use Rattle.c_interface.specs.declared.saved_state.SavedState.{SavedState}
 use Rattle.c_interface.specs.declared.saved_state.SavedUpload.{SavedUpload}
 use Rattle.c_interface.specs.declared.setup.CheckedSetup.{CheckedSetup}
-use Rattle.c_interface.specs.Calls.{IsCallOf, IsStepOf, MakesCall, StepsOn}
-use Rattle.c_interface.specs.Cuts.{IsCutAsAsked, WritesAsAsked}
+use Rattle.c_interface.specs.Calls.{IsCallOf, IsJournaled, IsStepOf, MakesCall, StepsBetween}
 use Rattle.c_interface.specs.Setup.{HasRoom}
 use Rattle.c_interface.specs.SavedState.{IsDeviceOf, IsFlashOf, IsSaved, SavesDevice, SavesUpload, no_row, Booted, NotBooted}
 use Rattle.c_interface.proofs.Leaving.{leaves_of}
@@ -225,18 +224,16 @@ pub steps_on : (checked : CheckedSetup) (call : DeviceCall) (old new : List ℕ)
     (sessions left : List (Option Upload)) (was_up is_booted : Bool) (reply : Reply)
     → IsFlashOf checked.map old before → IsSaved checked.map was (seen before sessions was_up)
     → MakesCall checked.map checked.identity checked.boots call (seen before sessions was_up) (seen behind left is_booted) reply
-    → behind.bytes ≡ new → SavesDevice is left is_booted → (asked : Fixed) (writes : ℕ)
-    → IsCutAsAsked asked.numbers before behind reply writes
-    → WritesAsAsked asked checked.map.sector_size old new writes → StepsOn checked asked call old was new is reply writes
-steps_on checked call old new was is before behind sessions left was_up is_booted reply flash saved makes bytes keeps asked
-    writes cut torn = record {
+    → behind.bytes ≡ new → SavesDevice is left is_booted → StepsBetween checked call old was new is reply before behind
+steps_on checked call old new was is before behind sessions left was_up is_booted reply flash saved makes bytes keeps =
+    record {
       before = seen before sessions was_up;
+      is_first = refl;
       is_before = record { flash = flash; saved = saved };
       left = seen behind left is_booted;
+      is_last = refl;
       is_left = record { laid_out = makes.laid; has = bytes; saves = keeps };
       makes = makes;
-      cut_as_asked = cut;
-      writes_as_asked = torn;
       leaves = leaves_of checked.map checked.identity checked.boots (seen before sessions was_up) (seen behind left is_booted) reply
           call old new flash.on flash.has bytes makes.is;
       each = λ device given. (
@@ -255,13 +252,15 @@ module _ (map : SectorMap) (identity : Identity) (boots : ℕ) (old new : Device
     (on : old.flash.is_on ≡ true) where
   made_by : (call : DeviceCall) (answered : Reply) → reply ≡ answered → new.flash.fixed ≡ old.flash.fixed
       → IsLaidOut map new.flash → AllOpenAt (view map new.flash) new.sessions
-      → IsStepOf (made map identity boots) call old new answered → IsCallOf map identity boots call old new reply
+      → IsStepOf (made map identity boots) call old new answered → IsJournaled map call old.flash new.flash
+      → IsCallOf map identity boots call old new reply
       → MakesCall map identity boots call old new reply
-  made_by call answered same fixed laid opens step all = record {
+  made_by call answered same fixed laid opens step journal all = record {
     fixed = fixed;
     laid = laid;
     opens = opens;
     steps = subst (λ r. IsStepOf (made map identity boots) call old new r) (sym same) step;
+    journal = journal;
     is = all;
   }
 
@@ -269,23 +268,23 @@ module _ (map : SectorMap) (identity : Identity) (boots : ℕ) (old new : Device
       → MakesCall map identity boots call old new reply
   call_made (Accept manifest) (result, same, is) =
       made_by (Accept manifest) (reply_of_result result) same is.outside.fixed is.laid is.opens
-      (λ text means. is.steps boots text on means, is.holds on) (result, same, is)
+      (λ text means. is.steps boots text on means, is.holds on) is.journal (result, same, is)
   call_made (Piece image more) (result, same, is) =
       made_by (Piece image more) (reply_of_result result) same is.outside.fixed is.laid is.opens
-      (is.steps identity boots on) (result, same, is)
+      (is.steps identity boots on) is.journal (result, same, is)
   call_made (Finish image) (result, same, is) =
       made_by (Finish image) (reply_of_result result) same is.outside.fixed is.laid is.opens
-      (is.steps identity boots on) (result, same, is)
+      (is.steps identity boots on) is.journal (result, same, is)
   call_made (Withdraw image) (result, same, is) =
       made_by (Withdraw image) (reply_of_result result) same is.outside.fixed is.laid is.opens
-      (is.steps identity boots on) (result, same, is)
+      (is.steps identity boots on) is.journal (result, same, is)
   call_made (Confirm image) (result, same, is) =
       made_by (Confirm image) (reply_of_result result) same is.outside.fixed is.laid is.opens
-      (is.steps identity boots on) (result, same, is)
+      (is.steps identity boots on) is.journal (result, same, is)
   call_made Boot (left, count, result, same, is) =
       made_by Boot (reply_of_boot result) same (is.on_map old.flash (keeps_refl map any_part old.flash)).fixed is.laid
       is.opens (subst (λ n. StepsTo (made map identity n) old new event.Boot (reply_of_boot result)) count (is.steps identity on))
-      (left, count, result, same, is)
+      tt (left, count, result, same, is)
 
 -- a call by another name of it
 pub makes : (map : SectorMap) (identity : Identity) (boots : ℕ) (call given : DeviceCall) (old new : DeviceView)
@@ -320,8 +319,8 @@ borrowed_flash map bytes chip fixed is_map room is = flash_made map bytes chip i
 
 -- a step by other names of the bytes
 pub steps_over : (checked : CheckedSetup) (call : DeviceCall) (a b old new : List ℕ) (was is : SavedState) (reply : Reply)
-    (asked : Fixed) (writes : ℕ) → a ≡ old → b ≡ new → StepsOn checked asked call a was b is reply writes
-    → StepsOn checked asked call old was new is reply writes
-steps_over checked call a b old new was is reply asked writes first second steps =
-    subst (λ l. StepsOn checked asked call old was l is reply writes) second
-    (subst (λ l. StepsOn checked asked call l was b is reply writes) first steps)
+    (before behind : Chip) → a ≡ old → b ≡ new → StepsBetween checked call a was b is reply before behind
+    → StepsBetween checked call old was new is reply before behind
+steps_over checked call a b old new was is reply before behind first second steps =
+    subst (λ l. StepsBetween checked call old was l is reply before behind) second
+    (subst (λ l. StepsBetween checked call l was b is reply before behind) first steps)

@@ -20,12 +20,13 @@ use Rattle.c_interface.specs.Texts.{IsPut}
 use Rattle.c_interface.specs.CallResult.{IsResultOf, no_result, number_of}
 
 -- The answer of a call: the number of the device's reply, and in the result the number of writes
--- that it made; or why no call was made: then nothing changed, and the result is all zero.
+-- that it made. It has no journal. Or why no call was made: then nothing changed, and the result is all zero.
 pub data Answers (setup : Setup) (cuts : List CutRow) (call : DeviceCall) (old : List ℕ)
     (was : SavedState) (new : List ℕ) (is : SavedState) (call_result : CallResult)
     (says : Reply → Type 0) (number : ℕ) : Type 0 where
   Replied : (reply : Reply) → CallsOn setup cuts call old was new is reply call_result.writes
-      → IsResultOf reply call_result → says reply → number ≡ number_of reply
+      → IsResultOf reply call_result → call_result.journal_length ≡ 0 → says reply
+      → number ≡ number_of reply
       → Answers setup cuts call old was new is call_result says number
   NotCalled : IsRefusedBefore setup cuts old number → new ≡ old → is ≡ was → call_result ≡ no_result
       → Answers setup cuts call old was new is call_result says number

@@ -98,7 +98,7 @@ abbrev pub taken_mask : List ReportedImage → ℕ
 taken_mask [] = 0
 taken_mask (image ∷ images) = (if image.is_taken then 1 else 0) + 2 * taken_mask images
 
--- The result of a boot that decided, except for the number of writes and the lengths of texts. The
+-- The result of a boot that decided, except for the counts of writes and the lengths of texts. The
 -- fields of a fault and of a trial are 0.
 pub record IsResultOfReport (report : Report) (is_permanent : Bool) (call_result : CallResult)
     : Type 0 where
@@ -130,6 +130,7 @@ check_of other = 0
 abbrev pub no_result : CallResult
 no_result = record {
   writes = 0;
+  journal_length = 0;
   fault = 0;
   detail = 0;
   check = 0;
@@ -144,13 +145,18 @@ no_result = record {
   refused = replicate 8 no_refusal;
 }
 
--- All zero except for the number of writes that the call began.
-abbrev pub only_writes : ℕ → CallResult
-only_writes count = record no_result { writes = count }
+-- All zero except for the number of writes that the call made, and of the bytes of a journal that
+-- record them.
+abbrev pub only_counts : ℕ → ℕ → CallResult
+only_counts writes used = record no_result { writes = writes; journal_length = used }
+
+-- The same, with the counts of this result.
+abbrev pub only_counts_of : CallResult → CallResult
+only_counts_of call_result = only_counts call_result.writes call_result.journal_length
 
 -- The result of a refused call.
-abbrev pub fault_result : Fault → ℕ → CallResult
-fault_result reason count = record (only_writes count) {
+abbrev pub fault_result : Fault → ℕ → ℕ → CallResult
+fault_result reason writes used = record (only_counts writes used) {
   fault = code_of reason;
   detail = detail_of reason;
   check = check_of reason;
@@ -159,15 +165,16 @@ fault_result reason count = record (only_writes count) {
 -- The result of a call with this reply. A field that doesn't apply to it is 0, whatever the memory
 -- held before.
 abbrev pub IsResultOf : Reply → CallResult → Type 0
-IsResultOf Done call_result = call_result ≡ only_writes call_result.writes
+IsResultOf Done call_result = call_result ≡ only_counts_of call_result
 IsResultOf (Booted table report permanent) call_result =
     IsResultOfReport report permanent call_result
 IsResultOf (Reverted mask) call_result =
-    call_result ≡ record (only_writes call_result.writes) { set = mask }
+    call_result ≡ record (only_counts_of call_result) { set = mask }
 IsResultOf (TrialAgain set left) call_result =
-    call_result ≡ record (only_writes call_result.writes) { set = set; left = left }
-IsResultOf (Refused fault) call_result = call_result ≡ fault_result fault call_result.writes
-IsResultOf Cut call_result = call_result ≡ only_writes call_result.writes
+    call_result ≡ record (only_counts_of call_result) { set = set; left = left }
+IsResultOf (Refused fault) call_result =
+    call_result ≡ fault_result fault call_result.writes call_result.journal_length
+IsResultOf Cut call_result = call_result ≡ only_counts_of call_result
 
 -- A boot that decided has these lengths of texts, and any other call none.
 abbrev pub HasTextLengths : Reply → ℕ → ℕ → CallResult → Type 0

@@ -2,7 +2,7 @@
 use Rattle.std.specs.Prelude.{◌≡◌, ◌⊎◌, ℕ, ◌+◌, ◌<◌, ◌≤◌, List, length, slice_index, Result}
 use Rattle.std.specs.Borrow.{Bor}
 use Rattle.common.specs.declared.event.Event.TheVariants as event
-use Rattle.flash_model.specs.Chip.{Fixed}
+use Rattle.flash_model.specs.Chip.{Chip, Fixed}
 use Rattle.sector_map.specs.declared.layout.SectorMap.{SectorMap}
 use Rattle.sector_map.specs.declared.layout.Side.TheVariants.{Secondary}
 use Rattle.sector_map.specs.Map.{IsLaidOut, end_of_map}
@@ -11,6 +11,7 @@ use Rattle.manifest.specs.declared.identity.Identity.{Identity}
 use Rattle.manifest.specs.Fault.{IsManifest}
 use Rattle.upload.specs.View.{view}
 use Rattle.upload.specs.Sessions.{AllOpenAt}
+use Rattle.upload.specs.Wear.{journal_of_components}
 use Rattle.machine.specs.Holding.{DeviceView}
 use Rattle.machine.specs.Intake as device
 use Rattle.machine.specs.Passing.{StepsTo}
@@ -73,6 +74,21 @@ IsCallOf map identity boots (Confirm image) old new reply =
 IsCallOf map identity boots Boot old new reply =
     HasBootResult reply boots (λ left. EndsUploadsAndBoots map left old new)
 
+-- The bytes that a call asks a journal for, at most. The number for a boot isn't used.
+abbrev pub journal_bound : SectorMap → DeviceCall → ℕ
+journal_bound map (Accept manifest) =
+    120 + journal_of_components map manifest.now.components.items
+journal_bound map (Piece image more) = 31 + length more.now
+journal_bound map (Finish image) = 68
+journal_bound map (Withdraw image) = 44
+journal_bound map (Confirm image) = 20
+journal_bound map Boot = 0
+
+-- A call asks a journal for no more bytes than its bound. A boot may ask for any number.
+abbrev pub IsJournaled : SectorMap → DeviceCall → Chip → Chip → Type 0
+IsJournaled map Boot old new = Unit {0}
+IsJournaled map call old new = new.journaled ≤ old.journaled + journal_bound map call
+
 -- A call is made on a device whose flash has power.
 pub record MakesCall (map : SectorMap) (identity : Identity) (boots : ℕ) (call : DeviceCall)
     (old new : DeviceView) (reply : Reply) : Type 0 where
@@ -84,6 +100,8 @@ pub record MakesCall (map : SectorMap) (identity : Identity) (boots : ℕ) (call
   pub opens : AllOpenAt (view map new.flash) new.sessions
   -- The call is a step of the machine.
   pub steps : IsStepOf (made map identity boots) call old new reply
+  -- The call asks a journal for no more bytes than its bound.
+  pub journal : IsJournaled map call old.flash new.flash
   -- The call keeps the other promises of its counterpart in Rust.
   pub is : IsCallOf map identity boots call old new reply
 
@@ -102,28 +120,38 @@ pub record LeavesBytes (map : SectorMap) (call : DeviceCall) (old new : List ℕ
   pub behind : (k : ℕ) → end_of_map map ≤ k → slice_index new k ≡ slice_index old k
   pub refused : RefusesUnchanged call old new reply
 
--- A call is made on the device in the caller's bytes, with cuts for some of its writes. It makes
--- this number of writes.
-pub record StepsOn (checked : CheckedSetup) (asked : Fixed) (call : DeviceCall) (old : List ℕ)
-    (was : SavedState) (new : List ℕ) (is : SavedState) (reply : Reply) (writes : ℕ) : Type 0 where
+-- A call is made on the device in the caller's bytes, between these states of its flash.
+pub record StepsBetween (checked : CheckedSetup) (call : DeviceCall) (old : List ℕ)
+    (was : SavedState) (new : List ℕ) (is : SavedState) (reply : Reply) (first last : Chip)
+    : Type 0 where
   -- The call is made on a device in the old bytes. Its flash has power.
   pub before : DeviceView
+  pub is_first : before.flash ≡ first
   pub is_before : IsDeviceOf checked.map old was before
   -- It leaves a device in the new bytes. Its flash may be off if power failed.
   pub left : DeviceView
+  pub is_last : left.flash ≡ last
   pub is_left : IsLeftIn checked.map new is left
   -- Between these two devices it keeps every promise of a call.
   pub makes : MakesCall checked.map checked.identity checked.boots call before left reply
   pub leaves : LeavesBytes checked.map call old new reply
-  -- It is cut exactly in the writes that the caller lists.
-  pub cut_as_asked : IsCutAsAsked asked.numbers before.flash left.flash reply writes
-  -- The new bytes are what exactly these writes make of the old ones, torn as the caller says.
-  pub writes_as_asked : WritesAsAsked asked checked.map.sector_size old new writes
   -- From each device in the old bytes the call is a step to a device in the new bytes. The flash of
   -- the latter has power, also after a power cut.
   pub each : (device : DeviceView) → IsDeviceOf checked.map old was device
       → (next : DeviceView) × IsDeviceOf checked.map new is next
       × IsStepOf (made checked.map checked.identity checked.boots) call device next reply
+
+-- A call is made on the device in the caller's bytes, with cuts for some of its writes. It makes
+-- this number of writes.
+pub record StepsOn (checked : CheckedSetup) (asked : Fixed) (call : DeviceCall) (old : List ℕ)
+    (was : SavedState) (new : List ℕ) (is : SavedState) (reply : Reply) (writes : ℕ) : Type 0 where
+  pub first : Chip
+  pub last : Chip
+  pub steps : StepsBetween checked call old was new is reply first last
+  -- It is cut exactly in the writes that the caller lists.
+  pub cut_as_asked : IsCutAsAsked asked.numbers first last reply writes
+  -- The new bytes are what exactly these writes make of the old ones, torn as the caller says.
+  pub writes_as_asked : WritesAsAsked asked checked.map.sector_size old new writes
 
 -- A call is made on the device of a setup, with no more cuts than a call takes. It makes this
 -- number of writes.

@@ -9,7 +9,9 @@ pub mod Texts
 pub mod Manifests
 pub mod Answers
 pub mod Provisioning
+pub mod Recording
 pub mod Description
 pub mod Choosing
 pub mod Slots
 pub mod Lifecycle
+pub mod State

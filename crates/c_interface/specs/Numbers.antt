@@ -36,6 +36,9 @@ NO_IMAGE = 19
 abbrev pub TOO_MANY : ℕ
 TOO_MANY = 20
 
+abbrev pub NO_LOG : ℕ
+NO_LOG = 21
+
 -- What the calls for texts return.
 abbrev pub NO_TABLE : ℕ
 NO_TABLE = 24

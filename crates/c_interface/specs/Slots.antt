@@ -13,12 +13,11 @@ use Rattle.c_interface.specs.Description.{AnswersFront, no_description}
 use Rattle.c_interface.specs.SavedState.{IsFlashOf}
 use Rattle.c_interface.specs.Setup.{IsCheckedSetup, IsRefusedSetup}
 
--- The answer is that for this slot of the flash, and no byte changes.
-pub record DescribesSlot (map : SectorMap) (old : List ℕ) (image : ℕ) (side : Side) (new : List ℕ)
+-- The answer is that for this slot of the flash.
+pub record DescribesSlot (map : SectorMap) (bytes : List ℕ) (image : ℕ) (side : Side)
     (description : Description) (number : ℕ) : Type 0 where
-  pub same : new ≡ old
   pub chip : Chip
-  pub flash : IsFlashOf map old chip
+  pub flash : IsFlashOf map bytes chip
   pub answers : AnswersFront (slot_bytes map chip image side) description number
 
 -- The side of a number.
@@ -30,16 +29,16 @@ IsSide number Secondary = number ≡ 1
 abbrev pub IsNoSlot : SectorMap → ℕ → ℕ → Type 0
 IsNoSlot map image number = (map.images ≤ image) ⊎ (2 ≤ number)
 
--- The answer of the call. No byte changes, and the description is blank if there is no such slot.
-pub data AnswersSlot (setup : Setup) (image number_of_side : ℕ) (old new : List ℕ)
+-- The answer of the call. The description is blank if there is no such slot.
+pub data AnswersSlot (setup : Setup) (image number_of_side : ℕ) (bytes : List ℕ)
     (description : Description) (number : ℕ) : Type 0 where
-  Described : (checked : CheckedSetup) (side : Side) → IsCheckedSetup setup old checked
+  Described : (checked : CheckedSetup) (side : Side) → IsCheckedSetup setup bytes checked
       → IsSide number_of_side side → image < checked.map.images
-      → DescribesSlot checked.map old image side new description number
-      → AnswersSlot setup image number_of_side old new description number
-  SetupRefused : IsRefusedSetup setup old number → new ≡ old → description ≡ no_description
-      → AnswersSlot setup image number_of_side old new description number
-  NoImage : (checked : CheckedSetup) → IsCheckedSetup setup old checked
+      → DescribesSlot checked.map bytes image side description number
+      → AnswersSlot setup image number_of_side bytes description number
+  SetupRefused : IsRefusedSetup setup bytes number → description ≡ no_description
+      → AnswersSlot setup image number_of_side bytes description number
+  NoImage : (checked : CheckedSetup) → IsCheckedSetup setup bytes checked
       → IsNoSlot checked.map image number_of_side
-      → number ≡ NO_IMAGE → new ≡ old → description ≡ no_description
-      → AnswersSlot setup image number_of_side old new description number
+      → number ≡ NO_IMAGE → description ≡ no_description
+      → AnswersSlot setup image number_of_side bytes description number

@@ -1,14 +1,13 @@
 //! A call on a device in the caller's memory: the bytes of its flash, and its saved state.
 
 ghost use Rattle.std.specs.Prelude.{◌≡◌, ℕ, ◌+◌, [], IfErr, IfOk, IfSome, List, None, Option, false, true};
-ghost use Rattle.flash_model.specs.Chip.{Fixed};
 ghost use Rattle.sector_map.specs.Map.{IsLaidOut};
 ghost use Rattle.machine.specs.Steps.{cut_of};
 ghost use Rattle.boot_core.specs.Device.{seen};
 ghost use Rattle.slice_flash.specs.Rows.{fixed_by};
 ghost use Rattle.upload.specs.declared.sessions.Upload.{Upload};
-ghost use Rattle.c_interface.specs.Calls.{CallsOn, IsRefusedBefore, StepsOn};
-ghost use Rattle.c_interface.specs.Cuts.{IsCutAsAsked, WritesAsAsked};
+ghost use Rattle.c_interface.specs.Calls.{CallsOn, IsJournaled, IsRefusedBefore, StepsBetween};
+ghost use Rattle.c_interface.specs.Calls.{StepsOn};
 ghost use Rattle.c_interface.specs.SavedState.{IsSaved, IsSavedBooted, SavesDevice};
 ghost use Rattle.c_interface.specs.Setup.{HasRoom, IsTrial};
 
@@ -94,7 +93,7 @@ fn save(state: &VolatileState) -> SavedState
 }
 
 /// Restores the state of the device over a flash with power, makes the call, and saves the state.
-fn resume_and_run<F: Flash>(
+pub(crate) fn resume_and_run<F: Flash>(
     flash: &mut F,
     checked: &CheckedSetup,
     saved: &mut SavedState,
@@ -108,12 +107,9 @@ fn resume_and_run<F: Flash>(
     ensures cuts { (F.chip flash.new).cuts ≡ (F.chip flash.old).cuts + cut_of result }
     ensures dark { cut_of result ≡ 1 → (F.chip flash.new).is_on ≡ false }
     ensures laid { IsLaidOut checked.now.map (F.chip flash.new) }
-    ensures steps { (asked : Fixed) (writes : ℕ)
-        → IsCutAsAsked asked.numbers (F.chip flash.old) (F.chip flash.new) result writes
-        → WritesAsAsked asked checked.now.map.sector_size (F.chip flash.old).bytes
-        (F.chip flash.new).bytes writes
-        → StepsOn checked.now asked call.now (F.chip flash.old).bytes saved.old
-        (F.chip flash.new).bytes saved.new result writes }
+    ensures journal { IsJournaled checked.now.map call.now (F.chip flash.old) (F.chip flash.new) }
+    ensures steps { StepsBetween checked.now call.now (F.chip flash.old).bytes saved.old
+        (F.chip flash.new).bytes saved.new result (F.chip flash.old) (F.chip flash.new) }
 {
     let mut state = restore(flash, &checked.map, saved);
     let reply = dispatch(

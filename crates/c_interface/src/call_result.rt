@@ -63,6 +63,9 @@ pub struct CallResult {
     /// the caller's rows say, change the flash's old bytes into the new ones. If a write is cut, it
     /// is the last one.
     pub writes: u64,
+    /// The number of bytes of the journal that record these writes, from its first byte on. 0 for a
+    /// call without a journal.
+    pub journal_length: u64,
     /// Refused: the number of the reason, 1 to 10.
     pub fault: u32,
     /// For reason 5 the damaged image; for 7, 9 and 10 the number of the underlying error.
@@ -114,6 +117,7 @@ const NO_REFUSAL: RefusalRow = RefusalRow {
 /// The result if no call was made.
 pub(crate) const NO_RESULT: CallResult = CallResult {
     writes: 0,
+    journal_length: 0,
     fault: 0,
     detail: 0,
     check: 0,
@@ -277,6 +281,7 @@ fn check_of(fault: Fault) -> u32
 fn report_result(report: &Report, permanent: bool, writes: u64, lengths: Lengths) -> CallResult
     ensures fields { IsResultOfReport report.now permanent result }
     ensures writes { result.writes ≡ writes }
+    ensures journal { result.journal_length ≡ 0 }
     ensures table { result.table_length ≡ lengths.table }
     ensures report { result.report_length ≡ lengths.report }
 {
@@ -296,7 +301,7 @@ fn report_result(report: &Report, permanent: bool, writes: u64, lengths: Lengths
 
 /// The result of a refused call.
 fn fault_result(fault: Fault, writes: u64) -> CallResult
-    ensures { result ≡ fault_result fault writes }
+    ensures { result ≡ fault_result fault writes 0 }
 {
     CallResult {
         writes,
@@ -307,10 +312,11 @@ fn fault_result(fault: Fault, writes: u64) -> CallResult
     }
 }
 
-/// The result of a call with this reply. The lengths of texts count only for a boot that decided.
+/// The result of a call with this reply and no journal. The lengths of texts count only for a boot that decided.
 pub(crate) fn result_of(reply: &Reply, writes: u64, lengths: Lengths) -> CallResult
     ensures fields { IsResultOf reply.now result }
     ensures writes { result.writes ≡ writes }
+    ensures journal { result.journal_length ≡ 0 }
     ensures lengths { HasTextLengths reply.now lengths.table lengths.report result }
 {
     match reply {
@@ -335,6 +341,24 @@ pub(crate) fn result_of(reply: &Reply, writes: u64, lengths: Lengths) -> CallRes
             writes,
             ..NO_RESULT
         },
+    }
+}
+
+/// The result of a call with this reply, of whose journal this number of bytes is used.
+pub(crate) fn recorded_result_of(
+    reply: &Reply,
+    writes: u64,
+    used: u64,
+    lengths: Lengths,
+) -> CallResult
+    ensures fields { IsResultOf reply.now result }
+    ensures writes { result.writes ≡ writes }
+    ensures journal { result.journal_length ≡ used }
+    ensures lengths { HasTextLengths reply.now lengths.table lengths.report result }
+{
+    CallResult {
+        journal_length: used,
+        ..result_of(reply, writes, lengths)
     }
 }
 

@@ -75,7 +75,7 @@ pub extern "C" fn bootswap_boot(
 }
 
 /// Accepts a manifest, given by its fields: opens an upload for each image it lists, and cancels
-/// pending requests for those images. If two components name the same image, the last one counts.
+/// pending requests for those images. A manifest with two components for the same image is refused.
 ///
 /// Returns `DONE`, `REFUSED`, `CUT`, or why no call was made, which includes `TOO_MANY` components:
 /// then nothing changed.

@@ -4,7 +4,8 @@
 //!   caller's bytes hold to what they hold then.
 //! - Main calls: `bootswap_boot`, `bootswap_accept`, `bootswap_piece`, `bootswap_finish`,
 //!   `bootswap_withdraw`, `bootswap_confirm`, `bootswap_provision`, `bootswap_slot`,
-//!   `bootswap_describe`, `bootswap_choose`, `bootswap_check`
+//!   `bootswap_state`, `bootswap_describe`, `bootswap_choose`, `bootswap_check`; and with a journal
+//!   `bootswap_journal_boot`, `bootswap_journal_accept`, ..
 //! - Allocates: no.
 //! - Callers: programs in C, and of languages that call C. `include/bootswap.h` declares the calls.
 //!
@@ -20,7 +21,9 @@
 //! flash, are a device that isn't booted. Each call returns, on any contents. The caller guarantees
 //! the lengths, and that a buffer that is written overlaps no other.
 //!
-//! The flash is bytes in memory: this library doesn't call a flash driver in C.
+//! The flash is bytes in memory: this library doesn't call a flash driver in C. The calls with a
+//! journal record each of their writes there, so that their caller can make the same writes on a
+//! part. Such a call returns `CUT` only if its journal is shorter than what its writes ask for.
 #![tactic(auto)]
 
 mod borrowed;
@@ -31,11 +34,14 @@ mod describing;
 mod description;
 mod dispatch;
 mod exports;
+mod journal_exports;
 mod manifests;
 mod numbers;
 mod provisioning;
+mod recording;
 mod saved_state;
 mod setup;
 mod sinks;
 mod slots;
+mod state;
 mod texts;

@@ -23,6 +23,8 @@ pub const NO_FLASH: u32 = 18;
 pub const NO_IMAGE: u32 = 19;
 /// More components than a manifest has, or more cuts than a call takes.
 pub const TOO_MANY: u32 = 20;
+/// The log of the flash has no state.
+pub const NO_LOG: u32 = 21;
 
 /// The text is no table.
 pub const NO_TABLE: u32 = 24;

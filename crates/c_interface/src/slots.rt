@@ -9,7 +9,7 @@ use crate::numbers::{DONE, NO_IMAGE};
 use crate::setup::{Setup, check_setup};
 use image_reading::{SlotError, describe_slot};
 use sector_map::{SectorMap, Side};
-use slice_flash::SliceFlash;
+use slice_flash::ReadOnlyFlash;
 use std::marker::Brand;
 use std::sync::ledger::{Blank, Ledger};
 
@@ -29,19 +29,19 @@ fn side_of(number: u8) -> Option<Side>
 fn describe_on<L: Ledger>(
     blank: Blank,
     map: &SectorMap,
-    bytes: &mut [u8],
+    bytes: &[u8],
     image: u8,
     side: Side,
     description: &mut Description,
 ) -> u32
     requires name { blank.name ≡ L.name }
     requires parts { blank.parts ≡ L.parts }
-    requires two { L.parts ≡ 2 }
-    requires room { HasRoom map.now bytes.old }
+    requires one { L.parts ≡ 1 }
+    requires room { HasRoom map.now bytes.now }
     requires there { image < map.now.images }
-    ensures { DescribesSlot map.now bytes.old image side bytes.new description.new result }
+    ensures { DescribesSlot map.now bytes.now image side description.new result }
 {
-    let mut flash = SliceFlash::<L>::new(blank, bytes, map.sector_size, &[]);
+    let mut flash = ReadOnlyFlash::<L>::new(blank, bytes, map.sector_size);
     match describe_slot(&mut flash, map, image, side) {
         Ok(found) => {
             *description = description_of(&found);
@@ -55,20 +55,20 @@ fn describe_on<L: Ledger>(
     }
 }
 
-/// Describes the image at the front of a slot. The bytes after it are ignored, and no byte changes.
-/// Images are numbered from 0; side 0 is the primary slot, 1 the secondary one.
+/// Describes the image at the front of a slot. The bytes after it are ignored. Images are numbered
+/// from 0; side 0 is the primary slot, 1 the secondary one.
 ///
 /// Returns 0 if it is intact, else the number of the first check that fails, 1 to 15, or why there
 /// is no such slot. The description is all zero then.
 #[unsafe(no_mangle)]
 pub extern "C" fn bootswap_slot(
     setup: &Setup,
-    flash: &mut [u8],
+    flash: &[u8],
     image: u8,
     side: u8,
     description: &mut Description,
 ) -> u32
-    ensures { AnswersSlot setup.now image side flash.old flash.new description.new result }
+    ensures { AnswersSlot setup.now image side flash.now description.new result }
 {
     *description = NO_DESCRIPTION;
     let checked = match check_setup(setup, flash) {
@@ -81,5 +81,5 @@ pub extern "C" fn bootswap_slot(
     let Some(side) = side_of(side) else {
         return NO_IMAGE;
     };
-    describe_on::<Brand>(Blank::new(2), &checked.map, flash, image, side, description)
+    describe_on::<Brand>(Blank::new(1), &checked.map, flash, image, side, description)
 }

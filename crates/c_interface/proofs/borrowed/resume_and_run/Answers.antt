@@ -4,7 +4,7 @@ use Rattle.upload.specs.Sessions.{AllOpenAt}
 use Rattle.upload.specs.View.{view}
 use Rattle.machine.specs.Steps.{cut_of}
 use Rattle.boot_core.specs.Device.{seen}
-use Rattle.c_interface.specs.Calls.{MakesCall}
+use Rattle.c_interface.specs.Calls.{IsJournaled, MakesCall}
 use Rattle.c_interface.proofs.Asked.{dark_after}
 use Rattle.c_interface.proofs.Counting.{cuts_of}
 use Rattle.c_interface.proofs.StepLaws.{saved_opens, steps_on}
@@ -43,6 +43,11 @@ returns-clause-steps g c =
     (seen behind c.dispatch-reply.new.uploads.sessions c.dispatch-reply.new.is_booted) c.dispatch-reply.result)
     c.restore-state.ensures.same c.dispatch-reply.ensures)
     refl c.save.ensures
+
+pub returns-clause-journal : goal.returns-clause-journal
+returns-clause-journal g c =
+    subst (λ (chip : Chip). IsJournaled c.args.checked.now.map c.args.call.now chip
+    (g.F.Flash.chip c.dispatch-reply.new.flash)) c.restore-state.ensures.same c.dispatch-reply.ensures.journal
 
 pub returns-clause-dark : goal.returns-clause-dark
 returns-clause-dark g c =

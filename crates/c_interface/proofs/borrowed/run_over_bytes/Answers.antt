@@ -1,9 +1,8 @@
-use Rattle.std.proofs.Common.{◌≡◌, ℕ, List, [], rules, ap, subst, sym, ◌∙◌}
+use Rattle.std.proofs.Common.{◌≡◌, [], rules, ap, ◌∙◌}
 use Rattle.flash_model.specs.Chip.{Chip}
 use Rattle.slice_flash.specs.Rows.{fixed_by}
 use Rattle.slice_flash.specs.SliceFlash.{Slice, chip_of}
-use Rattle.c_interface.specs.Cuts.{WritesAsAsked}
-use Rattle.c_interface.proofs.Asked.{writes_as_asked}
+use Rattle.c_interface.proofs.Asked.{writes_as_asked, writes_over}
 use Rattle.c_interface.proofs.Counting.{cut_as_asked}
 use Rattle.c_interface.proofs.StepLaws.{borrowed_flash, steps_over}
 use Rattle.c_interface.proofs.borrowed.run_over_bytes.Goals as goal
@@ -24,10 +23,16 @@ returns g c =
     let had : before.bytes ≡ bytes = ap (λ (c : Chip). c.bytes) chip in
     let cut = cut_as_asked before left c.resume_and_run-reply.result writes _ _ _ _ chip c.resume_and_run-reply.ensures.fixed
     c.resume_and_run-reply.ensures.cuts c.resume_and_run-reply.new.flash.cut_by_table c.writes-writes.ensures in
-    steps_over c.args.checked.now c.args.call.now _ _ _ _ c.args.saved.now c.resume_and_run-reply.new.saved
-    c.resume_and_run-reply.result (fixed_by table [] 0) writes had (search rules)
-    (c.resume_and_run-reply.ensures.steps (fixed_by table [] 0) writes cut
-    (subst (λ (l : List ℕ). WritesAsAsked (fixed_by table [] 0) c.args.checked.now.map.sector_size l left.bytes writes) (sym had)
-    (writes_as_asked table c.args.checked.now.map.sector_size _ bytes before left c.resume_and_run-reply.result writes fixed
-    c.resume_and_run-reply.ensures.laid.sector_size cut c.resume_and_run-reply.ensures.dark c.resume_and_run-reply.new.flash.off_by_table
-    c.resume_and_run-reply.new.flash.written)))
+    let torn = writes_as_asked table c.args.checked.now.map.sector_size _ bytes before left c.resume_and_run-reply.result writes
+    fixed c.resume_and_run-reply.ensures.laid.sector_size cut c.resume_and_run-reply.ensures.dark
+    c.resume_and_run-reply.new.flash.off_by_table c.resume_and_run-reply.new.flash.written in
+    record {
+      first = before;
+      last = left;
+      steps = steps_over c.args.checked.now c.args.call.now before.bytes left.bytes bytes _ c.args.saved.now
+          c.resume_and_run-reply.new.saved c.resume_and_run-reply.result before left had (search rules)
+          c.resume_and_run-reply.ensures.steps;
+      cut_as_asked = cut;
+      writes_as_asked = writes_over (fixed_by table [] 0) c.args.checked.now.map.sector_size bytes left.bytes _ writes
+          (search rules) torn;
+    }

@@ -7,7 +7,7 @@ pub returns-in-Ok : goal.returns-in-Ok
 returns-in-Ok c = Replied c.in-Ok.outcome.reply
     (subst (λ n. CallsOn c.args.setup.now c.args.cuts.now c.args.asked.now c.args.flash.now c.args.saved.now
     c.call_device.new.bytes c.call_device.new.saved c.in-Ok.outcome.reply n) (sym c.result_of.ensures.writes) c.in-Ok.ensures.outcome)
-    c.result_of.ensures.fields tt c.number_of.ensures
+    c.result_of.ensures.fields c.result_of.ensures.journal tt c.number_of.ensures
 
 pub returns-in-Err : goal.returns-in-Err
 returns-in-Err c = let none = c.in-Err.ensures.refused in NotCalled none.0 none.1 none.2 refl

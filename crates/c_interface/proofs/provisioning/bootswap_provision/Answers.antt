@@ -31,7 +31,7 @@ returns-clause-all c =
     c.provision_on-reply.result c.result_of.result.writes) same
     (subst (λ n. ProvisionsOn c.in-Ok.checked.map asked c.args.flash.now c.provision_on-reply.new.bytes
     c.provision_on-reply.result n) (sym c.result_of.ensures.writes) c.provision_on-reply.ensures))
-    c.result_of.ensures.fields c.number_of.ensures
+    c.result_of.ensures.fields c.result_of.ensures.journal c.number_of.ensures
 
 pub returns-in-Err-clause-first : goal.returns-in-Err-clause-first
 returns-in-Err-clause-first c = first_in c.args.setup.now c.args.cuts.now _ _ _ _ (returns-in-Err-clause-all c)

@@ -2,10 +2,10 @@ use Rattle.std.proofs.Common.{◌≡◌, [], rules, ap, ◌∙◌}
 use Rattle.flash_model.specs.Chip.{Chip}
 use Rattle.slice_flash.specs.Rows.{fixed_by}
 use Rattle.slice_flash.specs.SliceFlash.{Slice, chip_of}
-use Rattle.c_interface.proofs.Asked.{dark_provided, writes_as_asked}
+use Rattle.c_interface.proofs.Asked.{dark_provided, writes_as_asked, writes_over}
 use Rattle.c_interface.proofs.Counting.{cut_as_asked, cuts_provided}
 use Rattle.c_interface.proofs.StepLaws.{borrowed_flash}
-use Rattle.c_interface.proofs.Provisioned.{provisions_on}
+use Rattle.c_interface.proofs.Provisioned.{provisions_between}
 use Rattle.c_interface.proofs.provisioning.provision_on.Goals as goal
 
 pub provision-requires : goal.provision-requires
@@ -32,6 +32,12 @@ returns g c =
     c.provision.ensures.all.laid.sector_size cut
     (dark_provided map before left c.provision.result c.answer-reply.result c.provision.ensures.all c.answer-reply.ensures)
     c.provision.new.flash.off_by_table c.provision.new.flash.written in
-    provisions_on map bytes _ before left c.provision.result c.answer-reply.result
-    (borrowed_flash map bytes before _ map.is_map c.requires.room chip) (search rules) c.provision.ensures.all
-    c.answer-reply.ensures (fixed_by table [] 0) c.writes.result cut torn
+    record {
+      before = before;
+      after = left;
+      between = provisions_between map bytes _ before left c.provision.result c.answer-reply.result
+          (borrowed_flash map bytes before _ map.is_map c.requires.room chip) (search rules) c.provision.ensures.all
+          c.answer-reply.ensures;
+      cut_as_asked = cut;
+      writes_as_asked = writes_over (fixed_by table [] 0) map.sector_size bytes left.bytes _ c.writes.result (search rules) torn;
+    }

@@ -6,11 +6,11 @@ pub returns : goal.returns
 returns c = Described c.in-Ok.checked c.in-Some.side c.in-Ok.ensures.checked (search rules) (search rules) c.describe_on.ensures
 
 pub returns-in-Err : goal.returns-in-Err
-returns-in-Err c = SetupRefused c.in-Err.ensures.refused refl refl
+returns-in-Err c = SetupRefused c.in-Err.ensures.refused refl
 
 pub returns-then-image-checked : goal.returns-then-image-checked
 returns-then-image-checked c =
-    NoImage c.in-Ok.checked c.in-Ok.ensures.checked (inl (omega (arith, c.if-image-checked.true))) refl refl refl
+    NoImage c.in-Ok.checked c.in-Ok.ensures.checked (inl (omega (arith, c.if-image-checked.true))) refl refl
 
 pub returns-in_default : goal.returns-in_default
-returns-in_default c = NoImage c.in-Ok.checked c.in-Ok.ensures.checked (inr (c.side_of.ensures.none (search rules))) refl refl refl
+returns-in_default c = NoImage c.in-Ok.checked c.in-Ok.ensures.checked (inr (c.side_of.ensures.none (search rules))) refl refl

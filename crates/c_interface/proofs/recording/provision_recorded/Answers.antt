@@ -1,0 +1,42 @@
+use Rattle.std.proofs.Common.{◌≡◌, rules, refl, ap, ◌∙◌}
+use Rattle.flash_model.specs.Chip.{Chip}
+use Rattle.slice_flash.specs.JournalFlash.{Recording, recording_of}
+use Rattle.slice_flash.specs.Steps.{fixed_over}
+use Rattle.c_interface.proofs.Asked.{dark_provided}
+use Rattle.c_interface.proofs.Counting.{cuts_provided}
+use Rattle.c_interface.proofs.Provisioned.{provisions_between}
+use Rattle.c_interface.proofs.Recorded.{cut_if_short, cut_over, enough_to_provision, journal_of}
+use Rattle.c_interface.proofs.StepLaws.{borrowed_flash}
+use Rattle.c_interface.proofs.recording.provision_recorded.Goals as goal
+
+pub provision-requires : goal.provision-requires
+provision-requires g c = record {
+  laid_out = (borrowed_flash c.args.map.now c.args.bytes.now _ _ c.args.map.now.is_map c.requires.room
+      (ap (λ (r : Recording). r.chip) c.new-flash.ensures)).laid_out;
+}
+
+pub returns : goal.returns
+returns g c =
+    let map = c.args.map.now in
+    let bytes = c.args.bytes.now in
+    let journal = c.args.journal.now in
+    let all = c.provision.ensures.all in
+    let first = (recording_of c.new-flash.result).chip in
+    let r = recording_of c.provision.new.flash in
+    let chip = ap (λ (r : Recording). r.chip) c.new-flash.ensures in
+    let fixed : r.chip.fixed ≡ fixed_over bytes _ journal _ = all.outside.fixed ∙ ap (λ (c : Chip). c.fixed) chip in
+    let cuts = cuts_provided map first r.chip c.provision.result c.answer-reply.result all c.answer-reply.ensures in
+    let cut = cut_if_short r map.sector_size bytes r.chip.bytes journal r.journal _ _ _ _ c.used-used.ensures.kept
+    all.laid.sector_size fixed refl refl c.writes-writes.ensures c.used-used.ensures.used first c.answer-reply.result
+    (ap (λ (c : Chip). c.journaled) chip) (ap (λ (c : Chip). c.cuts) chip) refl cuts
+    (dark_provided map first r.chip c.provision.result c.answer-reply.result all c.answer-reply.ensures) in
+    record {
+      first = first;
+      last = r.chip;
+      between = provisions_between map bytes _ first r.chip c.provision.result c.answer-reply.result
+          (borrowed_flash map bytes first _ map.is_map c.requires.room chip) (search rules) all c.answer-reply.ensures;
+      journal = journal_of r map.sector_size bytes _ journal _ _ _ _ _ c.used-used.ensures.kept all.laid.sector_size fixed
+          (search rules) (search rules) c.writes-writes.ensures c.used-used.ensures.used;
+      cut = cut_over map.sector_size r.chip.bytes _ _ _ first r.chip c.answer-reply.result (search rules) cut;
+      enough = enough_to_provision c.answer-reply.result _ _ _ _ _ first r.chip cut all.journal;
+    }

@@ -1,0 +1,231 @@
+//! The calls of a device with a journal of its writes, as C makes them.
+
+ghost use Rattle.std.specs.Prelude.{◌≡◌};
+ghost use Rattle.c_interface.specs.Answers.{HasTexts, no_more};
+ghost use Rattle.c_interface.specs.Lifecycle.{HoldsFirstIn, IsBoot};
+ghost use Rattle.c_interface.specs.Numbers.{DONE};
+ghost use Rattle.c_interface.specs.Recording.{AcceptsRecorded, AnswersProvisionRecorded};
+ghost use Rattle.c_interface.specs.Recording.{AnswersRecorded};
+ghost use Rattle.c_interface.specs.declared.dispatch.DeviceCall.TheVariants as call;
+
+use crate::call_result::{CallResult, NO_RESULT, number_of, recorded_result_of};
+use crate::dispatch::DeviceCall;
+use crate::manifests::{ManifestRow, manifest_in};
+use crate::numbers::TOO_MANY;
+use crate::recording::{RecordedOutcome, record_device, record_provision};
+use crate::saved_state::SavedState;
+use crate::setup::Setup;
+use crate::texts::{NO_TEXTS, put_texts};
+
+/// Makes a call on the device of a setup, records its writes, reports its outcome, and returns the
+/// number of its reply.
+fn record_and_report(
+    setup: &Setup,
+    flash: &mut [u8],
+    saved: &mut SavedState,
+    journal: &mut [u8],
+    asked: &DeviceCall<'_>,
+    call_result: &mut CallResult,
+) -> u32
+    ensures { AnswersRecorded setup.now asked.now flash.old saved.old flash.new saved.new
+        journal.old journal.new call_result.new no_more result }
+{
+    match record_device(setup, flash, journal, saved, asked) {
+        Ok(outcome) => {
+            let RecordedOutcome {
+                reply,
+                writes,
+                used,
+            } = outcome;
+            *call_result = recorded_result_of(&reply, writes, used, NO_TEXTS);
+            number_of(&reply)
+        }
+        Err(number) => {
+            *call_result = NO_RESULT;
+            number
+        }
+    }
+}
+
+/// Provisions bytes as the flash of a device, as `bootswap_provision` does, and records the writes
+/// in the journal. The journal has room for them if it has 144 bytes, and 24 for each image.
+///
+/// Returns `DONE`, `REFUSED`, or why no call was made; or `CUT`, only if the journal was too short.
+/// After `CUT` it may be called again.
+#[unsafe(no_mangle)]
+pub extern "C" fn bootswap_journal_provision(
+    setup: &Setup,
+    flash: &mut [u8],
+    journal: &mut [u8],
+    call_result: &mut CallResult,
+) -> u32
+    ensures first { result ≡ DONE → HoldsFirstIn setup.now flash.old flash.new }
+    ensures all { AnswersProvisionRecorded setup.now flash.old flash.new journal.old journal.new
+        call_result.new result }
+{
+    match record_provision(setup, flash, journal) {
+        Ok(outcome) => {
+            let RecordedOutcome {
+                reply,
+                writes,
+                used,
+            } = outcome;
+            *call_result = recorded_result_of(&reply, writes, used, NO_TEXTS);
+            number_of(&reply)
+        }
+        Err(number) => {
+            *call_result = NO_RESULT;
+            number
+        }
+    }
+}
+
+/// Boots the device, as `bootswap_boot` does, and records the writes in the journal. If the journal
+/// is too short, the call returns `CUT` after the writes that fit, and the next boot continues.
+///
+/// Returns `BOOTED`, `REVERTED` or `TRIAL_AGAIN`, and the device is booted; or `REFUSED`, `CUT`, or
+/// why no call was made: then nothing changed.
+#[unsafe(no_mangle)]
+pub extern "C" fn bootswap_journal_boot(
+    setup: &Setup,
+    flash: &mut [u8],
+    saved: &mut SavedState,
+    journal: &mut [u8],
+    table: &mut [u8],
+    report: &mut [u8],
+    call_result: &mut CallResult,
+) -> u32
+    ensures boot { IsBoot setup.now flash.old saved.old flash.new saved.new result }
+    ensures all { AnswersRecorded setup.now call.Boot flash.old saved.old flash.new saved.new
+        journal.old journal.new call_result.new (HasTexts call_result.new.table_length
+        call_result.new.report_length table.old table.new report.old report.new) result }
+{
+    match record_device(setup, flash, journal, saved, &DeviceCall::Boot) {
+        Ok(outcome) => {
+            let RecordedOutcome {
+                reply,
+                writes,
+                used,
+            } = outcome;
+            let lengths = put_texts(&reply, table, report);
+            *call_result = recorded_result_of(&reply, writes, used, lengths);
+            number_of(&reply)
+        }
+        Err(number) => {
+            *call_result = NO_RESULT;
+            number
+        }
+    }
+}
+
+/// Accepts a manifest, as `bootswap_accept` does, and records the writes in the journal. The
+/// journal has room for them if it has 120 bytes, and for each component 44 bytes, and 12 for each
+/// sector of its slot.
+///
+/// Returns `DONE`, `REFUSED`, or why no call was made, which includes `TOO_MANY` components: then
+/// nothing changed; or `CUT`, only if the journal was too short.
+#[unsafe(no_mangle)]
+pub extern "C" fn bootswap_journal_accept(
+    setup: &Setup,
+    flash: &mut [u8],
+    saved: &mut SavedState,
+    journal: &mut [u8],
+    manifest: &ManifestRow,
+    call_result: &mut CallResult,
+) -> u32
+    ensures { AcceptsRecorded setup.now manifest.now flash.old saved.old flash.new saved.new
+        journal.old journal.new call_result.new result }
+{
+    match manifest_in(manifest) {
+        Some(manifest) => {
+            let call = DeviceCall::Accept(&manifest);
+            record_and_report(setup, flash, saved, journal, &call, call_result)
+        }
+        None => {
+            *call_result = NO_RESULT;
+            TOO_MANY
+        }
+    }
+}
+
+/// Adds bytes to the upload of an image, as `bootswap_piece` does, and records the writes in the
+/// journal. The journal has room for them if it is 31 bytes longer than the added bytes. Images are
+/// numbered from 0.
+///
+/// Returns `DONE`, `REFUSED`, or why no call was made; or `CUT`, only if the journal was too short.
+#[unsafe(no_mangle)]
+pub extern "C" fn bootswap_journal_piece(
+    setup: &Setup,
+    flash: &mut [u8],
+    saved: &mut SavedState,
+    journal: &mut [u8],
+    image: u8,
+    bytes: &[u8],
+    call_result: &mut CallResult,
+) -> u32
+    ensures { AnswersRecorded setup.now (call.Piece image bytes.entry) flash.old saved.old
+        flash.new saved.new journal.old journal.new call_result.new no_more result }
+{
+    let call = DeviceCall::Piece(image, bytes);
+    record_and_report(setup, flash, saved, journal, &call, call_result)
+}
+
+/// Finishes the upload of an image, as `bootswap_finish` does, and records the writes in the
+/// journal. A journal of 68 bytes has room for them. Images are numbered from 0.
+///
+/// Returns `DONE`, `REFUSED`, or why no call was made; or `CUT`, only if the journal was too short.
+#[unsafe(no_mangle)]
+pub extern "C" fn bootswap_journal_finish(
+    setup: &Setup,
+    flash: &mut [u8],
+    saved: &mut SavedState,
+    journal: &mut [u8],
+    image: u8,
+    call_result: &mut CallResult,
+) -> u32
+    ensures { AnswersRecorded setup.now (call.Finish image) flash.old saved.old flash.new saved.new
+        journal.old journal.new call_result.new no_more result }
+{
+    let call = DeviceCall::Finish(image);
+    record_and_report(setup, flash, saved, journal, &call, call_result)
+}
+
+/// Withdraws the request of an image, as `bootswap_withdraw` does, and records the writes in the
+/// journal. A journal of 44 bytes has room for them. Images are numbered from 0.
+///
+/// Returns `DONE`, `REFUSED`, or why no call was made; or `CUT`, only if the journal was too short.
+#[unsafe(no_mangle)]
+pub extern "C" fn bootswap_journal_withdraw(
+    setup: &Setup,
+    flash: &mut [u8],
+    saved: &mut SavedState,
+    journal: &mut [u8],
+    image: u8,
+    call_result: &mut CallResult,
+) -> u32
+    ensures { AnswersRecorded setup.now (call.Withdraw image) flash.old saved.old flash.new
+        saved.new journal.old journal.new call_result.new no_more result }
+{
+    let call = DeviceCall::Withdraw(image);
+    record_and_report(setup, flash, saved, journal, &call, call_result)
+}
+
+/// Confirms an image of the set on trial, as `bootswap_confirm` does, and records the writes in the
+/// journal. A journal of 20 bytes has room for them. Images are numbered from 0.
+///
+/// Returns `DONE`, `REFUSED`, or why no call was made; or `CUT`, only if the journal was too short.
+#[unsafe(no_mangle)]
+pub extern "C" fn bootswap_journal_confirm(
+    setup: &Setup,
+    flash: &mut [u8],
+    saved: &mut SavedState,
+    journal: &mut [u8],
+    image: u8,
+    call_result: &mut CallResult,
+) -> u32
+    ensures { AnswersRecorded setup.now (call.Confirm image) flash.old saved.old flash.new saved.new
+        journal.old journal.new call_result.new no_more result }
+{
+    let call = DeviceCall::Confirm(image);
+    record_and_report(setup, flash, saved, journal, &call, call_result)
+}
