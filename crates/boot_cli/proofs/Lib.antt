@@ -1,3 +1,6 @@
+mod ComponentLaws
+mod Found
+mod NeedLaws
 mod OrderLaws
 mod SweepLaws
 mod WordsLaws

@@ -5,27 +5,38 @@
 //!   Arguments that give no order change no file, and end with 2, or with 1 if memory ran out or a
 //!   write failed.
 //! - Main calls: `cli`, `order`, `run_order`
-//! - Allocates: a flash in memory, events.
+//! - Allocates: the order, a flash in memory, events.
 //! - Callers: `bootswap`, and tests.
 //!
-//! `sweep` and the choice of the command are here. The read-only commands are in `inspecting`,
-//! those that make files in `creating`, and `provision` and `run` in `device_commands`. The program
-//! passes the arguments, the system's files and the standard streams; a test passes others.
+//! `order` and `request` read the orders of all commands from their arguments. `sweep` and the choice
+//! of the command are here too. The read-only commands are in `inspecting`, those that make files in
+//! `creating`, and `provision` and `run` in `device_commands`. The program passes the arguments, the
+//! system's files and the standard streams; a test passes others.
 #![tactic(auto)]
 
+mod bracketed_words;
 mod commands;
+mod device_words;
 mod explained;
 mod hint;
+mod image_words;
+mod manifest_words;
+mod order_fault_texts;
+mod orders;
 mod program;
 mod progress;
+mod requests;
+mod sweep_words;
 mod sweeping;
 mod until_failed;
+mod word_values;
 mod words;
 
-pub use command_line::{Order, OrderError, ReadOrder, Request, order, request};
+pub use command_line::{Order, OrderError, ReadOrder, Request};
 pub use host::{Access, Answer, FlashFault, Host, Refusal, Replaced};
 pub use inspecting::{
     ChooseEnd, FlashText, check_over, choose_over, describe_over, flash_text_over, tell_over,
 };
 pub use program::{cli, run_order};
+pub use requests::{order, request};
 pub use words::note_reading;

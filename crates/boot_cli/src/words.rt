@@ -3,7 +3,8 @@ ghost use Rattle.std.specs.Prelude.{IfErr, IfOk, map};
 ghost use Rattle.command_line.specs.OrderFaults.{IsRefusal};
 ghost use Rattle.boot_cli.specs.WordsEnd.{AskFor};
 
-use command_line::{Order, OrderError, ReadOrder, Request, request};
+use crate::requests::request;
+use command_line::{Order, OrderError, ReadOrder, Request};
 use common::texts::STANDARD_INPUT;
 use std::alloc::Global;
 use std::convert::AsStr;

@@ -99,8 +99,6 @@ struct Definition {
     name: &'static str,
     /// Its name in its usage line.
     usage_name: &'static str,
-    /// Its help.
-    help: &'static Help,
     /// Its arguments, in the order of its help.
     arguments: &'static [Argument],
 }
@@ -108,7 +106,6 @@ struct Definition {
 const CHOOSE: &Definition = &Definition {
     name: "choose",
     usage_name: "bootswap choose",
-    help: help::CHOOSE,
     arguments: &[
         Argument::File(named::TABLE, argument_help::TABLE_FILE),
         EXPLAIN,
@@ -118,7 +115,6 @@ const CHOOSE: &Definition = &Definition {
 const CHECK: &Definition = &Definition {
     name: "check",
     usage_name: "bootswap check",
-    help: help::CHECK,
     arguments: &[
         Argument::File(named::TABLE, argument_help::TABLE_FILE),
         Argument::File(named::REPORT, argument_help::REPORT_FILE),
@@ -129,7 +125,6 @@ const CHECK: &Definition = &Definition {
 const IMAGE: &Definition = &Definition {
     name: "image",
     usage_name: "bootswap image",
-    help: help::IMAGE,
     arguments: &[
         Argument::File(named::FILE, argument_help::IMAGE_FILE),
         EXPLAIN,
@@ -139,7 +134,6 @@ const IMAGE: &Definition = &Definition {
 const MANIFEST: &Definition = &Definition {
     name: "manifest",
     usage_name: "bootswap manifest",
-    help: help::MANIFEST,
     arguments: &[
         Argument::File(named::DEVICE, argument_help::DEVICE_FILE),
         Argument::File(named::FILE, argument_help::MANIFEST_FILE),
@@ -150,7 +144,6 @@ const MANIFEST: &Definition = &Definition {
 const MAKE_DEVICE: &Definition = &Definition {
     name: "make-device",
     usage_name: "bootswap make-device",
-    help: help::MAKE_DEVICE,
     arguments: &[
         Argument::Required(named::SECTOR, argument_help::SECTOR),
         Argument::Required(named::SLOTS, argument_help::SLOTS),
@@ -164,7 +157,6 @@ const MAKE_DEVICE: &Definition = &Definition {
 const MAKE_IMAGE: &Definition = &Definition {
     name: "make-image",
     usage_name: "bootswap make-image",
-    help: help::MAKE_IMAGE,
     arguments: &[
         Argument::File(named::OUT, argument_help::NEW_IMAGE_FILE),
         Argument::File(named::BODY, argument_help::BODY_FILE),
@@ -188,7 +180,6 @@ const MAKE_IMAGE: &Definition = &Definition {
 const MAKE_MANIFEST: &Definition = &Definition {
     name: "make-manifest",
     usage_name: "bootswap make-manifest",
-    help: help::MAKE_MANIFEST,
     arguments: &[
         Argument::File(named::DEVICE, argument_help::DEVICE_FILE),
         Argument::Required(named::SEQUENCE, argument_help::SEQUENCE),
@@ -203,7 +194,6 @@ const MAKE_MANIFEST: &Definition = &Definition {
 const PROVISION: &Definition = &Definition {
     name: "provision",
     usage_name: "bootswap provision",
-    help: help::PROVISION,
     arguments: &[
         Argument::File(named::DEVICE, argument_help::DEVICE_FILE),
         Argument::File(named::FLASH, argument_help::NEW_FLASH_FILE),
@@ -215,7 +205,6 @@ const PROVISION: &Definition = &Definition {
 const EXTRACT: &Definition = &Definition {
     name: "extract",
     usage_name: "bootswap extract",
-    help: help::EXTRACT,
     arguments: &[
         Argument::File(named::DEVICE, argument_help::DEVICE_FILE),
         Argument::File(named::FLASH, argument_help::SHOWN_FLASH_FILE),
@@ -230,7 +219,6 @@ const EXTRACT: &Definition = &Definition {
 const SHOW: &Definition = &Definition {
     name: "show",
     usage_name: "bootswap show",
-    help: help::SHOW,
     arguments: &[
         Argument::File(named::DEVICE, argument_help::DEVICE_FILE),
         Argument::File(named::FLASH, argument_help::SHOWN_FLASH_FILE),
@@ -241,7 +229,6 @@ const SHOW: &Definition = &Definition {
 const SLOTS: &Definition = &Definition {
     name: "slots",
     usage_name: "bootswap slots",
-    help: help::SLOTS,
     arguments: &[
         Argument::File(named::DEVICE, argument_help::DEVICE_FILE),
         Argument::File(named::FLASH, argument_help::SHOWN_FLASH_FILE),
@@ -252,7 +239,6 @@ const SLOTS: &Definition = &Definition {
 const RUN: &Definition = &Definition {
     name: "run",
     usage_name: "bootswap run",
-    help: help::RUN,
     arguments: &[
         Argument::File(named::DEVICE, argument_help::DEVICE_FILE),
         Argument::File(named::FLASH, argument_help::FLASH_FILE),
@@ -265,7 +251,6 @@ const RUN: &Definition = &Definition {
 const SWEEP: &Definition = &Definition {
     name: "sweep",
     usage_name: "bootswap sweep",
-    help: help::SWEEP,
     arguments: &[
         Argument::File(named::DEVICE, argument_help::DEVICE_FILE),
         Argument::File(named::SCRIPT, argument_help::SCRIPT_FILE),
@@ -281,7 +266,6 @@ const SWEEP: &Definition = &Definition {
 const CODES: &Definition = &Definition {
     name: "codes",
     usage_name: "bootswap codes",
-    help: help::CODES,
     arguments: &[EXPLAIN],
 };
 
@@ -373,8 +357,13 @@ impl Subcommand {
     {
         let definition = self.definition();
         let name: &'a str = definition.name;
-        let command = new_command(alloc, name, definition.help);
+        let command = new_command(alloc, name, self.help());
         with_arguments(alloc, command, definition.arguments)
+    }
+
+    /// Returns the subcommand as `clap` defines it, with its name in its usage line.
+    pub(crate) fn named_command<'a>(self, alloc: Global) -> Result<Command<'a>, AllocError> {
+        self.command(alloc)?.bin_name(self.usage_name())
     }
 
     /// Returns its definition.
@@ -400,6 +389,26 @@ impl Subcommand {
         }
     }
 
+    /// Returns its help.
+    fn help(self) -> &'static Help {
+        match self {
+            Subcommand::Choose => help::CHOOSE,
+            Subcommand::Check => help::CHECK,
+            Subcommand::Image => help::IMAGE,
+            Subcommand::Manifest => help::MANIFEST,
+            Subcommand::MakeDevice => help::MAKE_DEVICE,
+            Subcommand::MakeImage => help::MAKE_IMAGE,
+            Subcommand::MakeManifest => help::MAKE_MANIFEST,
+            Subcommand::Provision => help::PROVISION,
+            Subcommand::Extract => help::EXTRACT,
+            Subcommand::Show => help::SHOW,
+            Subcommand::Slots => help::SLOTS,
+            Subcommand::Run => help::RUN,
+            Subcommand::Sweep => help::SWEEP,
+            Subcommand::Codes => help::CODES,
+        }
+    }
+
     /// Returns its name.
     fn name(self) -> &'static str
         ensures { result.now ≡ name_for self }
@@ -408,7 +417,7 @@ impl Subcommand {
     }
 
     /// Returns its name in its usage line.
-    pub fn usage_name(self) -> &'static str {
+    fn usage_name(self) -> &'static str {
         self.definition().usage_name
     }
 }

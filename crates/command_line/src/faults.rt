@@ -10,8 +10,8 @@ use crate::commands::Subcommand;
 use crate::error::OrderError;
 use crate::matching::matches_of;
 use crate::{commands, fault_texts};
-use clap::Error;
 use clap::error::ErrorKind;
+use clap::{Command, Error};
 use common::texts::Escaped;
 use std::alloc::{AllocError, Global};
 use std::convert::AsStr;
@@ -44,7 +44,7 @@ pub fn no_text(alloc: Global) -> OrderError
 pub fn program_error(alloc: Global, kind: ErrorKind, text: &str) -> Result<Error, AllocError>
     ensures { IfOk result (λ error. kind_of error ≡ kind) }
 {
-    commands::bootswap(alloc)?.error(kind, text)
+    error_of(commands::bootswap(alloc), kind, text)
 }
 
 /// Returns a fault in the arguments of a subcommand, with this text.
@@ -56,10 +56,18 @@ pub fn subcommand_error(
 ) -> Result<Error, AllocError>
     ensures { IfOk result (λ error. kind_of error ≡ kind) }
 {
-    let mut command = subcommand
-        .command(alloc)?
-        .bin_name(subcommand.usage_name())?;
-    command.error(kind, text)
+    error_of(subcommand.named_command(alloc), kind, text)
+}
+
+/// Returns a fault in the arguments of a command, with this text.
+fn error_of(
+    command: Result<Command<'_>, AllocError>,
+    kind: ErrorKind,
+    text: &str,
+) -> Result<Error, AllocError>
+    ensures { IfOk result (λ error. kind_of error ≡ kind) }
+{
+    command?.error(kind, text)
 }
 
 /// Returns the fault of an order that writes standard input, with `written_text`, or that reads it

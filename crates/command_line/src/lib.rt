@@ -1,46 +1,37 @@
-//! The definitions of commands for `clap`, their help, and the parsing of arguments into an order.
+//! The definitions of commands for `clap`, their help, and the parsing of orders to a device.
 //!
-//! - Promises: The arguments give an order exactly as `clap` defines it, or another answer with its
-//!   reason: a fault in them, which ends with 2, help or the version, or lack of memory. An order
-//!   names standard input at most once.
-//! - Main calls: `device_request`, `request`, `matches_of`
+//! - Promises: The arguments give an order to a device exactly as `clap` defines it, or another
+//!   answer with its reason: a fault in them, which ends with 2, help or the version, or lack of
+//!   memory. An order names standard input at most once.
+//! - Main calls: `device_request`, `matches_of`
 //! - Allocates: to read the arguments and to make texts.
 //! - Callers: commands and programs.
 //!
-//! `device_request` reads only the orders to a device, `provision` and `run`. `request` reads those
-//! of all commands. This crate names files and opens none.
+//! `device_request` reads only the orders to a device, `provision` and `run`. `Order` is the type of
+//! all orders, which a program with more commands reads. This crate names files and opens none.
 #![tactic(auto)]
 
 mod argument_help;
 mod arguments;
-mod bracketed_words;
 mod codes;
 mod commands;
 mod device_orders;
-mod device_words;
 mod error;
 pub mod fault_texts;
 mod faults;
 mod help;
-mod image_words;
-mod manifest_words;
 mod matching;
-mod order_fault_texts;
 mod orders;
-mod requests;
 mod standard_input;
-mod sweep_words;
-mod word_values;
 
 pub use codes::REFUSALS;
 pub use commands::{Subcommand, named};
 pub use device_orders::{DeviceOrder, DeviceRequest, device_request, provision_in, run_in};
 pub use error::OrderError;
-pub use faults::{fault_of, no_text, program_error, subcommand_error};
+pub use faults::{fault_of, misuse_error, no_text, program_error, subcommand_error};
 pub use matching::{images_in, is_explained, is_given, matches_of, name_in, named_in, names_in};
 pub use orders::{
     NewComponent, NewDevice, NewFile, NewImage, NewManifest, Order, ReadOrder, Request,
     SweepChoices,
 };
-pub use requests::{order, request};
 pub use standard_input::{inputs_with, is_standard_input, standard_inputs};

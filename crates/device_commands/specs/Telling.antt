@@ -9,7 +9,7 @@ use Rattle.machine.specs.Intake.{Setup}
 use Rattle.machine.specs.Passing.{RunsTo, StepsTo}
 use Rattle.machine.specs.Steps.{DeviceEvent}
 use Rattle.machine.specs.declared.reply.Reply.{Reply}
-use Rattle.boot_core.specs.CutEvents.{CutsEach, DueEach, IsCutAsDue}
+use Rattle.boot_core.specs.CutEvents.{CutsEach, IsCutAsDue, StepsEach}
 use Rattle.host.specs.declared.answer.Answer.{Answer}
 use Rattle.host.specs.declared.error.Refusal.{Refusal}
 use Rattle.host.specs.declared.error.Refusal.TheVariants.{FlashFile}
@@ -60,7 +60,7 @@ pub record RepliesToAll (setup : Setup) (old new : DeviceView) (came : List (Eve
   pub runs : RunsTo setup old new events replies
   pub each : length replies ≡ length events
   -- Event by event, the reply is Cut exactly if the flash took an armed write in it, or had a fault.
-  pub due : DueEach setup old events replies new
+  pub due : StepsEach IsCutAsDue setup old events replies new
 
 -- A device replied to all events, and a writer took the replies. The last of them gives the answer.
 -- `failed` is false only if no write of the flash file failed.
