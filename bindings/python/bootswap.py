@@ -2,7 +2,11 @@
 
 A `Device` has a flash (`flash`, a bytearray that the caller may read and change) and its saved state. Each of its calls
 is proved to be one step of a machine that knows whole images only. `choose`, `check`, `describe` and `digest` need no
-device. `include/bootswap.h` says what each call returns, and this module what it raises.
+device. `include/bootswap.h` says what each call returns.
+
+A call raises `ValueError` for an argument that the device can't be passed, `Refused` if the device refuses the call, and
+`BootswapError` if no call could be made. In each of these cases but `Refused`, nothing changed. A device with
+`raises_refusals=False` returns a refusal as any other reply.
 
 The library is `out/libbootswap.so` of the repository, which `bindings/build` makes, or the file that the environment
 names in BOOTSWAP_LIBRARY.
@@ -38,6 +42,7 @@ class Number(enum.IntEnum):
     NO_FLASH = 18
     NO_IMAGE = 19
     TOO_MANY = 20
+    NO_LOG = 21
     NO_TABLE = 24
     NO_REPORT = 25
     INVALID_SET = 26
@@ -72,6 +77,55 @@ class UploadFault(enum.IntEnum):
     NothingRequested = 9
 
 
+class ManifestFault(enum.IntEnum):
+    """Why a manifest is refused that was given by its fields."""
+
+    NoComponent = 6
+    RepeatedComponent = 7
+
+
+class ImageFault(enum.IntEnum):
+    """Why bytes are no intact image: the first check that fails."""
+
+    Short = 1
+    BadMagic = 2
+    BadHeaderSize = 3
+    UnsupportedFlags = 4
+    Truncated = 5
+    BadTlvMagic = 6
+    BadTlvSize = 7
+    NoDigest = 8
+    TwoDigests = 9
+    BadDigest = 10
+    BadDependency = 11
+    TooManyDependencies = 12
+    TrailingBytes = 13
+    BadCounter = 14
+    TooManyGroups = 15
+
+
+class Reason(enum.IntEnum):
+    """Why a boot refuses a request."""
+
+    Damaged = 1
+    Older = 2
+    Counter = 3
+    NoSuchImage = 4
+    Needs = 5
+    NeedsOne = 6
+
+
+class Phase(enum.IntEnum):
+    """The phase of an upgrade."""
+
+    STEADY = 1
+    SWAP = 2
+    SETTLE = 3
+    TRIAL = 4
+    BACK = 5
+    BACK_SETTLE = 6
+
+
 class Kind(enum.IntEnum):
     """How an image is requested."""
 
@@ -85,6 +139,14 @@ class BootswapError(Exception):
     def __init__(self, number: Number, line: int = 0) -> None:
         super().__init__(f"{number.name}{f' at line {line}' if line else ''}")
         self.number, self.line = number, line
+
+
+class Refused(Exception):
+    """A call that the device refused. `reply` says why, and `include/bootswap.h` what that changed."""
+
+    def __init__(self, name: str, reply: Reply) -> None:
+        super().__init__(f"{name} is refused: {reply.reason()}")
+        self.reply = reply
 
 
 class _Setup(ctypes.Structure):
@@ -118,7 +180,7 @@ class _Refusal(ctypes.Structure):
 
 
 class _CallResult(ctypes.Structure):
-    _fields_ = [("writes", c_uint64)]
+    _fields_ = [("writes", c_uint64), ("journal_length", c_uint64)]
     _fields_ += [(name, c_uint32) for name in ("fault", "detail", "check", "set", "left", "permanent", "images")]
     _fields_ += [(name, c_uint32) for name in ("refusals", "table_length", "report_length")]
     _fields_ += [("versions", _Version * MOST_IMAGES), ("refused", _Refusal * MOST_IMAGES)]
@@ -143,6 +205,11 @@ class _Description(ctypes.Structure):
     _fields_ += [("digest", c_uint8 * 32)]
 
 
+class _State(ctypes.Structure):
+    _fields_ = [(name, c_uint32) for name in ("kind", "set", "permanent", "left", "sequence")]
+    _fields_ += [("floors", c_uint32 * MOST_IMAGES)]
+
+
 class _Sha256(ctypes.Structure):
     _fields_ = [("bytes", c_uint8 * 32)]
 
@@ -152,23 +219,28 @@ def _load() -> ctypes.CDLL:
     library = ctypes.CDLL(os.environ.get("BOOTSWAP_LIBRARY", f"{root}/out/libbootswap.so"))
     flash, cuts, result = [POINTER(c_uint8), c_size_t], [POINTER(_Cut), c_size_t], [POINTER(_CallResult)]
     text = [POINTER(c_char), c_size_t]
-    device = [POINTER(_Setup), *flash, POINTER(_SavedState), *cuts]
-    of_image = [*device, c_uint8, *result]
     arguments = {
-        "provision": [POINTER(_Setup), *flash, *cuts, *result],
-        "boot": [*device, *text, *text, *result],
-        "accept": [*device, POINTER(_Manifest), *result],
-        "piece": [*device, c_uint8, POINTER(c_uint8), c_size_t, *result],
-        "finish": of_image,
-        "withdraw": of_image,
-        "confirm": of_image,
         "reset": [POINTER(_SavedState)],
         "slot": [POINTER(_Setup), *flash, c_uint8, c_uint8, POINTER(_Description)],
+        "state": [POINTER(_Setup), *flash, POINTER(_State)],
         "describe": [*flash, POINTER(_Description)],
         "digest": [*flash, POINTER(_Sha256)],
         "choose": [*text, *text, POINTER(c_uint64)],
         "check": [*text, *text, POINTER(c_uint64)],
     }
+    # What a call takes after its cuts, or in its other form after its journal.
+    of_device = {
+        "boot": [*text, *text, *result],
+        "accept": [POINTER(_Manifest), *result],
+        "piece": [c_uint8, POINTER(c_uint8), c_size_t, *result],
+        "finish": [c_uint8, *result],
+        "withdraw": [c_uint8, *result],
+        "confirm": [c_uint8, *result],
+    }
+    for form, writes in (("", cuts), ("journal_", flash)):
+        arguments[f"{form}provision"] = [POINTER(_Setup), *flash, *writes, *result]
+        for name, types in of_device.items():
+            arguments[f"{form}{name}"] = [POINTER(_Setup), *flash, POINTER(_SavedState), *writes, *types]
     for name, types in arguments.items():
         call = getattr(library, f"bootswap_{name}")
         call.argtypes, call.restype = types, None if name in ("reset", "digest") else c_uint32
@@ -201,11 +273,10 @@ class Need:
 
 @dataclass(frozen=True)
 class Refusal:
-    """A request that a boot refuses: the image, the number of the reason (1 damaged, 2 older, 3 counter, 4 no such
-    image, 5 needs, 6 needs one of several), and what the image needs."""
+    """A request that a boot refuses: the image, the reason, and what the image needs."""
 
     image: int
-    reason: int
+    reason: Reason
     needs: tuple[Need, ...]
 
 
@@ -249,11 +320,33 @@ class Description:
 
 
 @dataclass(frozen=True)
+class State:
+    """The state in the log of a flash.
+
+    - `phase`: the phase of the upgrade
+    - `images`: the images of the upgrade
+    - `permanent`: whether they stay without a trial
+    - `left`: the number of further boots of the trial
+    - `sequence`: the sequence number of the last accepted manifest
+    - `floors`: the lowest security counter that each image may have
+    """
+
+    phase: Phase
+    images: tuple[int, ...]
+    permanent: bool
+    left: int
+    sequence: int
+    floors: tuple[int, ...]
+
+
+@dataclass(frozen=True)
 class Reply:
     """The reply of a device to a call. `number` is DONE, BOOTED, REVERTED, TRIAL_AGAIN, REFUSED or CUT.
 
     - `writes`: the number of writes that the call began
-    - `fault`, `detail`, `check`: the reason, if REFUSED
+    - `fault`: the reason, if REFUSED
+    - `detail`: an `UploadFault` or a `ManifestFault` if that is the fault, and the image if that is damaged
+    - `check`: the first check that an uploaded image fails, if that is the fault
     - `images`: the images that a boot takes, reverts or tries again
     - `left`: the number of boots that are left to the trial, if TRIAL_AGAIN
     - `permanent`: whether the set is taken without a trial, if BOOTED
@@ -262,9 +355,9 @@ class Reply:
 
     number: Number
     writes: int
-    fault: int = 0
-    detail: int = 0
-    check: int = 0
+    fault: Fault | None = None
+    detail: UploadFault | ManifestFault | int = 0
+    check: ImageFault | None = None
     images: tuple[int, ...] = ()
     left: int = 0
     permanent: bool = False
@@ -272,6 +365,16 @@ class Reply:
     refusals: tuple[Refusal, ...] = ()
     table: str = ""
     report: str = ""
+
+    def reason(self) -> str:
+        """Returns the names of the fault and of what caused it, or the number of the image."""
+        detail = self.detail.name if isinstance(self.detail, enum.Enum) else str(self.detail)
+        parts = (self.fault, self.fault in _WITH_DETAIL and detail, self.check)
+        return " ".join(it.name if isinstance(it, enum.Enum) else it for it in parts if it)
+
+
+# The faults that a detail belongs to.
+_WITH_DETAIL = (Fault.RunningDamaged, Fault.Manifest, Fault.Upload)
 
 
 def _version(given: _Version) -> Version:
@@ -297,25 +400,37 @@ def _bytes_of(given: bytes) -> ctypes.Array[c_uint8]:
 def _cuts(given: Sequence[Cut]) -> ctypes.Array[_Cut]:
     rows = (_Cut * max(len(given), 1))()
     for row, cut in zip(rows, given):
-        row.write, row.left = cut.write, {"keep": 0, "done": 1}.get(cut.left, 2) if isinstance(cut.left, str) else 2
+        row.write = _number("the number of a write", cut.write, 2**64 - 1)
+        row.left = {"keep": 0, "done": 1}.get(cut.left, 2) if isinstance(cut.left, str) else 2
         if isinstance(cut.left, bytes):
-            row.pattern_length = len(cut.left)
+            row.pattern_length = _number("the length of a cut's pattern", len(cut.left), 8)
             row.pattern[: len(cut.left)] = cut.left
         elif row.left == 2:
             raise ValueError(f"a cut leaves 'keep', 'done' or bytes, and not {cut.left!r}")
     return rows
 
 
+def _number(what: str, value: int, most: int) -> int:
+    """Returns a number that a field of the library holds. Raises `ValueError` if it doesn't fit."""
+    if not 0 <= value <= most:
+        raise ValueError(f"{what} is 0 to {most}, and not {value}")
+    return value
+
+
 def _byte(image: int) -> int:
-    if not 0 <= image <= 255:
-        raise ValueError(f"the number of an image is 0 to 255, and not {image}")
-    return image
+    return _number("the number of an image", image, 255)
+
+
+def _digest(given: bytes) -> bytes:
+    if len(given) != 32:
+        raise ValueError(f"a digest has 32 bytes, and not {len(given)}")
+    return given
 
 
 @dataclass
 class Device:
     """A device in memory with `len(sectors)` images, and these numbers of sectors for each slot. Its flash is erased at
-    first, and has exactly the length that the device needs."""
+    first, and has exactly the length that the device needs. If `raises_refusals` is set, a refused call raises `Refused`."""
 
     sector_size: int
     sectors: Sequence[int]
@@ -323,10 +438,14 @@ class Device:
     vendor: uuid.UUID = uuid.UUID(int=0)
     class_id: uuid.UUID = uuid.UUID(int=0)
     flash: bytearray = field(default_factory=bytearray, repr=False)
+    raises_refusals: bool = True
 
     def __post_init__(self) -> None:
         if not 1 <= len(self.sectors) <= MOST_IMAGES:
             raise ValueError(f"a device has 1 to {MOST_IMAGES} images, and not {len(self.sectors)}")
+        for it in (self.sector_size, *self.sectors):
+            _number("a number of bytes or sectors", it, 2**32 - 1)
+        _number("the number of boots of a trial", self.trial_boots, 2**32 - 1)
         if not self.flash:
             self.flash = bytearray(b"\xff" * self.sector_size * (2 * sum(it + 1 for it in self.sectors) + 4))
         self._setup = _Setup(self.sector_size, len(self.sectors), trial_boots=self.trial_boots)
@@ -336,11 +455,17 @@ class Device:
 
     def place(self, image: int, side: int = 0) -> int:
         """Returns the address of an image's slot: side 0 is the primary one, 1 the secondary one."""
+        if not 0 <= image < len(self.sectors) or side not in (0, 1):
+            raise ValueError(f"there is no slot of image {image} on side {side}")
         before = sum(it + 1 for it in self.sectors[:image]) + side * sum(it + 1 for it in self.sectors)
         return before * self.sector_size
 
     def write(self, image: int, file: bytes, side: int = 0) -> None:
-        """Writes a file to the front of a slot, as a programmer does before the device is provisioned."""
+        """Writes a file to the front of a slot, as a programmer does before the device is provisioned. Raises `ValueError`
+        if the file is longer than the slot."""
+        room = self.sectors[image] * self.sector_size if 0 <= image < len(self.sectors) else 0
+        if room and len(file) > room:
+            raise ValueError(f"a slot of image {image} has {room} bytes, and the file {len(file)}")
         self.flash[self.place(image, side) : self.place(image, side) + len(file)] = file
 
     @property
@@ -362,13 +487,14 @@ class Device:
         rows = list(components)
         if len(rows) > MOST_IMAGES:
             raise BootswapError(Number.TOO_MANY)
-        manifest = _Manifest(sequence, len(rows))
+        manifest = _Manifest(_number("a sequence number", sequence, 2**32 - 1), len(rows))
         for row, it in zip(manifest.components, rows):
-            row.size, row.image, row.is_permanent = it.size, _byte(it.image), it.kind == Kind.PERMANENT
-            row.digest[:] = it.digest
+            row.size, row.image = _number("the size of a file", it.size, 2**32 - 1), _byte(it.image)
+            row.is_permanent = it.kind == Kind.PERMANENT
+            row.digest[:] = _digest(it.digest)
             if it.precursor is not None:
                 row.has_precursor = 1
-                row.precursor[:] = it.precursor
+                row.precursor[:] = _digest(it.precursor)
         return self._call("accept", cuts, byref(manifest))
 
     def piece(self, image: int, more: bytes, cuts: Sequence[Cut] = ()) -> Reply:
@@ -391,13 +517,23 @@ class Device:
         """Resets the device: all uploads are closed, and it isn't booted."""
         _LIBRARY.bootswap_reset(byref(self._saved))
 
-    def slot(self, image: int, side: int = 0) -> Description | int:
-        """Returns the description of the image at the front of a slot, or the number of the first check that fails."""
+    def slot(self, image: int, side: int = 0) -> Description | ImageFault:
+        """Returns the description of the image at the front of a slot, or the first check that fails."""
         result, flash = _Description(), (c_uint8 * len(self.flash)).from_buffer(self.flash)
         number = _LIBRARY.bootswap_slot(byref(self._setup), flash, len(flash), _byte(image), _byte(side), byref(result))
         if number >= Number.NO_MAP:
             raise BootswapError(Number(number))
-        return number or _description(result)
+        return ImageFault(number) if number else _description(result)
+
+    def state(self) -> State:
+        """Returns the state in the log. Raises `BootswapError` if the log has none."""
+        result, flash = _State(), (c_uint8 * len(self.flash)).from_buffer(self.flash)
+        number = _LIBRARY.bootswap_state(byref(self._setup), flash, len(flash), byref(result))
+        if number:
+            raise BootswapError(Number(number))
+        floors = tuple(result.floors[: len(self.sectors)])
+        phase, images, permanent = Phase(result.kind), _images(result.set), bool(result.permanent)
+        return State(phase, images, permanent, result.left, result.sequence, floors)
 
     def _call(self, name: str, cuts: Sequence[Cut], *words: object, texts: tuple = ()) -> Reply:
         if len(cuts) > MOST_CUTS:
@@ -410,21 +546,32 @@ class Device:
         )
         if number >= Number.NO_MAP:
             raise BootswapError(number)
-        return _reply(number, result, texts)
+        reply = _reply(number, result, texts)
+        if number == Number.REFUSED and self.raises_refusals:
+            raise Refused(name, reply)
+        return reply
+
+
+def _detail(fault: int, detail: int) -> UploadFault | ManifestFault | int:
+    kind = {Fault.Upload: UploadFault, Fault.Manifest: ManifestFault}.get(fault, int)
+    return kind(detail)
+
+
+def _images(mask: int) -> tuple[int, ...]:
+    return tuple(i for i in range(MOST_IMAGES) if mask >> i & 1)
 
 
 def _reply(number: Number, result: _CallResult, texts: tuple) -> Reply:
-    images = tuple(i for i in range(MOST_IMAGES) if result.set >> i & 1)
-    refusals = (Refusal(it.image, it.reason, _needs(it.needs, it.count)) for it in result.refused[: result.refusals])
+    refusals = (Refusal(it.image, Reason(it.reason), _needs(it.needs, it.count)) for it in result.refused[: result.refusals])
     lengths = zip(texts, (result.table_length, result.report_length))
     table, report = [it.raw[:length].decode() for it, length in lengths] or ("", "")
     return Reply(
         number,
         result.writes,
-        result.fault,
-        result.detail,
-        result.check,
-        images,
+        Fault(result.fault) if result.fault else None,
+        _detail(result.fault, result.detail),
+        ImageFault(result.check) if result.check else None,
+        _images(result.set),
         result.left,
         bool(result.permanent),
         tuple(map(_version, result.versions[: result.images])),
@@ -434,10 +581,11 @@ def _reply(number: Number, result: _CallResult, texts: tuple) -> Reply:
     )
 
 
-def describe(image: bytes) -> Description | int:
-    """Returns the description of the image that these bytes are, or the number of the first check that fails."""
+def describe(image: bytes) -> Description | ImageFault:
+    """Returns the description of the image that these bytes are, or the first check that fails."""
     result = _Description()
-    return _LIBRARY.bootswap_describe(_bytes_of(image), len(image), byref(result)) or _description(result)
+    number = _LIBRARY.bootswap_describe(_bytes_of(image), len(image), byref(result))
+    return ImageFault(number) if number else _description(result)
 
 
 def digest(file: bytes) -> bytes:

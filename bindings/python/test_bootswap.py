@@ -8,7 +8,8 @@ import unittest
 import uuid
 
 import bootswap
-from bootswap import Component, Cut, Device, Kind, Need, Number, UploadFault, Version
+from bootswap import Component, Cut, Device, Fault, ImageFault, Kind, ManifestFault, Need, Number, Phase, Reason, State
+from bootswap import UploadFault, Version
 
 EXAMPLES = f"{os.path.dirname(os.path.realpath(__file__))}/../../examples"
 
@@ -26,7 +27,7 @@ def device_of(name):
     """Returns the device of a device file, provisioned with the same image in all primary slots."""
     it = json.loads(read(f"devices/{name}.json"))
     vendor, class_id = uuid.UUID(it["vendor-id"]), uuid.UUID(it["class-id"])
-    device = Device(it["sector"], it["sectors"], it.get("trial-boots", 1), vendor, class_id)
+    device = Device(it["sector"], it["sectors"], it.get("trial-boots", 1), vendor, class_id, raises_refusals=False)
     for image in range(len(it["sectors"])):
         device.write(image, read("images/one.img"))
     assert device.provision().number == Number.DONE
@@ -83,7 +84,7 @@ class Script:
         if reply.number == Number.REVERTED:
             return [f"{self.count} reverted {images}"]
         if reply.number == Number.REFUSED:
-            return [f"{self.count} refused upload {reply.detail} {UploadFault(reply.detail).name}"]
+            return [f"{self.count} refused upload {reply.detail} {reply.detail.name}"]
         return [f"{self.count} {reply.number.name.lower()}"]
 
 
@@ -116,7 +117,7 @@ class Images(unittest.TestCase):
         for name in names_in("images"):
             told, lines = bootswap.describe(read(f"images/{name}.img")), []
             if isinstance(told, int):
-                lines = [f"refused {told} "]
+                lines = [f"refused {told} {told.name}"]
             else:
                 lines += [f"version {told.version}", f"length {told.length}", f"counter {told.counter}"]
                 lines += [f"digest {told.digest.hex()}"]
@@ -165,12 +166,51 @@ class Devices(unittest.TestCase):
             self.assertEqual([device.slot(image).version for image in (0, 1)], [new, new])
             self.assertTrue(bootswap.check(reply.table, reply.report))
 
+    def test_the_log_has_the_state(self):
+        device = Device(512, [2, 2], trial_boots=3)
+        with self.assertRaises(bootswap.BootswapError) as caught:
+            device.state()
+        self.assertEqual(caught.exception.number, Number.NO_LOG)
+        for image in (0, 1):
+            device.write(image, read("images/one.img"))
+        device.provision()
+        self.assertEqual(device.state(), State(Phase.STEADY, (), False, 0, 0, (0, 0)))
+        device.boot()
+        file = read("images/patched.img")
+        device.accept(7, [Component.of(1, file)])
+        self.assertEqual(device.state(), State(Phase.STEADY, (), False, 0, 7, (0, 0)))
+        device.piece(1, file)
+        device.finish(1)
+        self.assertEqual(device.boot().images, (1,))
+        self.assertEqual(device.state(), State(Phase.TRIAL, (1,), False, 2, 7, (0, 0)))
+        self.assertEqual(device.boot().left, 1)
+        self.assertEqual(device.state(), State(Phase.TRIAL, (1,), False, 1, 7, (0, 0)))
+        device.confirm(1)
+        self.assertEqual(device.boot().number, Number.BOOTED)
+        self.assertEqual(device.state(), State(Phase.STEADY, (), False, 0, 7, (0, 5)))
+        device.flash[device.place(1, 1) + 3 * 512 :] = b"\x00" * (len(device.flash) - device.place(1, 1) - 3 * 512)
+        with self.assertRaises(bootswap.BootswapError) as caught:
+            device.state()
+        self.assertEqual(caught.exception.number, Number.NO_LOG)
+
+    def test_a_boot_that_is_cut_leaves_its_phase_in_the_log(self):
+        device = self.requested()
+        kept, flash, phases = bytes(device._saved), bytes(device.flash), []
+        for write in range(1, device.boot().writes + 1):
+            device.flash[:], device._saved = flash, type(device._saved).from_buffer_copy(kept)
+            device.boot([Cut(write)])
+            state = device.state()
+            self.assertEqual((state.images, state.permanent), ((0, 1), True) if state.phase > 1 else ((), False))
+            phases.append(state.phase)
+        phases = [phase for i, phase in enumerate(phases) if phase not in phases[i - 1 : i]]
+        self.assertEqual(phases, [Phase.STEADY, Phase.SWAP, Phase.SETTLE])
+
     def test_what_a_boot_refuses_is_told_as_fields(self):
         device = device_of("either")
         Script(device).play("boot\naccept examples/manifests/either.json\npiece 0 examples/images/either.img\nfinish 0")
         (refusal,) = device.boot().refusals
         needs = (Need(1, Version(2)), Need(2, Version(2)))
-        self.assertEqual((refusal.image, refusal.reason, refusal.needs), (0, 6, needs))
+        self.assertEqual((refusal.image, refusal.reason, refusal.needs), (0, Reason.NeedsOne, needs))
 
     def test_uploads_are_kept_between_calls_and_not_over_another_flash(self):
         device = device_of("pair")
@@ -182,6 +222,75 @@ class Devices(unittest.TestCase):
         self.assertEqual(device.piece(0, file[13:]).fault, bootswap.Fault.NotBooted)
         device.flash[device.place(0, 1) + 40] = 0xFF
         self.assertFalse(device.is_booted)
+
+    def test_a_refusal_that_nobody_asked_for_is_raised(self):
+        device = Device(512, [2])
+        device.write(0, read("images/one.img"))
+        with self.assertRaises(bootswap.Refused) as caught:
+            device.boot()
+        self.assertEqual(str(caught.exception), "boot is refused: NotProvisioned")
+        self.assertEqual(caught.exception.reply.fault, Fault.NotProvisioned)
+        device.provision()
+        device.boot()
+        with self.assertRaises(bootswap.Refused) as caught:
+            device.piece(0, b"abcdefgh")
+        self.assertEqual(str(caught.exception), "piece is refused: Upload NoSession")
+        self.assertEqual(caught.exception.reply.detail, UploadFault.NoSession)
+        with self.assertRaises(bootswap.Refused) as caught:
+            device.accept(1, [Component.of(1, b"abcdefgh")])
+        self.assertEqual(str(caught.exception), "accept is refused: Manifest NoComponent")
+        self.assertEqual(caught.exception.reply.detail, ManifestFault.NoComponent)
+        kept, flash = bytes(device._saved), bytes(device.flash)
+        with self.assertRaises(bootswap.Refused) as caught:
+            device.accept(1, [Component.of(0, b"abc"), Component.of(0, b"abcdefgh")])
+        self.assertEqual(str(caught.exception), "accept is refused: Manifest RepeatedComponent")
+        self.assertEqual(caught.exception.reply.detail, ManifestFault.RepeatedComponent)
+        self.assertEqual((bytes(device._saved), bytes(device.flash)), (kept, flash))
+        device.accept(1, [Component.of(0, b"abc")])
+        device.piece(0, b"abc")
+        with self.assertRaises(bootswap.Refused) as caught:
+            device.finish(0)
+        self.assertEqual(str(caught.exception), "finish is refused: Upload NotAnImage Short")
+        self.assertEqual(caught.exception.reply.check, ImageFault.Short)
+        device.flash[device.place(0)] = 0
+        with self.assertRaises(bootswap.Refused) as caught:
+            device.boot()
+        self.assertEqual(str(caught.exception), "boot is refused: RunningDamaged 0")
+
+    def test_arguments_that_do_not_fit_change_nothing(self):
+        device = device_of("pair")
+        device.boot()
+        kept, flash = bytes(device._saved), bytes(device.flash)
+        file = read("images/one.img")
+        calls = [
+            lambda: device.accept(-1, [Component.of(0, file)]),
+            lambda: device.accept(2**32, [Component.of(0, file)]),
+            lambda: device.accept(1, [Component.of(256, file)]),
+            lambda: device.accept(1, [Component(0, -1, bytes(32))]),
+            lambda: device.accept(1, [Component(0, 2**32, bytes(32))]),
+            lambda: device.accept(1, [Component(0, 8, bytes(31))]),
+            lambda: device.accept(1, [Component(0, 8, bytes(32), precursor=bytes(33))]),
+            lambda: device.piece(-1, b"abcdefgh"),
+            lambda: device.finish(256),
+            lambda: device.boot([Cut(-1)]),
+            lambda: device.boot([Cut(2**64)]),
+            lambda: device.boot([Cut(1, b"123456789")]),
+            lambda: device.boot([Cut(1, "half")]),
+            lambda: device.write(0, b"\xff" * 1025),
+            lambda: device.write(2, b"\xff"),
+            lambda: device.write(0, b"\xff", side=2),
+            lambda: device.place(-1),
+            lambda: device.slot(256),
+            lambda: Device(-512, [2]),
+            lambda: Device(512, [2**32]),
+            lambda: Device(512, [2], trial_boots=-1),
+            lambda: Device(512, []),
+        ]
+        for number, call in enumerate(calls):
+            with self.subTest(number), self.assertRaises(ValueError):
+                call()
+            self.assertEqual((bytes(device._saved), bytes(device.flash)), (kept, flash), number)
+        device.write(1, b"\xff" * 1024, side=1)
 
     def test_any_contents_are_answered(self):
         numbers, device = random.Random(7), device_of("pair")
