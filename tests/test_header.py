@@ -1,5 +1,4 @@
-"""Tests that include/bootswap.h, the crate `c_interface`, bindings/python and web/library.js have the same structs, calls and
-numbers.
+"""That the header, the crate `c_interface`, Python and the page have the same structs, calls and numbers.
 
 A struct is compared by its rows: the path of each number in it, such as `refused[1].reason`, its offset and its size. So the
 four may name their types differently, but not their fields.
@@ -14,11 +13,12 @@ import re
 import shutil
 import subprocess
 import sys
+import tempfile
 import unittest
 from unittest import mock
 
 ROOT = os.path.dirname(os.path.dirname(os.path.realpath(__file__)))
-HEADER = "include/bootswap.h"
+HEADER, NAMES = "include/bootswap.h", "include/bootswap_names.h"
 
 # Names of the header that are others elsewhere: `class` is a word of C++, and a number of the header has `INVALID_SET`.
 OTHER_NAMES = {"class": "class_id", "InvalidSet": "RunningInvalid"}
@@ -68,8 +68,15 @@ def rows_of(kind, path="", start=0):
 
 
 def header():
-    """Returns the header without its comments."""
-    return re.sub(r"/\*.*?\*/", "", text_of(HEADER), flags=re.DOTALL)
+    """Returns the header without its comments, and with numbers for the names of limits."""
+    text = re.sub(r"/\*.*?\*/", "", text_of(HEADER), flags=re.DOTALL)
+    limits = limits_of_c()
+    return re.sub(r"\[(\w+)\]", lambda it: f"[{limits.get(it[1], it[1])}]", text)
+
+
+def limits_of_c():
+    """Returns the limits of the header by their names."""
+    return dict(re.findall(r"^#define (BOOTSWAP_MAX_\w+) (\d+)$", text_of(HEADER), re.MULTILINE))
 
 
 def number_of_c(kind):
@@ -188,6 +195,31 @@ def enums_of_c():
     return {name: {key: int(number) for key, number in re.findall(r"BOOTSWAP_(\w+) = (\d+)", body)} for name, body in found}
 
 
+def printed_names():
+    """Returns the names of include/bootswap_names.h as a program in C prints them: for each kind its names by their numbers,
+    without those that are unknown."""
+    kinds = re.findall(r"^static inline const char \*bootswap_(\w+)_name", text_of(NAMES), re.MULTILINE)
+    lines = [f'for (uint32_t n = 0; n < 64; n++) printf("{it} %u %s\\n", n, bootswap_{it}_name(n));' for it in kinds]
+    text = "\n".join(["#include <stdio.h>", "#include <bootswap_names.h>", "int main(void) {", *lines, "}", ""])
+    with tempfile.TemporaryDirectory() as folder:
+        program = f"{folder}/names"
+        words = ["cc", "-std=c11", "-Wall", "-Wextra", "-Werror", "-I", f"{ROOT}/include", "-x", "c", "-", "-o", program]
+        subprocess.run(words, input=text, text=True, check=True)
+        rows = subprocess.run([program], capture_output=True, text=True, check=True).stdout.splitlines()
+    names = {it: {} for it in kinds}
+    for kind, number, name in map(str.split, rows):
+        if name != "unknown":
+            names[kind][int(number)] = name
+    return names
+
+
+def names_of_rattle(kind):
+    """Returns the names of an enum's variants by their numbers, as its methods `code` and `name` have them."""
+    text = next(it for it in sources() if f"pub enum {kind} {{" in it)
+    numbers = dict(re.findall(rf"{kind}::(\w+)(?:\(_\))? => (\d+),", text))
+    return {int(numbers[it]): name for it, name in re.findall(rf'{kind}::(\w+)(?:\(_\))? => "(\w+)",', text)}
+
+
 def codes_of_rattle(kind):
     """Returns the numbers of an enum's variants, as its method `code` has them."""
     text = next(it for it in sources() if f"pub enum {kind} {{" in it)
@@ -271,6 +303,12 @@ class HeaderTest(unittest.TestCase):
                 shown = {int(it) for it in re.findall(r"^  (\d+): ", own, re.MULTILINE)}
                 self.assertEqual(shown, {*wanted.values()} - {wanted.get("Upload")})
 
+    def test_numbers_of_refused_manifests(self):
+        wanted = {camel(name): number for name, number in self.enums["manifest_fault"].items()}
+        codes = codes_of_rattle("ManifestError")
+        self.assertEqual(wanted, {name: codes.get(name) for name in wanted})
+        self.assertEqual({it.name: it.value for it in self.module.ManifestFault}, wanted)
+
     def test_limits(self):
         rooms = {name.lower(): int(size) for name, size in re.findall(r"#define BOOTSWAP_(\w+)_ROOM (\d+)", header())}
         own = {"table": self.module.TABLE_ROOM, "report": self.module.REPORT_ROOM}
@@ -279,6 +317,29 @@ class HeaderTest(unittest.TestCase):
         lengths = dict(it for text in sources() for it in re.findall(r"const (MOST_\w+): usize = (\d+);", text))
         self.assertEqual(self.module.MOST_IMAGES, int(lengths["MOST_IMAGES"]))
         self.assertEqual(self.module.MOST_CUTS, int(lengths["MOST_CUTS"]))
+        for name, own in (("IMAGES", "IMAGES"), ("CUTS", "CUTS"), ("NEEDS", "DEPENDENCIES"), ("GROUPS", "GROUPS")):
+            self.assertEqual((name, limits_of_c()[f"BOOTSWAP_MAX_{name}"]), (name, lengths[f"MOST_{own}"]))
+        self.assertEqual(limits_of_c()["BOOTSWAP_MAX_ALTERNATIVES"], lengths["MOST_ALTERNATIVES"])
+
+    def test_version(self):
+        """The header has the version that the program prints."""
+        version = re.search(r'#define BOOTSWAP_VERSION "(.+)"', text_of(HEADER))[1]
+        self.assertIn(f'.version("{version}")', "".join(sources()))
+
+    def test_names(self):
+        """include/bootswap_names.h has the names that the program prints."""
+        if not shutil.which("cc"):
+            self.skipTest("there is no C compiler cc")
+        wanted = {}
+        faults = (("fault", "Fault"), ("manifest_fault", "ManifestError"), ("upload_fault", "UploadError"))
+        for enum, kind in faults:
+            returned = self.enums[enum].values()
+            wanted[enum] = {at: name for at, name in names_of_rattle(kind).items() if at in returned}
+        wanted["number"] = {at: name.lower().replace("_", "-") for name, at in self.enums["number"].items()}
+        wanted["check"] = names_of_rattle("ImageError")
+        reasons = next(re.findall(r"Reason::(\w+)(?:\(.*\))? => (\d),", it) for it in sources() if "fn reason_number" in it)
+        wanted["reason"] = {int(at): re.sub(r"(?<!^)([A-Z])", r"-\1", name).lower() for name, at in reasons}
+        self.assertEqual(printed_names(), wanted)
 
 
 if __name__ == "__main__":

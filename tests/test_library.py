@@ -1,4 +1,4 @@
-"""What the library of include/bootswap.h does from C and from Python, and as bindings/README.md shows it."""
+"""The library of include/bootswap.h from C and from Python."""
 
 import os
 import re
@@ -13,6 +13,7 @@ from support.libraries import TARGET, archive_for, ran
 from support.program import CaseTest, short
 
 LIFE = f"{ROOT}/bindings/c/life.c"
+JOURNAL = f"{ROOT}/tests/journal.c"
 STRICT = ["-std=c11", "-Wall", "-Wextra", "-Werror", "-I", f"{ROOT}/include"]
 
 # What life.c prints, whichever write of the boot is cut, after the line that names the write.
@@ -33,7 +34,7 @@ class LibraryTest(CaseTest):
     def setUpClass(cls):
         cls.folder = tempfile.mkdtemp(prefix="bootswap-library-")
         cls.addClassCleanup(shutil.rmtree, cls.folder, ignore_errors=True)
-        cls.archive = archive_for(TARGET, cls.folder)
+        cls.archive = archive_for(TARGET)
         cls.shared = f"{cls.folder}/libbootswap.so"
         faults, _ = ran(["cc", "-shared", "-o", cls.shared, "-Wl,--whole-archive", cls.archive, "-Wl,--no-whole-archive"])
         if faults:
@@ -50,6 +51,17 @@ class LibraryTest(CaseTest):
             faults, output = ran([program, *images, str(write)])
             wanted = b"power failed in write %d\n" % write + ENDS
             self.case(f"life.c with a cut of write {write}", faults or [short(output)] * (output != wanted))
+
+    def test_journals(self):
+        """The writes that journals record make the same bytes on a part, whether the journal of a boot is long enough or not."""
+        program = f"{self.folder}/journal"
+        faults, _ = ran(["cc", *STRICT, JOURNAL, self.archive, "-o", program])
+        self.case("journal.c compiles", faults)
+        images = [f"{EXAMPLES}/images/{name}.img" for name in ("one", "patched")]
+        for room, boots in () if faults else ((8192, 1), (2080, 1), (1000, 3), (600, 5)):
+            faults, output = ran([program, *images, str(room)])
+            wanted = b"%d boots\ntake 0 1.1.0+0\n" % boots
+            self.case(f"journal.c with {room} bytes", faults or [short(output)] * (output != wanted))
 
     def test_header_in_cpp(self):
         file = f"{self.folder}/header.cpp"

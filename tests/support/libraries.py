@@ -1,9 +1,10 @@
 """The static library of include/bootswap.h, for the tests that link it.
 
-Tests don't prove it anew. They take what `bindings/build` and `web/build` built. In the complete gate they build it over
-the libraries of the crates below it that `rt ci` proved in the folder BOOTSWAP_PROVED.
+Tests don't prove it anew. They take what `bindings/build` and `web/build` built. In the complete gate the first test that
+needs it builds it, over the libraries of the crates below it that `rt ci` proved in the folder BOOTSWAP_PROVED.
 """
 
+import fcntl
 import os
 import subprocess
 import sys
@@ -14,38 +15,41 @@ from support.program import short
 
 sys.path.insert(0, f"{ROOT}/tools")
 
-from builder import TARGET, WEB_TARGET, asked_of_rt, library_crates, link_for_web
+from builder import ARM_TARGET, TARGET, WEB_TARGET, asked_of_rt, library_crates, link_for_web
 from proved_copy import library_in
 
-BUILDERS = {TARGET: "bindings/build", WEB_TARGET: "web/build"}
+BUILDERS = {TARGET: "bindings/build", ARM_TARGET: f"bindings/build --target {ARM_TARGET}", WEB_TARGET: "web/build"}
 
 
-def archive_for(target, folder):
+def archive_for(target):
     """Returns the file of the library for a target. Skips the tests that need it if it isn't built."""
     crates, proved = library_crates(target), os.environ.get("BOOTSWAP_PROVED")
     if proved:
-        return built_over(proved, crates, f"{folder}/library.a")
+        return built_over(proved, crates, f"{proved}/library.{target}.a")
     if not crates[-1].is_built(asked_of_rt("version")):
         raise unittest.SkipTest(f"the library isn't built, or not of these sources: {BUILDERS[target]} builds it")
     return crates[-1].made
 
 
 def built_over(proved, crates, archive):
-    """Builds the library over those of the crates below it, and returns its file."""
+    """Builds the library over those of the crates below it, unless another test did, and returns its file."""
     *below, library = crates
     for crate in below:
         crate.made = library_in(proved, crate.name)
     library.made = archive
-    faults, _ = ran(library.words(os.path.dirname(asked_of_rt("doc"))), cwd=library.folder)
-    if faults:
-        raise AssertionError(f"the library builds: {faults[0]}")
+    with open(f"{archive}.lock", "w", encoding="utf-8") as lock:
+        fcntl.flock(lock, fcntl.LOCK_EX)
+        if not os.path.exists(archive):
+            faults, _ = ran(library.words(os.path.dirname(asked_of_rt("doc"))), cwd=library.folder)
+            if faults:
+                raise AssertionError(f"the library builds: {faults[0]}")
     return archive
 
 
 def web_module(folder):
     """Returns the file of the library as a module of WebAssembly, and skips the tests that need it if it isn't built."""
     module = f"{folder}/bootswap.wasm"
-    is_linked, output = link_for_web(archive_for(WEB_TARGET, folder), module)
+    is_linked, output = link_for_web(archive_for(WEB_TARGET), module)
     if not is_linked:
         raise AssertionError(f"the library of the page is linked: {output}")
     return module

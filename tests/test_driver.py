@@ -1,0 +1,544 @@
+"""Devices over a driver in C.
+
+Power fails at each write of each script, the driver fails in each of its calls, journals have each length, and hold what the
+library never records.
+"""
+
+import ctypes
+import json
+import mmap
+import os
+import re
+import shutil
+import tempfile
+from ctypes import POINTER, byref, c_char, c_size_t, c_uint8, c_uint32, c_uint64
+
+from support.builders import image, version
+from support.compiled import needs_compiler
+from support.driven import CUT, DRIVER_FAILED, INCLUDE, SMALL_JOURNAL, STRICT
+from support.driven import Driven, Flash, Library, reply_of, shared_library
+from support.files import EXAMPLES, ROOT, names_in, read
+from support.libraries import TARGET, archive_for, ran
+from support.program import ProgramTest, CaseTest, short
+from support.worked import SUM_OF_WRITES, WORKED
+
+DRIVER = f"{ROOT}/bindings/c/driver.c"
+ONE, NEEDING, PARTNER = (read(f"{EXAMPLES}/images/{name}.img") for name in ("one", "needing", "partner"))
+OLD, NEW = 2 * ["1.0.0+0"], 2 * ["2.0.0+0"]
+
+# What a call of the library asks of a journal at most: two components of images of two sectors, a piece of 96 bytes, and
+# provisioning of two images.
+BOUNDS = {"accept": 120 + 2 * (44 + 2 * 12), "piece": 31 + 96, "finish": 68, "confirm": 20, "provision": 144 + 2 * 24}
+BOUNDS["withdraw"] = 44
+
+# A journal that is long enough for each call of the tests.
+LONG = 16384
+
+# What an upgrade that is confirmed calls of the driver: a read of the flash, and the writes of its events, as the tables of
+# docs/FORMATS.md have them. The last boot records that the trial is over.
+CALLS = 1 + sum((0, 2, 2, 1, 2, 1, 38, 1, 1, 2))
+
+# The shortest journal of a boot: for short sectors the trailers of eight images after a swap back, else one step of a swap.
+ROOMS = {512: 8 * (12 + 12 + 20 + 20 + 28) + 120, 1024: 12 + 1024 + 4 * 12 + 20, 4096: 12 + 4096 + 16 * 12 + 20}
+
+
+class DriverTest(CaseTest):
+    """A test of the library over a driver in Python."""
+
+    @classmethod
+    def setUpClass(cls):
+        cls.build = tempfile.mkdtemp(prefix="bootswap-driver-")
+        cls.addClassCleanup(shutil.rmtree, cls.build, ignore_errors=True)
+        made, faults = shared_library(archive_for(TARGET), cls.build)
+        if faults:
+            raise AssertionError(f"the calls over a driver compile: {faults[0]}")
+        cls.library = Library(made)
+
+    def new_device(self, sector=512, sectors=(2, 2), room=None, running=ONE):
+        """A provisioned device, whose slots run the same image."""
+        setup = self.library.setup(sector, sectors)
+        flash = Flash(b"\xff" * sector * (2 * sum(it + 1 for it in sectors) + 4), sector)
+        for number in range(len(sectors)):
+            at = sector * sum(it + 1 for it in sectors[:number])
+            flash.bytes[at : at + len(running)] = running
+        device = Driven(self.library, setup, flash, ROOMS[sector] if room is None else room)
+        self.assertEqual((device.open(), device.provision()), (0, 0))
+        return device
+
+    def request(self, device, files, sequence=1, is_permanent=False):
+        """Boots a device, and requests these files for its images. Returns the numbers of the calls."""
+        manifest = self.library.manifest(sequence, [(number, file, is_permanent) for number, file in enumerate(files)])
+        numbers = [device.boot(), device.accept(manifest)]
+        for number, file in enumerate(files):
+            numbers += [device.piece(number, file), device.finish(number)]
+        self.assertEqual(numbers, [1, *(1 + 2 * len(files)) * [0]])
+
+
+def make_call(device, event):
+    """Makes the call of a line of a script, and returns its number. A device that lost power is opened again."""
+    word, *words = event.split()
+    if word == "accept":
+        given = json.loads(read(f"{ROOT}/{words[0]}"))
+        manifest = device.library.names._Manifest(given["sequence-number"], len(given["components"]))
+        for row, it in zip(manifest.components, given["components"]):
+            row.image, row.size, row.is_permanent = it["component-id"], it["size"], it["kind"] == "permanent"
+            row.digest[:] = bytes.fromhex(it["payload-digest"])
+        return device.accept(manifest)
+    if word == "piece":
+        file = read(f"{ROOT}/{words[1]}")
+        at, length = map(int, words[2:]) if len(words) > 2 else (0, len(file))
+        return device.piece(int(words[0]), file[at : at + length])
+    return getattr(device, word)(*map(int, words))
+
+
+def play(device, events):
+    """Plays events on a device, and yields the device and the reply after each. After a power cut it is a new device over
+    what the flash holds."""
+    for event in events:
+        number = make_call(device, event)
+        reply = reply_of(device, number)
+        if number == DRIVER_FAILED:
+            device.flash.restart()
+            device = Driven(device.library, device.setup, device.flash, device.room)
+            if device.open() != 0:
+                device.flash.wrong.append("the device isn't opened again")
+        yield device, reply
+
+
+@needs_compiler
+class ScriptsTest(DriverTest, ProgramTest):
+    """Each script of examples/ with a power cut at each of its writes, beside `run` with the same cut."""
+
+    def test_scripts(self):
+        for name in names_in("scripts"):
+            lines = read(f"{EXAMPLES}/scripts/{name}.txt").decode().splitlines()
+            own = dict(line.split()[1:] for line in lines if line.startswith("cut "))
+            own = {int(number): torn for number, torn in own.items()}
+            events = [line for line in lines if not line.startswith("cut ")]
+            kind = name if name in names_in("devices") else "pair"
+            count, faults = self.compare(name, f"{EXAMPLES}/devices/{kind}.json", own, events)
+            self.case(f"{name}.txt with {count} power cuts", faults[:5])
+
+    def compare(self, name, device_file, own, events):
+        """Compares each cut of a script that has cuts of its own, and returns their number and what is wrong."""
+        given = json.loads(read(device_file))
+        self.first = self.provisioned(device_file, given)
+        setup = self.library.setup(given["sector"], given["sectors"], given.get("trial-boots", 1))
+        device = Driven(self.library, setup, Flash(self.first, given["sector"]), LONG)
+        device.flash.cuts = own
+        device.open()
+        states, replies = [device.state()], []
+        for device, reply in play(device, events):
+            states.append(device.state())
+            replies.append(reply)
+        made = device.flash.made
+        faults = device.flash.wrong + self.other_than(device_file, own, events, replies, device)
+        if name == WORKED and len(made) != SUM_OF_WRITES:
+            faults.append(f"{len(made)} writes, and not {SUM_OF_WRITES}")
+        count = 0
+        for at, event in enumerate(events):
+            for write in range(states[at][1] + 1, states[at + 1][1] + 1):
+                for torn in {} if write in own else ways_to_tear(made[write - 1]):
+                    count += 1
+                    cuts = {**own, write: torn}
+                    later = self.replayed(device, states[at], cuts, events[at:])
+                    wanted = [*replies[:at], *(reply for _, reply in later)]
+                    faults += self.other_than(device_file, cuts, events, wanted, later[-1][0])
+        return count, faults
+
+    def provisioned(self, device_file, given):
+        """The flash file that `provision` makes. Provisioning over a driver makes the same."""
+        self.file("flash", b"")
+        names = [f"{EXAMPLES}/images/one.img" for _ in given["sectors"]]
+        self.run_program(["provision", device_file, "flash", *names])
+        whole = read(f"{self.folder}/flash")
+        device = self.new_device(given["sector"], given["sectors"])
+        self.assertEqual((bytes(device.flash.bytes), device.flash.wrong), (whole, []))
+        return whole
+
+    def replayed(self, device, state, cuts, events):
+        """Plays events from a state on, with these cuts: the device and the reply after each."""
+        other = Driven(self.library, device.setup, Flash(device.flash.bytes, device.flash.sector), device.room)
+        other.put(state)
+        other.flash.cuts = cuts
+        return list(play(other, events))
+
+    def other_than(self, device_file, cuts, events, replies, device):
+        """What differs from a run of the program with these cuts: its output, or what its flash file then holds."""
+        self.file("flash", self.first)
+        script = [f"cut {number} {torn}" for number, torn in sorted(cuts.items())] + events
+        got = self.run_program(["run", device_file, "flash", "-"], given="".join(f"{it}\n" for it in script).encode())
+        status = 3 if replies[-1] == "cut" else int(replies[-1].startswith("refused"))
+        wanted = status, "".join(f"{at} {reply}\n" for at, reply in enumerate(replies, 1)).encode(), b""
+        faults = [f"{cuts}: {it}" for it in device.flash.wrong]
+        faults += [f"{cuts}: {short(wanted)}, and `run`: {short(got)}"] * (got != wanted)
+        faults += [f"{cuts}: the flash isn't that of `run`"] * (read(f"{self.folder}/flash") != device.flash.bytes)
+        return faults
+
+
+def ways_to_tear(write):
+    """What a write leaves: nothing of the new bytes, all, the first half, or a pattern."""
+    _, old, new = write
+    half = new[: len(new) // 2] + old[len(new) // 2 :]
+    return "keep", "done", f"hex:{half.hex()}", "hex:005a"
+
+
+@needs_compiler
+class FailuresTest(DriverTest):
+    """A driver whose N-th call fails."""
+
+    def test_failing_call(self):
+        """The call returns that the driver failed, the device isn't booted, and it boots after it is opened again."""
+        count, faults, n = 0, [], 0
+        while n == count:
+            n += 1
+            device = self.new_device(room=LONG)
+            device.flash.fails_at = device.flash.calls + n
+            events = self.events(device)
+            failed = next((at for at, event in enumerate(events) if event() == DRIVER_FAILED), None)
+            if failed is not None:
+                count += 1
+                faults += [f"call {n} of the driver: {it}" for it in self.after_failure(device)]
+        self.case(f"each of {count} calls of the driver fails once", faults or [f"not {CALLS}"] * (count != CALLS))
+
+    def events(self, device):
+        """The calls of an upgrade to two images that are then confirmed."""
+        manifest = self.library.manifest(1, [(0, NEEDING, 0), (1, PARTNER, 0)])
+        yield device.open
+        yield device.boot
+        yield lambda: device.accept(manifest)
+        yield lambda: device.piece(0, NEEDING)
+        yield lambda: device.finish(0)
+        yield lambda: device.piece(1, PARTNER)
+        yield lambda: device.finish(1)
+        yield device.boot
+        yield lambda: device.confirm(0)
+        yield lambda: device.confirm(1)
+        yield device.boot
+
+    def after_failure(self, device):
+        """What is wrong with a device whose driver failed."""
+        faults = ["the device is booted"] * device.is_booted
+        refused = [device.boot(), device.finish(0), device.provision(), device.piece(0, b"")]
+        faults += [f"calls before it is opened: {refused}"] * (refused != 4 * [DRIVER_FAILED])
+        device.flash.restart()
+        opened, booted = device.open(), device.boot()
+        running = list(device.versions())
+        faults += [f"opened {opened}, booted {booted}, runs {running}"] * (
+            opened != 0 or booted not in (1, 2) or running not in (OLD, NEW)
+        )
+        return faults + device.flash.wrong
+
+    def test_refused_call(self):
+        """The writes of a call that is refused are made: `finish` writes the bytes that were held back before it compares the
+        digest."""
+        device = self.new_device()
+        self.assertEqual((device.boot(), device.accept(self.library.manifest(1, [(0, bytes(77), 0)]))), (1, 0))
+        numbers = device.piece(0, bytes(76) + b"Z"), device.finish(0)
+        got = numbers, reply_of(device, numbers[1]), device.flash.made[-1]
+        unit = 6 * 512 + 72, 8 * b"\xff", bytes(4) + b"Z" + 3 * b"\xff"
+        self.case("an upload of another digest", [got] * (got != ((0, 4), "refused upload 6 DigestWrong", unit)))
+        self.case("what the driver was asked", device.flash.wrong)
+
+    def test_power_cuts(self):
+        """Power fails in each write of an upgrade and of the revert, with the shortest journal: the boot is made of several
+        attempts. The next boot ends it, unless the last write was interrupted."""
+        device = self.new_device()
+        self.request(device, (NEEDING, PARTNER))
+        for name, ends, later in (("upgrade", (1, NEW), (2, OLD)), ("revert", (2, OLD), (1, OLD))):
+            state, first = device.state(), len(device.flash.made)
+            got = device.boot(), list(device.versions())
+            made, faults = device.flash.made[first:], [got] * (got != ends)
+            after = device.state()
+            for number, write in enumerate(made, 1):
+                for torn in ways_to_tear(write):
+                    device.put(state)
+                    device.flash.cuts = {device.flash.writes + number: torn}
+                    got = device.boot()
+                    device.flash.restart()
+                    got = got, device.open(), device.boot(), list(device.versions())
+                    wanted = [(DRIVER_FAILED, 0, *it) for it in (ends, later)[: 1 + (number == len(made))]]
+                    faults += [f"write {number}, {torn}: {got}"] * (got not in wanted)
+            device.put(after)
+            self.case(f"{len(made)} writes of an {name}", faults[:5] + device.flash.wrong)
+
+    def test_failing_provisioning(self):
+        """Provisioning that failed anywhere is made again."""
+        device = self.new_device()
+        calls, first = device.flash.calls, bytes(device.flash.bytes)
+        device.flash.bytes[2 * 512] = 0
+        self.assertEqual((device.open(), device.provision()), (0, 0))
+        faults, count = [], device.flash.calls - calls - 1
+        for n in range(1, count + 1):
+            device.flash.bytes[2 * 512] = 0
+            device.open()
+            device.flash.fails_at = device.flash.calls + n
+            numbers = [device.provision()]
+            device.flash.restart()
+            numbers += [device.open(), device.provision(), device.boot()]
+            faults += [f"call {n}: {numbers}"] * (numbers != [DRIVER_FAILED, 0, 0, 1])
+            faults += ["another flash"] * (device.flash.bytes != first)
+        self.case(f"provisioning fails in each of {count} calls", faults + device.flash.wrong)
+
+
+@needs_compiler
+class JournalsTest(DriverTest):
+    """Journals of each length."""
+
+    def prepared(self):
+        """A device, its calls in order, and their bounds."""
+        device = self.new_device(room=LONG)
+        manifest = self.library.manifest(1, [(0, NEEDING, 0), (1, PARTNER, 0)])
+        calls = [("boot", ()), ("accept", (manifest,)), ("piece", (0, NEEDING)), ("finish", (0,))]
+        calls += [("piece", (1, PARTNER)), ("finish", (1,)), ("boot", ()), ("confirm", (0,)), ("boot", ()), ("boot", ())]
+        calls += [("accept", (self.library.manifest(2, [(0, NEEDING, 0), (1, PARTNER, 0)]),)), ("piece", (0, NEEDING))]
+        return device, [*calls, ("finish", (0,)), ("withdraw", (0,))]
+
+    def test_library(self):
+        """A call of the library with each journal up to the need: cut exactly if a write doesn't fit, and never past the
+        end. A call that has a bound needs no more."""
+        device, calls = self.prepared()
+        for at, (name, words) in enumerate(calls):
+            state = device.state()
+            number, used = self.recorded(device, name, words, device.room)
+            bound, faults = BOUNDS.get(name, used), []
+            faults += [f"{used} bytes are used, and {bound} is the bound"] * (used > bound)
+            for room in range(bound + 1):
+                device.put(state)
+                got = self.recorded(device, name, words, room)
+                wanted = (CUT if room < used else number, None if room < used else used)
+                faults += [f"{room} of {used} bytes: {got}"] * (got[0] != wanted[0] or got[1] > room)
+                faults += [f"{room} of {used} bytes: {got}"] * (room >= used and got[1] != used)
+            device.put(state)
+            getattr(device, name)(*words)
+            self.case(f"call {at + 1}, {name}, with {bound + 1} journals", faults[:5] + device.flash.wrong)
+
+    def recorded(self, device, name, words, room):
+        """Makes a call of the library with a journal of this length, and returns its number and the bytes used."""
+        library, names = device.library.calls, device.library.names
+        texts = [POINTER(c_char)(), c_size_t(0)]
+        if name == "boot":
+            texts = [it for one in (device.table, device.report) for it in (one, c_size_t(len(one)))]
+        given = {
+            "boot": lambda: texts,
+            "accept": lambda manifest: [byref(manifest)],
+            "piece": lambda number, file: [c_uint8(number), (c_uint8 * len(file)).from_buffer_copy(file), c_size_t(len(file))],
+        }.get(name, lambda number: [c_uint8(number)])(*words)
+        kept, told = device.device.kept, names._CallResult()
+        ctypes.memset(device.journal, 0xC5, device.room)
+        journal = [device.journal, c_size_t(room)]
+        mirror = [device.mirror, c_size_t(len(device.mirror))]
+        call = getattr(library, f"bootswap_journal_{name}")
+        number = call(byref(device.setup), *mirror, byref(kept), *journal, *given, byref(told))
+        if bytes(device.journal)[told.journal_length : device.room] != (device.room - told.journal_length) * b"\xc5":
+            device.flash.wrong.append(f"{name} wrote after the used bytes of a journal of {room}")
+        return number, told.journal_length
+
+    def test_driver(self):
+        """A call over a driver asks for its bound, and changes nothing with a shorter journal."""
+        device, calls = self.prepared()
+        faults, full = [], device.device.journal_room
+        for name, words in [*calls[1:4], ("withdraw", (0,)), ("provision", ()), ("boot", ())]:
+            if name == "accept":
+                device.boot()
+            state, bound = device.state(), BOUNDS.get(name, ROOMS[512])
+            for room in range(bound):
+                device.device.journal_room = room
+                number = getattr(device, name)(*words)
+                is_same = device.state()[:2] + device.state()[3:] == state[:2] + state[3:]
+                faults += [f"{name} with {room}: {number}, changed"] * (number != SMALL_JOURNAL or not is_same)
+                faults += [f"{name} with {room}: the saved state"] * (name != "boot" and device.state()[2] != state[2])
+            faults += ["a boot leaves the device booted"] * (name == "boot" and device.is_booted)
+            device.device.journal_room = bound
+            number = getattr(device, name)(*words)
+            faults += [f"{name} with {bound}: {number}"] * (number != (name == "boot"))
+            device.device.journal_room = full
+        self.case("calls with shorter journals than their bounds", faults[:5] + device.flash.wrong)
+
+    def test_shortest(self):
+        """A boot with the documented shortest journal ends: of eight images, wherever the log is, and of larger sectors."""
+        for sector, count, starts in ((512, 8, range(8)), (1024, 2, range(1)), (4096, 2, range(1))):
+            for start in starts:
+                with self.subTest(f"{count} images, sectors of {sector} bytes, {start} records"):
+                    device = self.new_device(sector, count * [1])
+                    self.upgrade_and_revert(device, count, start)
+
+    def upgrade_and_revert(self, device, count, records):
+        """Upgrades a set of images, and reverts it, after this many more records in the log."""
+        self.assertEqual(device.boot(), 1)
+        for record in range(records):
+            self.assertEqual(device.accept(self.library.manifest(record + 1, [(0, NEEDING, 0)])), 0)
+        self.request(device, count * [image([], own=version(2))], records + 1)
+        self.assertEqual((device.boot(), list(device.versions())), (1, count * ["2.0.0+0"]))
+        self.assertEqual((device.boot(), list(device.versions())), (2, count * ["1.0.0+0"]))
+        self.assertEqual(device.flash.wrong, [])
+
+    def test_attempts(self):
+        """A boot in several attempts repeats no more of a step than the first one began. Here a journal holds two steps and
+        100 bytes. The first attempt makes 4 writes (two sizes and a record) and a step, and then has 440 bytes left: an
+        erase (12) and a program of 256 bytes (268), but not another one."""
+        device = self.new_device(room=2 * (12 + 512 + 2 * 12 + 20) + 100)
+        self.request(device, (NEEDING, PARTNER))
+        first = len(device.flash.made)
+        got = device.boot(), device.device.told.writes, len(device.flash.made) - first
+        self.case("the writes of a boot in four attempts", [got] * (got != (1, 38 + 2, 38 + 2)))
+
+    def test_one_byte_less(self):
+        """With a byte less than the documented shortest journal some boot of the library never ends. Over a driver it isn't
+        begun."""
+        for sector, count in ((512, 8), (1024, 2), (4096, 2)):
+            endless = 0
+            for start in range(8):
+                device = self.new_device(sector, count * [1], room=LONG)
+                self.assertEqual(device.boot(), 1)
+                for record in range(start):
+                    self.assertEqual(device.accept(self.library.manifest(record + 1, [(0, NEEDING, 0)])), 0)
+                self.request(device, count * [image([], own=version(2))], start + 1)
+                self.assertEqual(device.boot(), 1)
+                endless += self.is_endless(device, ROOMS[sector] - 1)
+            device.device.journal_room = ROOMS[sector] - 1
+            number = device.boot()
+            is_wrong = endless == 0 or number != SMALL_JOURNAL
+            self.case(f"a journal of {ROOMS[sector] - 1} bytes", [(endless, number)] * is_wrong)
+
+    def is_endless(self, device, room):
+        """Whether a boot of the library never ends with journals of this length: two attempts leave the same mirror."""
+        last, number = None, CUT
+        while number == CUT:
+            number, _ = self.recorded(device, "boot", (), room)
+            if bytes(device.mirror) == last:
+                return True
+            last = bytes(device.mirror)
+        return False
+
+
+@needs_compiler
+class MalformedTest(CaseTest):
+    """Journals that the library never records, by a stand-in for it."""
+
+    @classmethod
+    def setUpClass(cls):
+        cls.build = tempfile.mkdtemp(prefix="bootswap-driver-")
+        cls.addClassCleanup(shutil.rmtree, cls.build, ignore_errors=True)
+        made = f"{cls.build}/libmalformed.so"
+        words = ["cc", "-O1", "-fPIC", "-shared", "-Wall", *INCLUDE, "-o", made, DRIVER, f"{ROOT}/tests/malformed.c"]
+        faults, _ = ran(words)
+        if faults:
+            raise AssertionError(f"the stand-in compiles: {faults[0]}")
+        cls.calls = ctypes.CDLL(made)
+
+    def device(self, journal, used, number=0):
+        """Opens a device whose next call records these bytes in a journal of their length, at the end of a page that no
+        page follows. Returns the calls of its driver, and what makes the call."""
+        page = mmap.PAGESIZE
+        pages = mmap.mmap(-1, 2 * page)
+        place = ctypes.addressof(c_uint8.from_buffer(pages))
+        ctypes.CDLL(None).mprotect(ctypes.c_void_p(place + page), c_size_t(page), 0)
+        ctypes.memmove(place + page - len(journal), journal, len(journal))
+        made, self.held = [], (pages,)
+        self.struct(place + page - len(journal), len(journal), made)
+        c_uint64.in_dll(self.calls, "length").value = used
+        c_uint32.in_dll(self.calls, "returned").value = number
+        c_uint32.in_dll(self.calls, "attempts").value = 0
+        return made
+
+    def struct(self, place, room, made):
+        """A device of one image over a driver that lists its calls."""
+        numbers = [ctypes.c_int, ctypes.c_void_p, c_uint32]
+        read = ctypes.CFUNCTYPE(*numbers, POINTER(c_uint8), c_uint32)(lambda _, at, out, length: 0)
+        program = ctypes.CFUNCTYPE(*numbers, POINTER(c_uint8), c_uint32)(
+            lambda _, at, given, length: made.append((at, ctypes.string_at(given, length))) or 0
+        )
+        erase = ctypes.CFUNCTYPE(*numbers, c_uint32)(lambda _, at, length: made.append((at, length)) or 0)
+        pointers = [ctypes.cast(it, ctypes.c_void_p).value for it in (read, program, erase)]
+        driver = (c_uint64 * 4)(*pointers, 0)
+        setup = (c_uint32 * 19)(512, 1, 2)
+        mirror = (c_uint8 * 5120)()
+        # The six fields of bindings/c/driver.h that the caller sets, and room for the state and the result.
+        device = (c_uint64 * 200)(*map(ctypes.addressof, (setup, driver, mirror)), len(mirror), place, room)
+        self.held += (read, program, erase, driver, setup, mirror, device)
+        self.assertEqual(self.calls.bootswap_open(byref(device)), 0)
+
+    def confirm(self):
+        return self.calls.bootswap_device_confirm(byref(self.held[-1]), c_uint8(0))
+
+    def test_malformed(self):
+        """Each, after a write that is performed, is a failure. No byte after the journal is read."""
+        good = words(0, 512, 8) + b"ABCDEFGH"
+        rows = {
+            "half of the numbers": (good[:11], 11),
+            "a kind that isn't known": (words(2, 512, 8) + bytes(8), 20),
+            "an erase of half a sector": (words(1, 512, 256) + bytes(8), 12),
+            "an erase within a sector": (words(1, 520, 512) + bytes(8), 12),
+            "an erase of no bytes": (words(1, 512, 0) + bytes(8), 12),
+            "a program of no bytes": (words(0, 512, 0) + bytes(8), 12),
+            "a program of half a unit": (words(0, 512, 4) + bytes(8), 16),
+            "a program within a unit": (words(0, 516, 8) + bytes(8), 20),
+            "a program past the flash": (words(0, 5120, 8) + bytes(8), 20),
+            "a program past all addresses": (words(0, 2**32 - 8, 16) + bytes(16), 28),
+            "a program longer than the flash": (words(0, 0, 2**32 - 8) + bytes(8), 20),
+            "a program longer than the journal": (words(0, 512, 64) + bytes(8), 20),
+            "a program whose last unit is missing": (words(0, 512, 16) + bytes(8), 20),
+            "more bytes than the journal has": (good, 21),
+            "far more bytes than it has": (good, 2**63),
+        }
+        for name, (journal, used) in rows.items():
+            made = self.device(good + journal, 20 + used)
+            wanted = DRIVER_FAILED, [(512, b"ABCDEFGH")] * (used <= len(journal))
+            got = self.confirm(), made
+            self.case(name, [f"{got}, and not {wanted}"] * (got != wanted))
+
+    def test_well_formed(self):
+        """The writes of a journal in their order, up to its last byte."""
+        made = self.device(words(1, 1024, 512) + words(0, 1032, 16) + bytes(range(16)), 40)
+        number = self.confirm()
+        self.case("two writes", [f"{number}, {made}"] * ((number, made) != (0, [(1024, 512), (1032, bytes(range(16)))])))
+
+    def test_no_progress(self):
+        """A boot whose attempts write the same ends after two of them."""
+        for journal, used in ((bytes(856), 0), (words(0, 512, 8) + bytes(844), 20)):
+            made = self.device(journal, used, CUT)
+            text = ctypes.create_string_buffer(8)
+            number = self.calls.bootswap_device_boot(byref(self.held[-1]), text, c_size_t(8), text, c_size_t(8))
+            attempts = c_uint32.in_dll(self.calls, "attempts").value
+            got = (number, attempts, len(made))
+            self.case(f"a boot that writes {used} bytes", [got] * (got != (SMALL_JOURNAL, 2, 2 * (used > 0))))
+
+
+def words(*numbers):
+    return b"".join(it.to_bytes(4, "little") for it in numbers)
+
+
+@needs_compiler
+class SourceTest(CaseTest):
+    """The files of bindings/c, and the listing of docs/PORTING.md."""
+
+    def setUp(self):
+        self.folder = tempfile.mkdtemp(prefix="bootswap-driver-")
+        self.addCleanup(shutil.rmtree, self.folder, ignore_errors=True)
+
+    def test_compilers(self):
+        """They compile without a warning, the headers also as C++."""
+        self.listing = f"{self.folder}/listing.c"
+        text = read(f"{ROOT}/docs/PORTING.md").decode()
+        with open(self.listing, "w", encoding="utf-8") as it:
+            it.write("\n".join(re.findall(r"^```c\n(.*?)^```$", text, re.MULTILINE | re.DOTALL)))
+        with open(f"{self.folder}/header.cpp", "w", encoding="utf-8") as it:
+            it.write("#include <driver.h>\n")
+        for compiler in filter(shutil.which, ("gcc", "clang")):
+            for file in (DRIVER, f"{ROOT}/bindings/c/file_device.c", self.listing):
+                faults, _ = ran([compiler, *STRICT, *INCLUDE, "-O2", "-c", file, "-o", f"{self.folder}/made.o"])
+                self.case(f"{os.path.basename(file)} with {compiler}", faults)
+            header = ["-x", "c++", *STRICT[1:], *INCLUDE, "-fsyntax-only", f"{self.folder}/header.cpp"]
+            self.case(f"driver.h as C++ with {compiler}", ran([compiler, *header])[0])
+
+    def test_names(self):
+        """driver.c calls nothing but the library, memcpy and memset, and has no data of its own."""
+        made = f"{self.folder}/driver.o"
+        faults, _ = ran(["cc", *STRICT, *INCLUDE, "-O1", "-fno-pie", "-c", DRIVER, "-o", made])
+        _, output = ran(["nm", "--format=posix", made])
+        rows = [line.split()[:2] for line in output.decode().splitlines()]
+        called = {name for name, kind in rows if kind == "U" and not name.startswith("bootswap_")}
+        data = [name for name, kind in rows if kind.upper() in "BDC"]
+        faults += [f"it calls {it}" for it in sorted(called - {"memcpy", "memset"})] + [f"its data {it}" for it in data]
+        self.case("driver.c calls memcpy and memset only", faults)
