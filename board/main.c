@@ -1,0 +1,88 @@
+/*
+ * The bootloader: it boots, runs the chosen images, and then takes events from the serial port.
+ *
+ * On a board of one's own, everything up to run_images() is the bootloader, and the events come to
+ * the application, from a radio or a cable.
+ */
+#include "driver.h"
+#include "images.h"
+#include "nor.h"
+#include "replies.h"
+#include "script.h"
+#include "serial.h"
+
+/* Two images with slots of two sectors; trials of one boot. board/device.json says the same. */
+static const struct bootswap_setup setup = {
+    .sector_size = NOR_SECTOR, .images = 2, .sectors = {2, 2}, .trial_boots = 1};
+
+/* The longest journal is that of a boot, or of a piece: 31 bytes, and its bytes. */
+#define LARGER(one, other) ((one) > (other) ? (one) : (other))
+static uint8_t mirror[NOR_SECTORS * NOR_SECTOR];
+static uint8_t journal[LARGER(BOOTSWAP_JOURNAL_ROOM(NOR_SECTOR), 31 + MOST_BYTES)];
+static char table[BOOTSWAP_TABLE_ROOM], report[BOOTSWAP_REPORT_ROOM];
+static struct event event;
+
+static struct bootswap_device device = {
+    .setup = &setup,
+    .driver = &nor_driver,
+    .mirror = mirror,
+    .mirror_length = sizeof mirror,
+    .journal = journal,
+    .journal_room = sizeof journal,
+};
+
+static uint32_t open_and(uint32_t (*call)(void)) {
+    uint32_t number = bootswap_open(&device);
+    return number == BOOTSWAP_DONE ? call() : number;
+}
+
+static uint32_t boot(void) {
+    return bootswap_device_boot(&device, table, sizeof table, report, sizeof report);
+}
+
+static uint32_t provision(void) {
+    return bootswap_device_provision(&device);
+}
+
+static uint32_t reset(void) {
+    bootswap_reset(&device.kept);
+    return BOOTSWAP_DONE;
+}
+
+static uint32_t answer(void) {
+    switch (event.kind) {
+    case EVENT_ACCEPT:
+        return bootswap_device_accept(&device, &event.manifest);
+    case EVENT_PIECE:
+        return bootswap_device_piece(&device, event.image, event.bytes, event.length);
+    case EVENT_FINISH:
+        return bootswap_device_finish(&device, event.image);
+    case EVENT_WITHDRAW:
+        return bootswap_device_withdraw(&device, event.image);
+    case EVENT_CONFIRM:
+        return bootswap_device_confirm(&device, event.image);
+    case EVENT_RESET:
+        return reset();
+    case EVENT_PROVISION:
+        return open_and(provision);
+    default:
+        return open_and(boot);
+    }
+}
+
+int main(void) {
+    serial_start();
+    event.kind = EVENT_BOOT;
+    for (uint32_t count = 1;; count++) {
+        uint32_t number = answer();
+        reply(count, number, &device.told, report);
+        if (event.kind == EVENT_BOOT && number <= BOOTSWAP_TRIAL_AGAIN) {
+            run_images(&setup);
+        }
+        script_read(&event);
+        while (event.kind == EVENT_UNREADABLE) {
+            serial_write_text("unreadable\n");
+            script_read(&event);
+        }
+    }
+}

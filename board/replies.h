@@ -1,0 +1,10 @@
+/* The text of replies, as `bootswap run` prints it (docs/FORMATS.md, "Replies of a device"). */
+#ifndef REPLIES_H
+#define REPLIES_H
+
+#include "bootswap.h"
+
+/* Writes to the serial port the reply to event N, by what its call returned and reported. */
+void reply(uint32_t event, uint32_t number, const struct bootswap_told *told, const char *report);
+
+#endif

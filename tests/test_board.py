@@ -1,0 +1,157 @@
+"""The board in QEMU: its replies, and that it survives kills."""
+
+import os
+import re
+import shutil
+import subprocess
+import sys
+import tempfile
+import unittest
+
+from support.files import ROOT, read
+from support.libraries import TARGET, archive_for
+from support.program import ProgramTest, short
+from support.stories import STAYED
+from support.worked import NO_SESSION, NO_TRIAL, NOTHING_REQUESTED, NOT_UP, PLAIN, TRIED, numbered
+
+sys.path.insert(0, f"{ROOT}/board")
+
+import machine
+import parts
+
+# How many seconds a command of the board may take.
+LIMIT = 600
+
+KILLS = 20
+
+# Ten events that upgrade and revert, by the files that `board/run` makes, and their replies.
+# docs/FORMATS.md says each reply.
+REVERT = ["boot", "accept {0}/new.json", "piece 0 {0}/new0.img", "piece 1 {0}/new1.img"]
+REVERT += ["finish 0", "finish 1", "boot", "confirm 0", "boot", "boot"]
+REVERTED = [PLAIN, *5 * ["done"], TRIED, "done", "reverted 0 1", PLAIN]
+
+# Ten events after these. A file of another length comes for image 0, and no byte for image 1.
+REFUSED = ["boot", "withdraw 0", "confirm 1", "piece 0 {0}/new.json", "accept {0}/new.json"]
+REFUSED += ["piece 0 {0}/new.json", "finish 0", "piece 1 {0}/new1.img 0 0", "reset", "finish 2"]
+REFUSALS = [PLAIN, NOTHING_REQUESTED, NO_TRIAL, NO_SESSION, "done"]
+REFUSALS += ["done", "refused upload 5 SizeWrong", "done", "done", NOT_UP]
+
+# The script of board/README.md, after these.
+UPGRADE = read(f"{ROOT}/board/upgrade.txt").decode().replace("out/board", "{0}").splitlines()
+UPGRADED = [PLAIN, *5 * ["done"], TRIED, "done", "done", STAYED]
+
+# Each with the major versions of the images that run, and the status.
+RUNS = [
+    ("revert", REVERT, REVERTED, "11221111", 0),
+    ("refusals", REFUSED, REFUSALS, "11", 1),
+    ("upgrade.txt", UPGRADE, UPGRADED, "112222", 0),
+]
+
+# What `board/kill` prints if nothing failed.
+SUMMARY = (
+    rf"{KILLS} kills in \d+ starts; \d+ fell within the writes of a call\n"
+    r"\d+ upgrades and \d+ reverts ended\n0 mixed sets of images, 0 bricks\nseed 7, \d+ s\n"
+)
+
+# Lines for the board that are events, with the replies, and lines that aren't.
+DIGEST = 32 * "5a"
+LINES = [
+    (f"accept 0 2 test 1 {DIGEST} -", "refused manifest 6 NoComponent"),
+    (f"accept 0 0 test 8193 {DIGEST} -", "refused upload 2 TooBig"),
+    (f"accept 0 0 test 3 {DIGEST} {DIGEST}", "refused upload 8 WrongPrecursor"),
+    (f"accept 4294967295 0 permanent 3 {DIGEST} - 1 test 8192 {DIGEST} -", "done"),
+    (f"accept 4294967294 0 test 3 {DIGEST} -", "refused upload 1 OldSequence"),
+    ("piece 0 616263", "done"),
+    ("finish 0", "refused upload 6 DigestWrong"),
+    (f"piece 1 {8192 * '5a'}", "done"),
+    ("finish 255", NO_SESSION),
+    ("piece 255 -", NO_SESSION),
+]
+UNREADABLE = ["", "boot now", "boo", " boot", "boot ", "confirm 256", "finish", "finish 0 0"]
+UNREADABLE += ["finish  0", "piece 0 5", "piece 0 5G", "piece 0", "piece 0 ", "piece 0 -5"]
+UNREADABLE += [f"piece 1 {8193 * '5a'}", 40000 * "z", "accept 1"]
+UNREADABLE += [f"accept 4294967296 0 test 3 {DIGEST} -", f"accept 1 0 test 3 {DIGEST}"]
+UNREADABLE += [f"accept 1 0 test 3 {DIGEST}5a -", f"accept 1{9 * f' 0 test 3 {DIGEST} -'}"]
+
+BAD_SCRIPTS = ["cut 1 keep\nboot\n", "boot\nfinish\n", "boot\npiece 0 absent.img\n", "finish 0\n"]
+
+
+@unittest.skipIf(parts.missing(), f"there is no {', and no '.join(parts.missing())}")
+class BoardTest(ProgramTest):
+    """`board/run` and `board/kill`, over the library that was built."""
+
+    runs_once = True
+
+    @classmethod
+    def setUpClass(cls):
+        cls.made = tempfile.mkdtemp(prefix="bootswap-board-")
+        cls.addClassCleanup(shutil.rmtree, cls.made, ignore_errors=True)
+        cls.archive = archive_for(TARGET)
+
+    def run_board(self, name, *arguments, given="", **environment):
+        """Returns the status, standard output and standard error of a command of the board."""
+        words = [sys.executable, "-B", f"{ROOT}/board/{name}", "--library", self.archive]
+        streams = {"stdout": subprocess.PIPE, "stderr": subprocess.PIPE, "text": True}
+        streams["env"] = {**os.environ, **environment}
+        done = subprocess.run([*words, *arguments], input=given, timeout=LIMIT, **streams)
+        return done.returncode, done.stdout, done.stderr
+
+    def test_scripts(self):
+        """The board answers as `bootswap run` does, and runs the images of each report."""
+        for name, events, replies, versions, status in RUNS:
+            script = "".join(f"{it}\n" for it in events).format(self.made)
+            ran = "".join(f"image {at % 2} version {it}.0.0\n" for at, it in enumerate(versions))
+            wanted = (status, numbered(replies).decode(), ran)
+            got = self.run_board("run", "-", "--out", self.made, given=script)
+            self.case(f"{name} on the board", [f"{short(got)}, and not {wanted}"] * (got != wanted))
+            self.expect_program(name, script, status, numbered(replies))
+
+    def expect_program(self, name, script, status, wanted):
+        """Cases: `bootswap run` prints the same, and leaves the same flash, on the same device."""
+        device = f"{ROOT}/board/device.json"
+        if name == "revert":
+            images = [f"{self.made}/old{it}.img" for it in (0, 1)]
+            self.expect("provision", ["provision", device, "flash", *images], 0, b"done\n")
+        arguments = ["run", device, "flash", "-"]
+        self.expect(f"{name} of `run`", arguments, status, wanted, given=script.encode())
+        same = read(f"{self.folder}/flash") == read(f"{self.made}/flash")
+        self.case(f"{name}: both leave the same flash", [] if same else ["they differ"])
+
+    def test_kills(self):
+        """The board survives losing its power at random moments of upgrades and reverts."""
+        got = self.run_board("kill", str(KILLS), "--seed", "7")
+        is_right = got[0] == 0 and re.fullmatch(SUMMARY, got[1]) and not got[2]
+        self.case(f"{KILLS} kills", [] if is_right else [short(got)])
+
+    def test_bad_scripts(self):
+        """A line that the board doesn't take is refused before the board is turned on."""
+        for script in BAD_SCRIPTS:
+            got = self.run_board("run", "-", "--out", self.made, given=script)
+            is_right = got[:2] == (2, "") and got[2].startswith("board: script line ")
+            self.case(f"the script {script!r}", [] if is_right else [short(got)])
+
+    def test_lines(self):
+        """The board refuses each line that isn't an event, and answers all others."""
+        bootloader, flash = parts.build(self.made, self.archive), f"{self.made}/lines"
+        machine.provision(bootloader, self.made, flash)
+        with machine.Machine(bootloader, flash) as board:
+            self.case("power-up", [] if board.answer().startswith("1 plain\n") else ["refused"])
+            for number, (line, reply) in enumerate(LINES, 2):
+                board.send(line)
+                got, wanted = board.answer(), f"{number} {reply}\n"
+                self.case(f"the line {short(line)}", [short(got)] * (got != wanted))
+            for line in UNREADABLE:
+                board.send(line)
+                got = board.answer()
+                self.case(f"the line {short(line)}", [short(got)] * (got != "unreadable\n"))
+
+    def test_missing(self):
+        """The commands of the board say what is missing."""
+        absent, empty = f"{self.folder}/absent.a", {"PATH": self.folder}
+        library = f"board: there is no {absent}: bindings/build makes it\n"
+        system = f"board: there is no `gcc`, and no `ld`, and no `{parts.QEMU}`\n"
+        for name, argument in (("run", "-"), ("kill", "1")):
+            got = self.run_board(name, argument, "--library", absent)
+            self.case(f"{name} without a library", [short(got)] * (got != (125, "", library)))
+            got = self.run_board(name, argument, **empty)
+            self.case(f"{name} without programs", [short(got)] * (got != (125, "", system)))
