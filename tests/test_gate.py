@@ -152,6 +152,8 @@ class Pretended:
             os.remove(f"{self.folder}/reached")
         environment = {**os.environ, "PATH": f"{self.folder}/bin:{os.environ['PATH']}", "TMPDIR": self.files}
         environment.update(PRETENDED_FOLDER=self.folder, PRETENDED_STEP=step or "")
+        # What the pretended toolchain makes doesn't belong with what was proved.
+        environment.pop("BOOTSWAP_PROVED", None)
         streams = {"stdin": subprocess.DEVNULL, "stdout": subprocess.DEVNULL, "stderr": subprocess.DEVNULL}
         how = {"cwd": self.repository, "env": environment, **streams}
         for it in commands[:-1]:

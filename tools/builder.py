@@ -43,6 +43,7 @@ MEMORY = 2_300_000_000
 LIBRARY = "c_interface"
 
 TARGET = "x86_64-unknown-linux-gnu"
+ARM_TARGET = "aarch64-unknown-linux-gnu"
 WEB_TARGET = "wasm64-unknown-unknown"
 
 
