@@ -1,0 +1,178 @@
+/*
+ * Measures how many bytes of stack each call of the library takes: each runs on a stack of its own that was filled with a
+ * pattern before, and the bytes that it changed are counted. The device has eight images, as many as a device may have.
+ *
+ *     stack RUNNING NEW
+ *
+ * RUNNING is the file of the image that runs in each slot, NEW that of its upgrade.
+ */
+#define _XOPEN_SOURCE 700
+#include <stdio.h>
+#include <stdlib.h>
+#include <string.h>
+#include <ucontext.h>
+
+#include "bootswap.h"
+
+enum { IMAGES = 8, SECTOR = 512, SLOT = 2, SECTORS = IMAGES * 2 * (SLOT + 1) + 4, STACK = 1 << 20, MARK = 0xa5 };
+
+static const struct bootswap_setup setup = {.sector_size = SECTOR,
+                                            .images = IMAGES,
+                                            .sectors = {SLOT, SLOT, SLOT, SLOT, SLOT, SLOT, SLOT, SLOT},
+                                            .trial_boots = 1};
+static uint8_t flash[SECTORS * SECTOR], running[SLOT * SECTOR], new[SLOT * SECTOR];
+static size_t running_length, new_length;
+static struct bootswap_kept kept;
+static struct bootswap_told told;
+static struct bootswap_manifest manifest;
+static struct bootswap_description description;
+static struct bootswap_state in_log;
+static struct bootswap_sha256 digest;
+static char table[BOOTSWAP_TABLE_ROOM], report[BOOTSWAP_REPORT_ROOM];
+static uint64_t number;
+
+static _Alignas(16) uint8_t stack[STACK];
+static ucontext_t caller, called;
+static uint32_t returned;
+static uint8_t image;
+
+static void provision(void) { returned = bootswap_provision(&setup, flash, sizeof flash, NULL, 0, &told); }
+
+static void boot(void) {
+    returned = bootswap_boot(&setup, flash, sizeof flash, &kept, NULL, 0, table, sizeof table, report, sizeof report, &told);
+}
+
+static void accept(void) { returned = bootswap_accept(&setup, flash, sizeof flash, &kept, NULL, 0, &manifest, &told); }
+
+static void piece(void) {
+    returned = bootswap_piece(&setup, flash, sizeof flash, &kept, NULL, 0, image, new, new_length, &told);
+}
+
+static void finish(void) { returned = bootswap_finish(&setup, flash, sizeof flash, &kept, NULL, 0, image, &told); }
+
+static void withdraw(void) { returned = bootswap_withdraw(&setup, flash, sizeof flash, &kept, NULL, 0, image, &told); }
+
+static void confirm(void) { returned = bootswap_confirm(&setup, flash, sizeof flash, &kept, NULL, 0, image, &told); }
+
+static void slot(void) { returned = bootswap_slot(&setup, flash, sizeof flash, image, 0, &description); }
+
+static void state(void) { returned = bootswap_state(&setup, flash, sizeof flash, &in_log); }
+
+static void describe(void) { returned = bootswap_describe(new, new_length, &description); }
+
+static void digest_of(void) {
+    bootswap_digest(new, new_length, &digest);
+    returned = 0;
+}
+
+static void choose(void) {
+    returned = bootswap_choose(table, told.table_length, report, sizeof report, &number);
+}
+
+static void check(void) { returned = bootswap_check(table, told.table_length, report, number, &number); }
+
+/* Nothing: what the frame around a call takes. */
+static void nothing(void) { returned = 0; }
+
+/* Runs a call on a stack of its own, and returns the number of bytes that it changed there. */
+static size_t bytes_of(void (*call)(void)) {
+    memset(stack, MARK, sizeof stack);
+    getcontext(&called);
+    called.uc_stack.ss_sp = stack;
+    called.uc_stack.ss_size = sizeof stack;
+    called.uc_link = &caller;
+    makecontext(&called, call, 0);
+    swapcontext(&caller, &called);
+    size_t low = 0;
+    while (low < sizeof stack && stack[low] == MARK) low++;
+    return sizeof stack - low;
+}
+
+struct row {
+    const char *name;
+    void (*call)(void);
+    uint32_t wanted;
+    size_t most;
+};
+
+static struct row rows[] = {
+    {"provision", provision, BOOTSWAP_DONE, 0}, {"boot", boot, BOOTSWAP_BOOTED, 0},
+    {"accept", accept, BOOTSWAP_DONE, 0},       {"piece", piece, BOOTSWAP_DONE, 0},
+    {"finish", finish, BOOTSWAP_DONE, 0},       {"withdraw", withdraw, BOOTSWAP_DONE, 0},
+    {"confirm", confirm, BOOTSWAP_DONE, 0},     {"slot", slot, BOOTSWAP_DONE, 0},
+    {"state", state, BOOTSWAP_DONE, 0},         {"describe", describe, BOOTSWAP_DONE, 0},
+    {"digest", digest_of, BOOTSWAP_DONE, 0},    {"choose", choose, BOOTSWAP_DONE, 0},
+    {"check", check, BOOTSWAP_DONE, 0},
+};
+
+/* Makes a call, which has to return what is wanted, and keeps the most bytes that it took. */
+static void run(const char *name) {
+    size_t frame = bytes_of(nothing);
+    for (size_t i = 0; i < sizeof rows / sizeof *rows; i++) {
+        struct row *row = &rows[i];
+        if (strcmp(row->name, name)) continue;
+        size_t bytes = bytes_of(row->call) - frame;
+        if (returned != row->wanted) {
+            fprintf(stderr, "%s of image %u: %u (fault %u, detail %u)\n", name, image, returned, told.fault, told.detail);
+            exit(1);
+        }
+        if (bytes > row->most) row->most = bytes;
+    }
+}
+
+static size_t load(const char *name, uint8_t *bytes) {
+    FILE *file = fopen(name, "rb");
+    if (!file) {
+        perror(name);
+        exit(1);
+    }
+    size_t length = fread(bytes, 1, SLOT * SECTOR, file);
+    fclose(file);
+    return length;
+}
+
+/* Accepts a manifest of all images, and uploads them. */
+static void upload(uint32_t sequence) {
+    manifest.sequence = sequence;
+    run("accept");
+    for (image = 0; image < IMAGES; image++) {
+        run("piece");
+        run("finish");
+    }
+}
+
+int main(int count, char **words) {
+    if (count != 3) {
+        fprintf(stderr, "usage: stack RUNNING NEW\n");
+        return 2;
+    }
+    running_length = load(words[1], running);
+    new_length = load(words[2], new);
+    memset(flash, 0xff, sizeof flash);
+    bootswap_digest(new, new_length, &digest);
+    manifest.count = IMAGES;
+    for (image = 0; image < IMAGES; image++) {
+        memcpy(flash + image * (SLOT + 1) * SECTOR, running, running_length);
+        manifest.components[image].image = image;
+        manifest.components[image].size = (uint32_t)new_length;
+        memcpy(manifest.components[image].digest, digest.bytes, sizeof digest.bytes);
+    }
+
+    run("provision");
+    run("boot");
+    upload(1);
+    for (image = 0; image < IMAGES; image++) run("withdraw");
+    upload(2);
+    run("boot");
+    run("choose");
+    run("check");
+    for (image = 0; image < IMAGES; image++) run("confirm");
+    run("boot");
+    image = 0;
+    run("slot");
+    run("state");
+    run("describe");
+    run("digest");
+    for (size_t i = 0; i < sizeof rows / sizeof *rows; i++) printf("%-10s %6zu\n", rows[i].name, rows[i].most);
+    return 0;
+}
