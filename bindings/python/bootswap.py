@@ -8,8 +8,8 @@ A call raises `ValueError` for an argument that the device can't be passed, `Ref
 `BootswapError` if no call could be made. In each of these cases but `Refused`, nothing changed. A device with
 `raises_refusals=False` returns a refusal as any other reply.
 
-The library is `out/libbootswap.so` of the repository, which `bindings/build` makes, or the file that the environment
-names in BOOTSWAP_LIBRARY.
+The library is the file that the environment names in BOOTSWAP_LIBRARY, or `out/libbootswap.so` of the repository, which
+`bindings/build` makes, or else the installed one.
 """
 
 from __future__ import annotations
@@ -26,6 +26,9 @@ MOST_IMAGES = 8
 MOST_CUTS = 16
 TABLE_ROOM = 20480
 REPORT_ROOM = 2048
+
+# The name of the installed library. Its number is the major version.
+SHARED_NAME = "libbootswap.so.0"
 
 
 class Number(enum.IntEnum):
@@ -214,9 +217,16 @@ class _Sha256(ctypes.Structure):
     _fields_ = [("bytes", c_uint8 * 32)]
 
 
+def _library() -> str:
+    """Returns the file of the library. A name without a folder is looked for where the system has libraries."""
+    # The top of the repository, or PREFIX/lib of an installation.
+    above = os.path.dirname(os.path.dirname(os.path.dirname(os.path.realpath(__file__))))
+    files = [f"{above}/out/libbootswap.so", f"{above}/{SHARED_NAME}"]
+    return os.environ.get("BOOTSWAP_LIBRARY") or next(filter(os.path.isfile, files), SHARED_NAME)
+
+
 def _load() -> ctypes.CDLL:
-    root = os.path.dirname(os.path.dirname(os.path.dirname(os.path.realpath(__file__))))
-    library = ctypes.CDLL(os.environ.get("BOOTSWAP_LIBRARY", f"{root}/out/libbootswap.so"))
+    library = ctypes.CDLL(_library())
     flash, cuts, result = [POINTER(c_uint8), c_size_t], [POINTER(_Cut), c_size_t], [POINTER(_CallResult)]
     text = [POINTER(c_char), c_size_t]
     arguments = {

@@ -1,0 +1,194 @@
+"""What `tools/install` puts on a system, how programs find it there, and what `tools/uninstall` takes away."""
+
+import os
+import re
+import shutil
+import stat
+import subprocess
+import sys
+import unittest
+
+from support.compiled import needs_compiler
+from support.files import ROOT, read
+from support.libraries import TARGET, archive_for, ran
+from support.program import ProgramTest, short
+
+from installing import LIST, major, share, version
+
+# What `tools/install` needs of a clone beside out/.
+NEEDED = ("bindings", "examples", "include", "tools")
+
+# The places of an installation, but for the examples and Python's folder.
+PLACES = {
+    *("bin/bootswap", "include/bootswap.h", "include/bootswap_names.h", "lib/libbootswap.a", "lib/libbootswap.so"),
+    *(f"lib/libbootswap.so.{major()}", f"lib/libbootswap.so.{version()}", "lib/pkgconfig/bootswap.pc"),
+    *(f"lib/cmake/bootswap/bootswap-config{it}.cmake" for it in ("", "-version")),
+    *("share/doc/bootswap/LICENSE", "share/doc/bootswap/CHANGELOG.md", LIST),
+}
+
+# What life.c prints with a cut of write 5, and the program of bindings/README.md.
+LIFE_PRINTS = b"power failed in write 5\npermanent\ntake 0 1.1.0+0\n"
+PYTHON_PRINTS = b"take 0 1.1.0+0\n"
+
+CMAKE_LISTS = """cmake_minimum_required(VERSION 3.16)
+project(life C)
+find_package(bootswap {version} REQUIRED)
+add_executable(life life.c)
+target_link_libraries(life bootswap::bootswap)
+add_executable(life_alone life.c)
+target_link_libraries(life_alone bootswap::static)
+"""
+
+
+@needs_compiler
+class InstallTest(ProgramTest):
+    """An installation of the built program and library, from a clone with these in out/."""
+
+    @classmethod
+    def setUpClass(cls):
+        cls.archive = archive_for(TARGET)
+
+    def setUp(self):
+        super().setUp()
+        self.clone, self.prefix = f"{self.folder}/clone", f"{self.folder}/prefix"
+        for name in NEEDED:
+            shutil.copytree(f"{ROOT}/{name}", f"{self.clone}/{name}", ignore=shutil.ignore_patterns("__pycache__"))
+        for name in ("LICENSE", "CHANGELOG.md"):
+            shutil.copy(f"{ROOT}/{name}", self.clone)
+        os.mkdir(f"{self.clone}/out")
+        shutil.copy(self.program, f"{self.clone}/out/bootswap")
+        shutil.copy(self.archive, f"{self.clone}/out/libbootswap.a")
+        self.assertTrue(share(self.archive, f"{self.clone}/out/libbootswap.so"))
+
+    def run_tool(self, name, *words):
+        """Runs a tool of the clone, and returns its status and what it says."""
+        done = subprocess.run([f"{self.clone}/tools/{name}", *words], capture_output=True)
+        return done.returncode, done.stdout + done.stderr
+
+    def expect_tool(self, case, name, *words, status=0, said=b""):
+        """A case: a tool ends so, and says exactly this."""
+        got = self.run_tool(name, *words)
+        self.case(case, [f"{got[0]}: {short(got[1])}"] * (got != (status, said)))
+
+    def install(self):
+        """Installs below the prefix of this test."""
+        self.expect_tool("it is installed", "install", "--prefix", self.prefix)
+        return {**os.environ, "LD_LIBRARY_PATH": f"{self.prefix}/lib"}
+
+    def printed_by(self, case, words, wanted, **how):
+        """A case: a command prints exactly this."""
+        faults, output = ran(words, **how)
+        self.case(case, faults or [short(output)] * (output != wanted))
+
+    def test_files(self):
+        """Each file is in its place below the folder that stands for the root, and only there."""
+        system = f"{self.folder}/system"
+        self.expect_tool("it is installed", "install", "--prefix", "/usr", "--destdir", system)
+        found = places_below(f"{system}/usr")
+        self.case("nothing is outside the prefix", [it for it in os.listdir(system) if it != "usr"])
+        examples = {f"share/doc/bootswap/examples/{it}" for it in places_below(f"{ROOT}/examples")}
+        examples |= {f"share/doc/bootswap/examples/c/{it}" for it in os.listdir(f"{ROOT}/bindings/c")}
+        module = {it for it in found if re.fullmatch(r"lib/python3[.\d]*/(dist|site)-packages/bootswap\.py", it)}
+        self.case("Python's module is there once", [] if len(module) == 1 else sorted(module))
+        self.case("all files", sorted(found ^ (PLACES | examples | module)))
+        mode = stat.S_IMODE(os.stat(f"{system}/usr/bin/bootswap").st_mode)
+        self.case("the program can be run", [oct(mode)] * (mode != 0o755))
+        self.printed_by("its version", [f"{system}/usr/bin/bootswap", "--version"], f"bootswap {version()}\n".encode())
+        prefix = read(f"{system}/usr/lib/pkgconfig/bootswap.pc").splitlines()[0]
+        self.case("no text names the folder for the root", [prefix] * (prefix != b"prefix=/usr"))
+
+    def test_uninstall(self):
+        """It removes exactly what was installed: a file of somebody else stays, and so do its folders."""
+        other = f"{self.prefix}/lib/other.so"
+        os.makedirs(os.path.dirname(other))
+        with open(other, "w", encoding="utf-8") as it:
+            it.write("other\n")
+        self.install()
+        self.expect_tool("it is removed", "uninstall", "--prefix", self.prefix)
+        left = [os.path.relpath(f"{at}/{name}", self.prefix) for at, folders, names in os.walk(self.prefix)
+                for name in [*folders, *names]]
+        self.case("what is left", [str(left)] * (left != ["lib", "lib/other.so"]))
+        said = f"uninstall: nothing is installed: there is no {self.prefix}/{LIST}\n".encode()
+        self.expect_tool("it can't be removed twice", "uninstall", "--prefix", self.prefix, status=1, said=said)
+
+    def test_again(self):
+        """An installation over an older one leaves nothing of the older one."""
+        self.install()
+        old = f"{self.prefix}/share/bootswap/old"
+        with open(old, "w", encoding="utf-8") as it:
+            it.write("old\n")
+        with open(f"{self.prefix}/{LIST}", "a", encoding="utf-8") as it:
+            it.write("share/bootswap/old\n")
+        self.install()
+        self.case("the old file is gone", [old] * os.path.exists(old))
+        self.case("the library is there", [] if os.path.exists(f"{self.prefix}/lib/libbootswap.so") else ["it isn't"])
+
+    def test_refusals(self):
+        """What isn't built, and arguments that are wrong, are refused, and nothing is written."""
+        for file, how in (("libbootswap.so", "bindings/build"), ("bootswap", "./bootswap codes")):
+            os.remove(f"{self.clone}/out/{file}")
+            said = f"install: out/{file} isn't built: run {how}\n".encode()
+            self.expect_tool(f"without {file}", "install", "--prefix", self.prefix, status=1, said=said)
+        for words in (["--prefix", "usr"], ["--perfix", "/usr"], ["here"]):
+            for tool in ("install", "uninstall"):
+                status, _ = self.run_tool(tool, *words)
+                self.case(f"{tool} {' '.join(words)}", [f"status {status}"] * (status != 2))
+        self.case("nothing is written", [self.prefix] * os.path.exists(self.prefix))
+
+    def test_write_fault(self):
+        """A folder that can't be made is named."""
+        with open(self.prefix, "w", encoding="utf-8"):
+            pass
+        status, said = self.run_tool("install", "--prefix", self.prefix)
+        self.case("the prefix is a file", [f"{status}: {short(said)}"] * (status != 1 or self.prefix.encode() not in said))
+
+    @unittest.skipUnless(shutil.which("pkg-config"), "there is no pkg-config")
+    def test_pkg_config(self):
+        """A C program finds header and libraries by pkg-config."""
+        environment = self.install()
+        environment["PKG_CONFIG_PATH"] = f"{self.prefix}/lib/pkgconfig"
+        asked = ["pkg-config", "--cflags", "--libs", "bootswap"]
+        flags = subprocess.run(asked, env=environment, capture_output=True, text=True).stdout.split()
+        source, program = f"{self.prefix}/share/doc/bootswap/examples/c/life.c", f"{self.folder}/life"
+        faults, _ = ran(["cc", source, *flags, "-o", program])
+        self.case("it compiles", faults)
+        self.printed_by("it runs", [program, *self.images(), "5"], LIFE_PRINTS, env=environment)
+        self.case("it is linked with the shared library", [] if self.soname_of(program) else ["it isn't"])
+
+    @unittest.skipUnless(shutil.which("cmake"), "there is no cmake")
+    def test_cmake(self):
+        """A C program finds both libraries by CMake."""
+        environment = self.install()
+        source, made = f"{self.folder}/source", f"{self.folder}/made"
+        os.mkdir(source)
+        shutil.copy(f"{self.prefix}/share/doc/bootswap/examples/c/life.c", source)
+        with open(f"{source}/CMakeLists.txt", "w", encoding="utf-8") as it:
+            it.write(CMAKE_LISTS.format(version=version()))
+        for words in (["-S", source, "-B", made, f"-DCMAKE_PREFIX_PATH={self.prefix}"], ["--build", made]):
+            faults, _ = ran(["cmake", *words], env=environment)
+            self.case(f"cmake {words[0]}", faults)
+        for name in ("life", "life_alone"):
+            self.printed_by(name, [f"{made}/{name}", *self.images(), "5"], LIFE_PRINTS)
+
+    def test_python(self):
+        """Python finds the module, and the module the library."""
+        self.install()
+        (folder,) = {os.path.dirname(it) for it in places_below(self.prefix) if it.endswith("/bootswap.py")}
+        text = read(f"{ROOT}/bindings/README.md").decode()
+        program = re.search(r"^```python\n(.*?)^```$", text, re.MULTILINE | re.DOTALL)[1].replace("bindings/python", ".")
+        environment = {name: it for name, it in os.environ.items() if name != "BOOTSWAP_LIBRARY"}
+        environment["PYTHONPATH"] = f"{self.prefix}/{folder}"
+        self.printed_by("bindings/README.md", [sys.executable, "-c", program], PYTHON_PRINTS, cwd=self.folder, env=environment)
+
+    def images(self):
+        return [f"{self.prefix}/share/doc/bootswap/examples/images/{it}.img" for it in ("one", "patched")]
+
+    def soname_of(self, program):
+        """Whether a program needs the shared library by the name with its major version."""
+        _, output = ran(["readelf", "-d", program])
+        return f"[libbootswap.so.{major()}]".encode() in output
+
+
+def places_below(top):
+    """Returns the files and links below a folder, as paths from there."""
+    return {os.path.relpath(f"{at}/{name}", top) for at, _, names in os.walk(top) for name in names}

@@ -1,0 +1,221 @@
+"""What an installation has, where each file is, and how it is put there and taken away.
+
+`tools/install`, `tools/uninstall` and `tools/package` use this. Places are below a prefix, such as /usr/local.
+"""
+
+import argparse
+import os
+import re
+import shutil
+import subprocess
+import sys
+from typing import NamedTuple, Optional
+
+from builder import OUT, ROOT, text_of
+
+# The list of what was installed, one place a line. A folder that the installation made ends with a slash.
+LIST = "share/bootswap/installed"
+
+# Where the examples are, those of bindings/c among them.
+EXAMPLES = "share/doc/bootswap/examples"
+
+PKG_CONFIG = """prefix={prefix}
+includedir=${{prefix}}/include
+libdir=${{prefix}}/lib
+
+Name: bootswap
+Description: Bootloader core that upgrades images which depend on each other as one transaction
+Version: {version}
+Cflags: -I${{includedir}}
+Libs: -L${{libdir}} -lbootswap
+"""
+
+CMAKE = """# The library of bootswap.h: bootswap::bootswap is the shared one, bootswap::static the static one.
+get_filename_component(bootswap_prefix "${{CMAKE_CURRENT_LIST_DIR}}/../../.." ABSOLUTE)
+if(NOT TARGET bootswap::bootswap)
+    add_library(bootswap::bootswap SHARED IMPORTED)
+    set_target_properties(bootswap::bootswap PROPERTIES
+        IMPORTED_LOCATION "${{bootswap_prefix}}/lib/libbootswap.so.{version}"
+        IMPORTED_SONAME "libbootswap.so.{major}"
+        INTERFACE_INCLUDE_DIRECTORIES "${{bootswap_prefix}}/include")
+    add_library(bootswap::static STATIC IMPORTED)
+    set_target_properties(bootswap::static PROPERTIES
+        IMPORTED_LOCATION "${{bootswap_prefix}}/lib/libbootswap.a"
+        INTERFACE_INCLUDE_DIRECTORIES "${{bootswap_prefix}}/include")
+endif()
+unset(bootswap_prefix)
+"""
+
+CMAKE_VERSION = """set(PACKAGE_VERSION "{version}")
+if(PACKAGE_FIND_VERSION VERSION_EQUAL PACKAGE_VERSION)
+    set(PACKAGE_VERSION_EXACT TRUE)
+endif()
+if(PACKAGE_FIND_VERSION VERSION_LESS_EQUAL PACKAGE_VERSION AND PACKAGE_FIND_VERSION_MAJOR EQUAL {major})
+    set(PACKAGE_VERSION_COMPATIBLE TRUE)
+endif()
+"""
+
+
+class NotInstalled(Exception):
+    """Why nothing is installed."""
+
+
+class Item(NamedTuple):
+    """A file of an installation: a copy of a file, a text, or a link."""
+
+    place: str
+    source: Optional[str] = None
+    text: Optional[str] = None
+    link: Optional[str] = None
+    mode: int = 0o644
+
+
+def version():
+    """Returns the version, as the header of the library has it."""
+    return re.search(r'#define BOOTSWAP_VERSION "(.*)"', text_of(f"{ROOT}/include/bootswap.h"))[1]
+
+
+def major():
+    return version().partition(".")[0]
+
+
+def share(archive, shared):
+    """Makes a shared library with everything in a static one, and returns whether it succeeded."""
+    words = ["cc", "-shared", f"-Wl,-soname,libbootswap.so.{major()}", "-o", shared]
+    return subprocess.run([*words, "-Wl,--whole-archive", archive, "-Wl,--no-whole-archive"]).returncode == 0
+
+
+def items(prefix, python, program, archive, shared):
+    """Returns the files of an installation below a prefix: the program, the library as a static and a shared one, the
+    module of Python in its folder, and what belongs to them."""
+    return [*program_items(program), *library_items(prefix, archive, shared), *python_items(python)]
+
+
+def program_items(program):
+    """Returns the files of the program."""
+    return [
+        Item("bin/bootswap", program, mode=0o755),
+        Item("share/doc/bootswap/LICENSE", f"{ROOT}/LICENSE"),
+        Item("share/doc/bootswap/CHANGELOG.md", f"{ROOT}/CHANGELOG.md"),
+        *copies(f"{ROOT}/examples", EXAMPLES),
+    ]
+
+
+def library_items(prefix, archive, shared):
+    """Returns the files of the library for C."""
+    full, names = version(), {"prefix": prefix, "version": version(), "major": major()}
+    return [
+        *(Item(f"include/{it}", f"{ROOT}/include/{it}") for it in sorted(os.listdir(f"{ROOT}/include"))),
+        Item("lib/libbootswap.a", archive),
+        Item(f"lib/libbootswap.so.{full}", shared),
+        Item(f"lib/libbootswap.so.{major()}", link=f"libbootswap.so.{full}"),
+        Item("lib/libbootswap.so", link=f"libbootswap.so.{full}"),
+        Item("lib/pkgconfig/bootswap.pc", text=PKG_CONFIG.format(**names)),
+        Item("lib/cmake/bootswap/bootswap-config.cmake", text=CMAKE.format(**names)),
+        Item("lib/cmake/bootswap/bootswap-config-version.cmake", text=CMAKE_VERSION.format(**names)),
+        *copies(f"{ROOT}/bindings/c", f"{EXAMPLES}/c"),
+    ]
+
+
+def python_items(folder):
+    """Returns the file of the module of Python, in a folder below the prefix."""
+    return [Item(f"{folder}/bootswap.py", f"{ROOT}/bindings/python/bootswap.py")]
+
+
+def copies(folder, place):
+    """Yields the files of a folder of the repository, below a place."""
+    for at, folders, names in os.walk(folder):
+        folders[:] = sorted(it for it in folders if it != "__pycache__")
+        for name in sorted(names):
+            file = f"{at}/{name}"
+            mode = 0o755 if os.access(file, os.X_OK) else 0o644
+            yield Item(f"{place}/{os.path.relpath(file, folder)}", file, mode=mode)
+
+
+def python_folder(prefix):
+    """Returns where this Python looks for modules below a prefix, or where Debian's does, if it looks nowhere there."""
+    below = [it for it in sys.path if it.startswith(f"{prefix}/lib/") and it.endswith("-packages")]
+    return os.path.relpath(below[0], prefix) if below else "lib/python3/dist-packages"
+
+
+def install(top, every):
+    """Puts files below a folder, which stands for the prefix. What an earlier installation put there is removed first.
+
+    The list of them is written first, so that an installation that failed can be removed too.
+    """
+    uninstall(top)
+    every = sorted([*every, Item(LIST)])
+    folders = sorted({it for item in every for it in folders_to(top, item.place)})
+    places = [*folders, *(it.place for it in every)]
+    os.makedirs(os.path.dirname(f"{top}/{LIST}"), exist_ok=True)
+    for item in [Item(LIST, text="".join(f"{it}\n" for it in places)), *(it for it in every if it.place != LIST)]:
+        os.makedirs(os.path.dirname(f"{top}/{item.place}"), exist_ok=True)
+        put(f"{top}/{item.place}", item)
+
+
+def folders_to(top, place):
+    """Yields the folders to a place that aren't there yet, each with a slash at its end."""
+    parts = place.split("/")[:-1]
+    for number in range(len(parts)):
+        folder = "/".join(parts[: number + 1])
+        if not os.path.isdir(f"{top}/{folder}"):
+            yield f"{folder}/"
+
+
+def put(file, item):
+    """Puts one file where it belongs. What was there is replaced."""
+    if os.path.lexists(file):
+        os.remove(file)
+    if item.link:
+        os.symlink(item.link, file)
+        return
+    if item.source:
+        shutil.copyfile(item.source, file)
+    else:
+        with open(file, "w", encoding="utf-8") as it:
+            it.write(item.text)
+    os.chmod(file, item.mode)
+
+
+def uninstall(top):
+    """Removes what the list names: its files, and those of its folders that are empty then. Returns whether there was a
+    list."""
+    places = (text_of(f"{top}/{LIST}") or "").splitlines()
+    for place in reversed(places):
+        if not place.endswith("/"):
+            with_no_fault(os.remove, f"{top}/{place}")
+    for place in reversed(places):
+        if place.endswith("/"):
+            with_no_fault(os.rmdir, f"{top}/{place}")
+    return bool(places)
+
+
+def with_no_fault(remove, path):
+    """Removes a file, or a folder if it is empty. What is gone already, or isn't empty, stays so."""
+    try:
+        remove(path)
+    except FileNotFoundError:
+        pass
+    except OSError:
+        if remove is not os.rmdir:
+            raise
+
+
+def built(name, how):
+    """Returns a file that was built in out/, or says how to build it."""
+    file = f"{OUT}/{name}"
+    if not os.path.isfile(file):
+        raise NotInstalled(f"out/{name} isn't built: run {how}")
+    return file
+
+
+def given_folders(words, about):
+    """Returns the folders that the arguments name."""
+    parser = argparse.ArgumentParser(description=about, formatter_class=argparse.RawDescriptionHelpFormatter)
+    parser.add_argument("--prefix", metavar="DIR", default="/usr/local", help="where to install (default: /usr/local)")
+    parser.add_argument("--destdir", metavar="DIR", default="", help="a folder that stands for the root of the system")
+    given = parser.parse_args(words)
+    if not os.path.isabs(given.prefix):
+        parser.error("--prefix has to begin with /")
+    given.prefix = os.path.normpath(given.prefix)
+    return given
