@@ -21,7 +21,7 @@ EXAMPLES = "share/doc/bootswap/examples"
 
 PKG_CONFIG = """prefix={prefix}
 includedir=${{prefix}}/include
-libdir=${{prefix}}/lib
+libdir=${{prefix}}/{libraries}
 
 Name: bootswap
 Description: Bootloader core that upgrades images which depend on each other as one transaction
@@ -31,19 +31,21 @@ Libs: -L${{libdir}} -lbootswap
 """
 
 CMAKE = """# The library of bootswap.h: bootswap::bootswap is the shared one, bootswap::static the static one.
-get_filename_component(bootswap_prefix "${{CMAKE_CURRENT_LIST_DIR}}/../../.." ABSOLUTE)
+get_filename_component(bootswap_libraries "${{CMAKE_CURRENT_LIST_DIR}}/../.." ABSOLUTE)
+get_filename_component(bootswap_include "${{bootswap_libraries}}/{to_prefix}/include" ABSOLUTE)
 if(NOT TARGET bootswap::bootswap)
     add_library(bootswap::bootswap SHARED IMPORTED)
     set_target_properties(bootswap::bootswap PROPERTIES
-        IMPORTED_LOCATION "${{bootswap_prefix}}/lib/libbootswap.so.{version}"
+        IMPORTED_LOCATION "${{bootswap_libraries}}/libbootswap.so.{version}"
         IMPORTED_SONAME "libbootswap.so.{major}"
-        INTERFACE_INCLUDE_DIRECTORIES "${{bootswap_prefix}}/include")
+        INTERFACE_INCLUDE_DIRECTORIES "${{bootswap_include}}")
     add_library(bootswap::static STATIC IMPORTED)
     set_target_properties(bootswap::static PROPERTIES
-        IMPORTED_LOCATION "${{bootswap_prefix}}/lib/libbootswap.a"
-        INTERFACE_INCLUDE_DIRECTORIES "${{bootswap_prefix}}/include")
+        IMPORTED_LOCATION "${{bootswap_libraries}}/libbootswap.a"
+        INTERFACE_INCLUDE_DIRECTORIES "${{bootswap_include}}")
 endif()
-unset(bootswap_prefix)
+unset(bootswap_include)
+unset(bootswap_libraries)
 """
 
 CMAKE_VERSION = """set(PACKAGE_VERSION "{version}")
@@ -61,11 +63,12 @@ class NotInstalled(Exception):
 
 
 class Item(NamedTuple):
-    """A file of an installation: a copy of a file, a text, or a link."""
+    """A file of an installation: a copy of a file, a text, bytes, or a link."""
 
     place: str
     source: Optional[str] = None
     text: Optional[str] = None
+    contents: Optional[bytes] = None
     link: Optional[str] = None
     mode: int = 0o644
 
@@ -88,7 +91,8 @@ def share(archive, shared):
 def items(prefix, python, program, archive, shared):
     """Returns the files of an installation below a prefix: the program, the library as a static and a shared one, the
     module of Python in its folder, and what belongs to them."""
-    return [*program_items(program), *library_items(prefix, archive, shared), *python_items(python)]
+    library = [*shared_items("lib", shared), *library_items(prefix, "lib", archive)]
+    return [*program_items(program), *library, *python_items(python)]
 
 
 def program_items(program):
@@ -101,18 +105,23 @@ def program_items(program):
     ]
 
 
-def library_items(prefix, archive, shared):
-    """Returns the files of the library for C."""
-    full, names = version(), {"prefix": prefix, "version": version(), "major": major()}
+def shared_items(libraries, shared):
+    """Returns the files that a program needs which is linked with the shared library, in the folder of libraries."""
+    full = f"libbootswap.so.{version()}"
+    return [Item(f"{libraries}/{full}", shared), Item(f"{libraries}/libbootswap.so.{major()}", link=full)]
+
+
+def library_items(prefix, libraries, archive):
+    """Returns the files that one needs to compile and link a C program, with the folder of libraries below a prefix."""
+    to_prefix = "/".join(".." for _ in libraries.split("/"))
+    names = {"prefix": prefix, "libraries": libraries, "to_prefix": to_prefix, "version": version(), "major": major()}
     return [
         *(Item(f"include/{it}", f"{ROOT}/include/{it}") for it in sorted(os.listdir(f"{ROOT}/include"))),
-        Item("lib/libbootswap.a", archive),
-        Item(f"lib/libbootswap.so.{full}", shared),
-        Item(f"lib/libbootswap.so.{major()}", link=f"libbootswap.so.{full}"),
-        Item("lib/libbootswap.so", link=f"libbootswap.so.{full}"),
-        Item("lib/pkgconfig/bootswap.pc", text=PKG_CONFIG.format(**names)),
-        Item("lib/cmake/bootswap/bootswap-config.cmake", text=CMAKE.format(**names)),
-        Item("lib/cmake/bootswap/bootswap-config-version.cmake", text=CMAKE_VERSION.format(**names)),
+        Item(f"{libraries}/libbootswap.a", archive),
+        Item(f"{libraries}/libbootswap.so", link=f"libbootswap.so.{version()}"),
+        Item(f"{libraries}/pkgconfig/bootswap.pc", text=PKG_CONFIG.format(**names)),
+        Item(f"{libraries}/cmake/bootswap/bootswap-config.cmake", text=CMAKE.format(**names)),
+        Item(f"{libraries}/cmake/bootswap/bootswap-config-version.cmake", text=CMAKE_VERSION.format(**names)),
         *copies(f"{ROOT}/bindings/c", f"{EXAMPLES}/c"),
     ]
 
@@ -144,7 +153,7 @@ def install(top, every):
     The list of them is written first, so that an installation that failed can be removed too.
     """
     uninstall(top)
-    every = sorted([*every, Item(LIST)])
+    every = sorted([*every, Item(LIST)], key=lambda it: it.place)
     folders = sorted({it for item in every for it in folders_to(top, item.place)})
     places = [*folders, *(it.place for it in every)]
     os.makedirs(os.path.dirname(f"{top}/{LIST}"), exist_ok=True)
@@ -172,8 +181,8 @@ def put(file, item):
     if item.source:
         shutil.copyfile(item.source, file)
     else:
-        with open(file, "w", encoding="utf-8") as it:
-            it.write(item.text)
+        with open(file, "wb") as it:
+            it.write(item.contents if item.text is None else item.text.encode())
     os.chmod(file, item.mode)
 
 

@@ -1,3 +1,0 @@
-mod FirstSlot
-mod Lengths
-mod Numbers

@@ -1,5 +1,0 @@
-use Rattle.std.proofs.Common.{length}
-use Rattle.bench_exports.proofs.choosing.+taken_mask.Given as goal
-
-abbrev pub decreases-taken_mask : goal.decreases-taken_mask
-decreases-taken_mask l = length l.images.now

@@ -1,0 +1,163 @@
+"""The packages for Debian: `bootswap`, `libbootswap-dev` and `python3-bootswap`."""
+
+import gzip
+import hashlib
+import os
+import re
+import subprocess
+import time
+from typing import NamedTuple
+
+from installing import Item, library_items, program_items, put, python_items, shared_items, version
+from sealed_archives import paths_below
+
+PREFIX = "usr"
+LIBRARIES = "lib/x86_64-linux-gnu"
+MAINTAINER = "Burinwhite maintainers <maintainers@users.noreply.burinwhite.example>"
+
+CONTROL = """Package: {name}
+Version: {version}
+Architecture: amd64
+Maintainer: {maintainer}
+Installed-Size: {kib}
+Depends: {depends}
+Section: {section}
+Priority: optional
+Description: {about}
+"""
+
+COPYRIGHT = """Format: https://www.debian.org/doc/packaging-manuals/copyright-format/1.0/
+Upstream-Name: bootswap
+Upstream-Contact: {maintainer}
+
+Files: *
+Copyright: {year} The authors of bootswap
+License: Apache-2.0
+
+License: Apache-2.0
+ On Debian systems, the complete text of the Apache License, Version 2.0, is
+ in /usr/share/common-licenses/Apache-2.0.
+"""
+
+CHANGES = """bootswap ({version}) unstable; urgency=medium
+
+  * Release of version {version}: see CHANGELOG.md of the sources.
+
+ -- {maintainer}  {day}
+"""
+
+ABOUT = {
+    "bootswap": """bootloader core and updater for devices with several images
+ Upgrades, tries and reverts images that depend on each other as one
+ transaction, in the manner of MCUboot. It is proved that a device which loses
+ power at any write starts again with images that fit.
+ .
+ The program makes images and manifests, runs a device whose flash is a file,
+ cuts its power at any write, and decides which requested images run together.
+ This package also has the shared library.""",
+    "libbootswap-dev": """bootloader core for C: header and static library
+ A device in memory that its caller passes, without a heap: for bootloaders,
+ simulators and tests. A driver of a flash is three functions in C.
+ .
+ The header, the static library, and the files for pkg-config and CMake.""",
+    "python3-bootswap": """bootloader core for Python
+ A device whose flash is a bytearray: for simulators, update servers and tests.
+ .
+ The module bootswap, over the shared library by ctypes.""",
+}
+
+
+class Package(NamedTuple):
+    """A package: its name, its section, what it depends on, and its files below the prefix."""
+
+    name: str
+    section: str
+    depends: list
+    files: list
+
+
+def debian_packages(folder, made, seconds, built):
+    """Makes the packages in a folder from the program, the static and the shared library, and returns their names."""
+    return [debian_package(it, folder, f"{made}/{it.name}", seconds) for it in packages(*built)]
+
+
+def packages(program, archive, shared):
+    """Returns the packages and what is in them."""
+    same = f"bootswap (= {version()})"
+    left_out = ("share/doc/bootswap/LICENSE", "share/doc/bootswap/CHANGELOG.md")
+    of_program = [it for it in program_items(program) if it.place not in left_out]
+    of_program += shared_items(LIBRARIES, shared)
+    of_library, of_python = library_items(f"/{PREFIX}", LIBRARIES, archive), python_items("lib/python3/dist-packages")
+    return [
+        Package("bootswap", "devel", [libc_of(program, shared)], of_program),
+        Package("libbootswap-dev", "libdevel", [same], moved(of_library, "libbootswap-dev")),
+        Package("python3-bootswap", "python", [same, "python3:any (>= 3.9)"], of_python),
+    ]
+
+
+def moved(files, name):
+    """Returns the files of a package, with the examples where those of this package are."""
+    return [it._replace(place=it.place.replace("share/doc/bootswap/", f"share/doc/{name}/")) for it in files]
+
+
+def libc_of(*files):
+    """Returns the C library that programs and libraries need, in the version of the latest symbol that they name."""
+    said = subprocess.run(["objdump", "-T", *files], capture_output=True, text=True, check=True).stdout
+    latest = max((tuple(map(int, it.split("."))) for it in re.findall(r"GLIBC_([\d.]+)", said)), default=(2, 17))
+    return f"libc6 (>= {'.'.join(map(str, latest))})"
+
+
+def debian_package(package, folder, top, seconds):
+    """Makes one package, and returns the name of its file."""
+    for item in [*package.files, *documents_of(package, seconds)]:
+        file = f"{top}/{PREFIX}/{item.place}"
+        os.makedirs(os.path.dirname(file), exist_ok=True)
+        put(file, item)
+    seal(top, package)
+    for path in [top, *paths_below(top)]:
+        os.utime(path, (seconds, seconds), follow_symlinks=False)
+    name = f"{package.name}_{version()}_amd64.deb"
+    words = ["dpkg-deb", "--root-owner-group", "-Zxz", "--build", top, f"{folder}/{name}"]
+    environment = {**os.environ, "SOURCE_DATE_EPOCH": str(seconds)}
+    subprocess.run(words, env=environment, stdin=subprocess.DEVNULL, stdout=subprocess.DEVNULL, check=True)
+    return name
+
+
+def documents_of(package, seconds):
+    """Returns the documents that Debian asks of a package: its licence and its changes."""
+    day = time.strftime("%a, %d %b %Y %H:%M:%S +0000", time.gmtime(seconds))
+    year = time.gmtime(seconds).tm_year
+    changes = CHANGES.format(version=version(), maintainer=MAINTAINER, day=day)
+    return [
+        Item(f"share/doc/{package.name}/copyright", text=COPYRIGHT.format(maintainer=MAINTAINER, year=year)),
+        Item(f"share/doc/{package.name}/changelog.gz", contents=gzip.compress(changes.encode(), 9, mtime=0)),
+    ]
+
+
+def seal(top, package):
+    """Writes what describes a package: its fields, the digests of its files, and what is to be done after a change of
+    libraries."""
+    os.makedirs(f"{top}/DEBIAN")
+    files = [it for it in paths_below(f"{top}/{PREFIX}") if os.path.isfile(it) and not os.path.islink(it)]
+    sums = [f"{digest_of(it)}  {os.path.relpath(it, top)}\n" for it in files]
+    fields = {"name": package.name, "version": version(), "maintainer": MAINTAINER, "section": package.section}
+    fields.update(kib=-(-sum(map(os.path.getsize, files)) // 1024), depends=", ".join(package.depends))
+    fields.update(about=ABOUT[package.name])
+    write(f"{top}/DEBIAN/control", CONTROL.format(**fields))
+    write(f"{top}/DEBIAN/md5sums", "".join(sums))
+    if any(f"{LIBRARIES}/libbootswap.so." in it.place for it in package.files):
+        write(f"{top}/DEBIAN/triggers", "activate-noawait ldconfig\n")
+    for at, _, _ in os.walk(top):
+        os.chmod(at, 0o755)
+
+
+def digest_of(file):
+    """Returns the MD5 digest of a file, which Debian's packages list."""
+    with open(file, "rb") as it:
+        return hashlib.md5(it.read(), usedforsecurity=False).hexdigest()
+
+
+def write(file, text):
+    with open(file, "w", encoding="utf-8") as it:
+        it.write(text)
+    os.chmod(file, 0o644)
