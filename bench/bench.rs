@@ -9,6 +9,7 @@ mod proved;
 mod timing;
 
 use inputs::Random;
+use proved::Slot;
 use std::hint::black_box;
 use std::path::{Path, PathBuf};
 use std::process::{Command, ExitCode, Stdio};
@@ -19,9 +20,6 @@ const MOST_OVER_DIGEST: f64 = 1.05;
 
 /// The largest ratio of the time to describe a slot with that image to the time of the digest.
 const MOST_OVER_DIGEST_IN_SLOT: f64 = 1.1;
-
-/// The number of timed descriptions of a slot, in addition to the one after making the flash.
-const SLOT_CALLS: u32 = 8;
 
 const MEGABYTE: usize = 1 << 20;
 
@@ -46,7 +44,6 @@ fn main() -> ExitCode {
     time_image("64 KiB", 1 << 16);
     time_image("no body", 0);
     let over_digest_in_slot = time_slot();
-    let reads_once = counts_reads();
     time_choice();
     time_sha256sum(&folder);
     let limits = [
@@ -56,7 +53,6 @@ fn main() -> ExitCode {
             over_digest_in_slot,
             MOST_OVER_DIGEST_IN_SLOT,
         ),
-        reads_once,
     ];
     if limits.iter().all(|kept| *kept) {
         ExitCode::SUCCESS
@@ -77,46 +73,13 @@ fn is_below(name: &str, over_digest: f64, limit: f64) -> bool {
 /// of its digest.
 fn time_slot() -> f64 {
     let image = inputs::image(MEGABYTE);
-    let (bytes, hashed) = (&image.bytes[..], &image.bytes[..image.hashed]);
-    let digests = || (0..SLOT_CALLS).fold(0, |sum, _| sum ^ proved::digest(black_box(hashed)));
-    let ratio = timing::ratio_of_shortest(
-        &|| proved::describe_slot(black_box(bytes), SLOT_CALLS),
-        &|| proved::describe_slot(black_box(bytes), 0),
-        &digests,
-    );
+    let (slot, hashed) = (Slot::with(&image.bytes), &image.bytes[..image.hashed]);
+    let rounds = Rounds::of([&|| black_box(&slot).describe(), &|| {
+        proved::digest(black_box(hashed))
+    }]);
+    let ratio = rounds.ratio(0, 1);
     print_ratio("1 MiB: describe_slot / digest", ratio);
     ratio
-}
-
-/// Prints the number of bytes that are read to describe slots with the largest numbers of
-/// dependencies and groups. Returns whether no byte is read that isn't needed.
-fn counts_reads() -> bool {
-    let full = inputs::full_image();
-    let read = proved::slot_reads(&full.bytes);
-    println!("{:<36} {read:6}", "16 dependencies: bytes read");
-    let grouped = inputs::full_image_with_groups();
-    let read = proved::slot_reads(&grouped.bytes);
-    println!("{:<36} {read:6}", "and 4 groups of 4: bytes read");
-    let images = [
-        full,
-        grouped,
-        inputs::image(0),
-        inputs::image(1),
-        inputs::image(MEGABYTE),
-    ];
-    images.iter().all(|image| {
-        let (read, needed) = (
-            proved::slot_reads(&image.bytes),
-            plain_image::needed_reads(&image.bytes),
-        );
-        if read != needed {
-            eprintln!(
-                "{read} bytes are read of an image of {}, and not {needed}",
-                image.bytes.len()
-            );
-        }
-        read == needed
-    })
 }
 
 /// Checks that both sides return the same for intact and for damaged images.
@@ -124,13 +87,11 @@ fn expect_same_answers() {
     for body_size in [0, 1, 1 << 16, MEGABYTE] {
         let image = inputs::image(body_size);
         let length = image.bytes.len() as u64;
-        for again in [0, 1] {
-            assert_eq!(
-                proved::describe_slot(&image.bytes, again),
-                length,
-                "body of {body_size} bytes"
-            );
-        }
+        assert_eq!(
+            Slot::with(&image.bytes).describe(),
+            length,
+            "body of {body_size} bytes"
+        );
         assert_eq!(
             proved::describe(&image.bytes),
             length,
@@ -229,7 +190,7 @@ fn time_choice() {
     let (table, report) = (inputs::full_table(), inputs::full_report());
     let (table, report) = (table.as_bytes(), report.as_bytes());
     let rounds = Rounds::of([
-        &|| proved::choose(black_box(table)),
+        &|| reported(black_box(table)),
         &|| plain_choice::answer(black_box(table)),
         &|| u64::from(proved::check(black_box(table), black_box(report))),
     ]);
@@ -237,13 +198,21 @@ fn time_choice() {
     print_ratio("full table: check / choose", rounds.ratio(2, 0));
     let table = inputs::full_table_with_groups();
     let table = table.as_bytes();
-    let rounds = Rounds::of([&|| proved::choose(black_box(table)), &|| {
+    let rounds = Rounds::of([&|| reported(black_box(table)), &|| {
         plain_choice::answer(black_box(table))
     }]);
     print_ratio(
         "full table with groups: choose / plain choose",
         rounds.ratio(0, 1),
     );
+}
+
+/// The length of the report on a table, which is written to a buffer.
+fn reported(table: &[u8]) -> u64 {
+    let mut report = [0; proved::REPORT];
+    let length = proved::report(table, &mut report);
+    black_box(&report);
+    length.map_or_else(|fault| fault, |length| length as u64)
 }
 
 /// Prints the ratio of the proved digest to the machine's `sha256sum`, if there is this command.

@@ -36,16 +36,6 @@ pub fn image(body_size: usize) -> Image {
     image_of(body_size, 1, 2, 0, 1)
 }
 
-/// An intact image without a body, with a security counter and the largest number of dependencies.
-pub fn full_image() -> Image {
-    image_of(0, 1, 16, 0, 1)
-}
-
-/// The same with the largest number of groups, each with the largest number of alternatives.
-pub fn full_image_with_groups() -> Image {
-    image_of(0, 1, 16, 4, 1)
-}
-
 /// An image with these numbers of body bytes and of entries of each type that is read.
 fn image_of(
     body_size: usize,

@@ -99,36 +99,6 @@ pub fn describe(bytes: &[u8]) -> Result<Description, Fault> {
     })
 }
 
-/// The number of bytes that have to be read from a flash to describe this intact image: the hashed
-/// bytes once, and once more the header, the head of each area and entry, and the needed values.
-pub fn needed_reads(bytes: &[u8]) -> u64 {
-    let protected_at = usize::from(read_u16(bytes, 8)) + read_u32(bytes, 12) as usize;
-    let protected_size = usize::from(read_u16(bytes, 10));
-    let hashed_end = protected_at + protected_size;
-    let protected = match protected_size {
-        0 => 0,
-        size => area_reads(
-            &bytes[protected_at..][..size],
-            &[DEPENDENCY_KIND, GROUP_KIND, COUNTER_KIND],
-        ),
-    };
-    let unprotected = area_reads(&bytes[hashed_end..], &[DIGEST_KIND]);
-    (hashed_end + 32 + protected + unprotected) as u64
-}
-
-/// The number of bytes in the heads of an area and of its entries, and in the values of these
-/// types.
-fn area_reads(area: &[u8], needed: &[u16]) -> usize {
-    let entries = entries(&area[4..]).expect("entries fill the area");
-    let reads = entries
-        .iter()
-        .map(|(kind, value)| match needed.contains(kind) {
-            true => 4 + value.len(),
-            false => 4,
-        });
-    4 + reads.sum::<usize>()
-}
-
 /// Returns the types and values of the entries of an area.
 fn area(
     bytes: &[u8],

@@ -35,18 +35,6 @@ impl<const N: usize> Rounds<N> {
     }
 }
 
-/// The ratio of the difference of two sides' times to the time of a third side, by the shortest
-/// time of each.
-pub fn ratio_of_shortest(more: Side, less: Side, other: Side) -> f64 {
-    let mut shortest = [f64::INFINITY; 3];
-    for _ in 0..ROUNDS {
-        for (time, side) in shortest.iter_mut().zip([more, less, other]) {
-            *time = time.min(seconds(side, 1));
-        }
-    }
-    (shortest[0] - shortest[1]) / shortest[2]
-}
-
 /// The time in seconds of this number of calls of a side.
 pub fn seconds(side: Side, calls: u32) -> f64 {
     let start = Instant::now();

@@ -33,7 +33,6 @@ COSTS = {
     "bootswap": "the program: from nothing it takes 45 to 80 minutes of one processor, 1.8 GB of disk",
     "bootswap_core": "the core of the program: from nothing it takes 25 to 45 minutes of one processor, 1.1 GB of disk",
     "c_interface": "the library: from nothing it takes 25 to 45 minutes of one processor, 1 GB of disk",
-    "bench_exports": "the library of the bench: from nothing it takes 10 to 20 minutes of one processor, 0.5 GB of disk",
 }
 
 # The most memory that the check of a crate has taken, in bytes.
@@ -312,17 +311,17 @@ def locked():
         os.close(held)
 
 
-def library_crates(target=TARGET, name=LIBRARY):
+def library_crates(target=TARGET):
     """Returns the crates of a static library for a target, lowest first."""
-    crates = crates_of(name)
+    crates = crates_of(LIBRARY)
     if target != TARGET:
         crates[-1].aim(target)
     return crates
 
 
-def static_library(target=TARGET, name=LIBRARY):
+def static_library(target=TARGET):
     """Proves and builds a static library for a target, if that isn't done yet, and returns its file."""
-    crates, toolchain = library_crates(target, name), asked_of_rt("version")
+    crates, toolchain = library_crates(target), asked_of_rt("version")
     if not crates[-1].is_built(toolchain):
         build(crates, toolchain)
     return crates[-1].made
