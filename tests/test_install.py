@@ -8,15 +8,13 @@ import subprocess
 import sys
 import unittest
 
+from support.built_clone import BuiltCloneTest, places_below
 from support.compiled import needs_compiler
 from support.files import ROOT, read
-from support.libraries import TARGET, archive_for, ran
-from support.program import ProgramTest, short
+from support.libraries import ran
+from support.program import short
 
-from installing import LIST, major, share, version
-
-# What `tools/install` needs of a clone beside out/.
-NEEDED = ("bindings", "examples", "include", "tools")
+from installing import LIST, major, version
 
 # The places of an installation, but for the examples and Python's folder.
 PLACES = {
@@ -41,44 +39,17 @@ target_link_libraries(life_alone bootswap::static)
 
 
 @needs_compiler
-class InstallTest(ProgramTest):
+class InstallTest(BuiltCloneTest):
     """An installation of the built program and library, from a clone with these in out/."""
-
-    @classmethod
-    def setUpClass(cls):
-        cls.archive = archive_for(TARGET)
 
     def setUp(self):
         super().setUp()
-        self.clone, self.prefix = f"{self.folder}/clone", f"{self.folder}/prefix"
-        for name in NEEDED:
-            shutil.copytree(f"{ROOT}/{name}", f"{self.clone}/{name}", ignore=shutil.ignore_patterns("__pycache__"))
-        for name in ("LICENSE", "CHANGELOG.md"):
-            shutil.copy(f"{ROOT}/{name}", self.clone)
-        os.mkdir(f"{self.clone}/out")
-        shutil.copy(self.program, f"{self.clone}/out/bootswap")
-        shutil.copy(self.archive, f"{self.clone}/out/libbootswap.a")
-        self.assertTrue(share(self.archive, f"{self.clone}/out/libbootswap.so"))
-
-    def run_tool(self, name, *words):
-        """Runs a tool of the clone, and returns its status and what it says."""
-        done = subprocess.run([f"{self.clone}/tools/{name}", *words], capture_output=True)
-        return done.returncode, done.stdout + done.stderr
-
-    def expect_tool(self, case, name, *words, status=0, said=b""):
-        """A case: a tool ends so, and says exactly this."""
-        got = self.run_tool(name, *words)
-        self.case(case, [f"{got[0]}: {short(got[1])}"] * (got != (status, said)))
+        self.prefix = f"{self.folder}/prefix"
 
     def install(self):
         """Installs below the prefix of this test."""
         self.expect_tool("it is installed", "install", "--prefix", self.prefix)
         return {**os.environ, "LD_LIBRARY_PATH": f"{self.prefix}/lib"}
-
-    def printed_by(self, case, words, wanted, **how):
-        """A case: a command prints exactly this."""
-        faults, output = ran(words, **how)
-        self.case(case, faults or [short(output)] * (output != wanted))
 
     def test_files(self):
         """Each file is in its place below the folder that stands for the root, and only there."""
@@ -187,8 +158,3 @@ class InstallTest(ProgramTest):
         """Whether a program needs the shared library by the name with its major version."""
         _, output = ran(["readelf", "-d", program])
         return f"[libbootswap.so.{major()}]".encode() in output
-
-
-def places_below(top):
-    """Returns the files and links below a folder, as paths from there."""
-    return {os.path.relpath(f"{at}/{name}", top) for at, _, names in os.walk(top) for name in names}

@@ -8,7 +8,7 @@ import subprocess
 import time
 from typing import NamedTuple
 
-from installing import Item, library_items, program_items, put, python_items, shared_items, version
+from installing import Item, library_items, major, program_items, put, python_items, shared_items, version
 from sealed_archives import paths_below
 
 PREFIX = "usr"
@@ -44,6 +44,11 @@ CHANGES = """bootswap ({version}) unstable; urgency=medium
   * Release of version {version}: see CHANGELOG.md of the sources.
 
  -- {maintainer}  {day}
+"""
+
+# The program and the shared library are one package, since both are made of the same crates.
+OVERRIDES = """# The program and its library are one package.
+bootswap: package-name-doesnt-match-sonames
 """
 
 ABOUT = {
@@ -128,7 +133,9 @@ def documents_of(package, seconds):
     day = time.strftime("%a, %d %b %Y %H:%M:%S +0000", time.gmtime(seconds))
     year = time.gmtime(seconds).tm_year
     changes = CHANGES.format(version=version(), maintainer=MAINTAINER, day=day)
+    overrides = [Item("share/lintian/overrides/bootswap", text=OVERRIDES)] if package.name == "bootswap" else []
     return [
+        *overrides,
         Item(f"share/doc/{package.name}/copyright", text=COPYRIGHT.format(maintainer=MAINTAINER, year=year)),
         Item(f"share/doc/{package.name}/changelog.gz", contents=gzip.compress(changes.encode(), 9, mtime=0)),
     ]
@@ -145,8 +152,9 @@ def seal(top, package):
     fields.update(about=ABOUT[package.name])
     write(f"{top}/DEBIAN/control", CONTROL.format(**fields))
     write(f"{top}/DEBIAN/md5sums", "".join(sums))
-    if any(f"{LIBRARIES}/libbootswap.so." in it.place for it in package.files):
+    if any(it.place.startswith(f"{LIBRARIES}/libbootswap.so.") for it in package.files):
         write(f"{top}/DEBIAN/triggers", "activate-noawait ldconfig\n")
+        write(f"{top}/DEBIAN/shlibs", f"libbootswap {major()} {package.name} (= {version()})\n")
     for at, _, _ in os.walk(top):
         os.chmod(at, 0o755)
 

@@ -84,7 +84,7 @@ def major():
 
 def share(archive, shared):
     """Makes a shared library with everything in a static one, and returns whether it succeeded."""
-    words = ["cc", "-shared", f"-Wl,-soname,libbootswap.so.{major()}", "-o", shared]
+    words = ["cc", "-shared", "-s", f"-Wl,-soname,libbootswap.so.{major()}", "-o", shared]
     return subprocess.run([*words, "-Wl,--whole-archive", archive, "-Wl,--no-whole-archive"]).returncode == 0
 
 

@@ -1,0 +1,54 @@
+"""A clone of the repository in which the program and the library are built, for tests of what is installed and packed."""
+
+import os
+import shutil
+import subprocess
+
+from support.files import ROOT
+from support.libraries import TARGET, archive_for, ran
+from support.program import ProgramTest, short
+
+from installing import share
+
+# What the tools need of a clone beside out/.
+NEEDED = ("bindings", "examples", "include", "tools")
+
+
+class BuiltCloneTest(ProgramTest):
+    """A test of the tools in a clone that has the built program and the libraries in out/."""
+
+    @classmethod
+    def setUpClass(cls):
+        cls.archive = archive_for(TARGET)
+
+    def setUp(self):
+        super().setUp()
+        self.clone = f"{self.folder}/clone"
+        for name in NEEDED:
+            shutil.copytree(f"{ROOT}/{name}", f"{self.clone}/{name}", ignore=shutil.ignore_patterns("__pycache__"))
+        for name in ("LICENSE", "CHANGELOG.md"):
+            shutil.copy(f"{ROOT}/{name}", self.clone)
+        os.mkdir(f"{self.clone}/out")
+        shutil.copy(self.program, f"{self.clone}/out/bootswap")
+        shutil.copy(self.archive, f"{self.clone}/out/libbootswap.a")
+        self.assertTrue(share(self.archive, f"{self.clone}/out/libbootswap.so"))
+
+    def run_tool(self, name, *words, **how):
+        """Runs a tool of the clone, and returns its status and what it says."""
+        done = subprocess.run([f"{self.clone}/tools/{name}", *words], capture_output=True, **how)
+        return done.returncode, done.stdout + done.stderr
+
+    def expect_tool(self, case, name, *words, status=0, said=b"", **how):
+        """A case: a tool ends so, and says exactly this."""
+        got = self.run_tool(name, *words, **how)
+        self.case(case, [f"{got[0]}: {short(got[1])}"] * (got != (status, said)))
+
+    def printed_by(self, case, words, wanted, **how):
+        """A case: a command prints exactly this."""
+        faults, output = ran(words, **how)
+        self.case(case, faults or [short(output)] * (output != wanted))
+
+
+def places_below(top):
+    """Returns the files and links below a folder, as paths from there."""
+    return {os.path.relpath(f"{at}/{name}", top) for at, _, names in os.walk(top) for name in names}

@@ -1,0 +1,159 @@
+"""The packages that `tools/package` makes, and that a system without the toolchain can use them."""
+
+import os
+import shutil
+import subprocess
+import unittest
+
+from support.built_clone import BuiltCloneTest
+from support.compiled import needs_compiler
+from support.files import ROOT, read
+from support.libraries import ARM_TARGET, archive_for, ran
+from support.program import short
+
+from installing import major, version
+
+# The time of the files of packages, which isn't that of this test.
+SECONDS = "1700000000"
+
+DEBIAN = tuple(f"{it}_{version()}_amd64.deb" for it in ("bootswap", "libbootswap-dev", "python3-bootswap"))
+ARCHIVES = (f"bootswap-{version()}-x86_64-linux.tar.xz", f"libbootswap-{version()}-aarch64-linux.tar.xz")
+
+# Some files of each package, the others being examples and documents.
+FILES = {
+    "bootswap": {"bin/bootswap", f"lib/x86_64-linux-gnu/libbootswap.so.{major()}"},
+    "libbootswap-dev": {
+        *("include/bootswap.h", "include/bootswap_names.h", "lib/x86_64-linux-gnu/libbootswap.a"),
+        *("lib/x86_64-linux-gnu/libbootswap.so", "lib/x86_64-linux-gnu/pkgconfig/bootswap.pc"),
+        "lib/x86_64-linux-gnu/cmake/bootswap/bootswap-config.cmake",
+    },
+    "python3-bootswap": {"lib/python3/dist-packages/bootswap.py"},
+}
+
+# What a user does with the packages on a system of its own, and what it prints. The system is this one, over which a
+# layer lies that is thrown away. The folders of the toolchain aren't on the PATH.
+USES = r"""
+set -e
+dpkg --install --force-bad-path "$@" > /dev/null
+cd /tmp
+bootswap --version
+examples=/usr/share/doc/bootswap/examples
+bootswap provision $examples/devices/pair.json pair.flash $examples/images/one.img $examples/images/one.img
+cc /usr/share/doc/libbootswap-dev/examples/c/life.c $(pkg-config --cflags --libs bootswap) -o life
+./life $examples/images/one.img $examples/images/patched.img 5
+/usr/bin/python3 -c 'import bootswap; print(bootswap.digest(b"").hex()[:8])'
+dpkg --purge python3-bootswap libbootswap-dev bootswap > /dev/null
+find /usr -name '*bootswap*' -newer pair.flash
+find /usr -name '*bootswap*'
+"""
+
+PRINTED = f"""bootswap {version()}
+done
+power failed in write 5
+permanent
+take 0 1.1.0+0
+e3b0c442
+"""
+
+LAYER = """set -e
+mount -t tmpfs tmpfs "$1"
+mkdir "$1/upper" "$1/work" "$1/root"
+mount -t overlay overlay -o lowerdir=/,upperdir="$1/upper",workdir="$1/work" "$1/root"
+shift_to=$1; shift
+mkdir "$shift_to/root/packages" && cp "$@" "$shift_to/root/packages"
+cd "$shift_to/root/packages" && set -- *.deb && set -- "${@/#//packages/}"
+exec chroot "$shift_to/root" /bin/bash -c "$USES" uses "$@"
+"""
+
+
+@needs_compiler
+@unittest.skipUnless(shutil.which("dpkg-deb"), "there is no dpkg-deb")
+class PackageTest(BuiltCloneTest):
+    """Packages of a clone with the built program and libraries."""
+
+    @classmethod
+    def setUpClass(cls):
+        super().setUpClass()
+        cls.arm = archive_for(ARM_TARGET)
+
+    def setUp(self):
+        super().setUp()
+        os.mkdir(f"{self.clone}/out/{ARM_TARGET}")
+        shutil.copy(self.arm, f"{self.clone}/out/{ARM_TARGET}/libbootswap.a")
+        self.made = f"{self.clone}/out/packages"
+        self.environment = {**os.environ, "SOURCE_DATE_EPOCH": SECONDS}
+
+    def package(self):
+        """Makes the packages."""
+        said = "".join(f"out/packages/{it}\n" for it in (*DEBIAN, *ARCHIVES, "SHA256SUMS")).encode()
+        self.expect_tool("the packages are made", "package", said=said, env=self.environment)
+
+    def test_same_bytes(self):
+        """Packages have the same bytes, whenever they are made and whoever made the files."""
+        self.package()
+        first = {it: read(f"{self.made}/{it}") for it in os.listdir(self.made)}
+        for at, _, names in os.walk(f"{self.clone}/examples"):
+            for name in names:
+                os.utime(f"{at}/{name}", (1, 1))
+                os.chmod(f"{at}/{name}", 0o600)
+        shutil.rmtree(self.made)
+        self.package()
+        for name, contents in sorted(first.items()):
+            self.case(name, [] if read(f"{self.made}/{name}") == contents else ["the bytes differ"])
+
+    def test_contents(self):
+        """Each package has its files, whose owner is root, and no file is in two packages."""
+        self.package()
+        faults, _ = ran(["sha256sum", "--check", "--strict", "SHA256SUMS"], cwd=self.made)
+        self.case("the checksums", faults)
+        seen = {}
+        for name, wanted in FILES.items():
+            _, output = ran(["dpkg-deb", "--contents", f"{self.made}/{name}_{version()}_amd64.deb"])
+            rows = [it.split() for it in output.decode().splitlines()]
+            files = {it[5].removeprefix("./usr/") for it in rows if it[0][0] in "-l"}
+            self.case(f"{name} has its files", sorted(wanted - files))
+            self.case(f"{name} is root's", [" ".join(it) for it in rows if it[1] != "root/root"])
+            self.case(f"{name} shares no file", sorted(it for it in files if seen.setdefault(it, name) != name))
+
+    def test_archives(self):
+        """An archive is unpacked to one folder, in which the program runs, or the library of a board is."""
+        self.package()
+        for name in ARCHIVES:
+            faults, _ = ran(["tar", "--extract", "--file", f"{self.made}/{name}"], cwd=self.folder)
+            self.case(f"{name} is unpacked", faults)
+        here, arm = (f"{self.folder}/{it.removesuffix('.tar.xz')}" for it in ARCHIVES)
+        self.printed_by("the program runs", [f"{here}/bin/bootswap", "--version"], f"bootswap {version()}\n".encode())
+        self.case("the library for ARM", [] if read(f"{arm}/lib/libbootswap.a") == read(self.arm) else ["it differs"])
+        self.case("its header", [] if os.path.exists(f"{arm}/include/bootswap.h") else ["there is none"])
+
+    @unittest.skipUnless(shutil.which("lintian"), "there is no lintian")
+    def test_lintian(self):
+        """Debian's checker of packages has nothing to say."""
+        self.package()
+        for name in DEBIAN:
+            done = subprocess.run(["lintian", "--allow-root", f"{self.made}/{name}"], capture_output=True, text=True)
+            self.case(name, [it for it in done.stdout.splitlines() if it[:2] in ("E:", "W:")])
+
+    @unittest.skipUnless(os.getuid() == 0 and shutil.which("unshare"), "only root can lay a layer over the system")
+    def test_used(self):
+        """The three packages are enough for the program, a C program and a Python program. Removed, nothing is left."""
+        self.package()
+        layer = f"{self.folder}/layer"
+        os.mkdir(layer)
+        environment = {"PATH": "/usr/sbin:/usr/bin:/sbin:/bin", "USES": USES, "LC_ALL": "C"}
+        words = ["unshare", "--mount", "bash", "-c", LAYER, "layer", layer, *(f"{self.made}/{it}" for it in DEBIAN)]
+        done = subprocess.run(words, env=environment, stdin=subprocess.DEVNULL, capture_output=True, text=True)
+        if "mount" in done.stderr and not done.stdout:
+            self.skipTest(f"no layer can be laid over the system here: {short(done.stderr.encode())}")
+        self.case("what they print", [short(done.stdout.encode()), short(done.stderr.encode())] * (done.stdout != PRINTED))
+
+    def test_refusals(self):
+        """What isn't built, and arguments, are refused."""
+        os.remove(f"{self.clone}/out/{ARM_TARGET}/libbootswap.a")
+        said = f"package: out/{ARM_TARGET}/libbootswap.a isn't built: run bindings/build --target {ARM_TARGET}\n".encode()
+        self.expect_tool("without the library for ARM", "package", status=1, said=said, env=self.environment)
+        status, _ = self.run_tool("package", "all")
+        self.case("with an argument", [f"status {status}"] * (status != 2))
+        del self.environment["SOURCE_DATE_EPOCH"]
+        said = b"package: there is no commit to take the time from: set SOURCE_DATE_EPOCH\n"
+        self.expect_tool("without a commit", "package", status=1, said=said, env=self.environment)
