@@ -13,7 +13,8 @@ from support.program import short
 
 from installing import major, version
 
-# The time of the files of packages, which isn't that of this test.
+# What packages name as the commit of their sources, and the time of their files.
+COMMIT = "0123456789abcdef0123456789abcdef01234567"
 SECONDS = "1700000000"
 
 DEBIAN = tuple(f"{it}_{version()}_amd64.deb" for it in ("bootswap", "libbootswap-dev", "python3-bootswap"))
@@ -81,7 +82,7 @@ class PackageTest(BuiltCloneTest):
         os.mkdir(f"{self.clone}/out/{ARM_TARGET}")
         shutil.copy(self.arm, f"{self.clone}/out/{ARM_TARGET}/libbootswap.a")
         self.made = f"{self.clone}/out/packages"
-        self.environment = {**os.environ, "SOURCE_DATE_EPOCH": SECONDS}
+        self.environment = {**os.environ, "SOURCE_COMMIT": COMMIT, "SOURCE_DATE_EPOCH": SECONDS}
 
     def package(self):
         """Makes the packages."""
@@ -156,4 +157,44 @@ class PackageTest(BuiltCloneTest):
         self.case("with an argument", [f"status {status}"] * (status != 2))
         del self.environment["SOURCE_DATE_EPOCH"]
         said = b"package: there is no commit to take the time from: set SOURCE_DATE_EPOCH\n"
+        self.expect_tool("without a time", "package", status=1, said=said, env=self.environment)
+        del self.environment["SOURCE_COMMIT"]
+        said = b"package: commit the changes first, or name the commit of the sources in SOURCE_COMMIT\n"
         self.expect_tool("without a commit", "package", status=1, said=said, env=self.environment)
+
+    def test_verify(self):
+        """An archive has the bytes that its commit makes anew, or it is named which of its files differ."""
+        self.package()
+        commit = self.commit_with_builders()
+        for name in ("SOURCE_COMMIT", "SOURCE_DATE_EPOCH"):
+            del self.environment[name]
+        self.package()
+        archive, kept = f"{self.made}/{ARCHIVES[0]}", f"{self.folder}/{ARCHIVES[0]}"
+        shutil.copy(archive, kept)
+        status, said = self.run_tool("verify", kept, env=self.environment)
+        wanted = f"{ARCHIVES[0]}: the same bytes as built from {commit}\n".encode()
+        self.case("it has these bytes", [f"{status}: {short(said)}"] * (status != 0 or not said.endswith(wanted)))
+        ran(["tar", "--extract", "--file", kept], cwd=self.folder)
+        top = ARCHIVES[0].removesuffix(".tar.xz")
+        with open(f"{self.folder}/{top}/bin/bootswap", "ab") as it:
+            it.write(b"!")
+        ran(["tar", "--create", "--xz", "--file", kept, top], cwd=self.folder)
+        status, said = self.run_tool("verify", kept, env=self.environment)
+        wanted = f"\nbin/bootswap\n{ARCHIVES[0]}: not the bytes that are built from {commit}\n".encode()
+        self.case("one byte more", [f"{status}: {short(said)}"] * (status != 1 or not said.endswith(wanted)))
+
+    def commit_with_builders(self):
+        """Makes a repository of the clone, whose builders take what is built already, and returns its commit."""
+        built = f"{self.folder}/built"
+        shutil.copytree(f"{self.clone}/out", built)
+        for name in ("bootswap", "bindings/build"):
+            with open(f"{self.clone}/{name}", "w", encoding="utf-8") as it:
+                it.write(f"#!/bin/sh\nmkdir -p out && cp -r {built}/. out\n")
+            os.chmod(f"{self.clone}/{name}", 0o755)
+        with open(f"{self.clone}/.gitignore", "w", encoding="utf-8") as it:
+            it.write("out/\n__pycache__/\n")
+        author = ["-c", "user.name=A", "-c", "user.email=a@example.org"]
+        for words in (["init", "--quiet"], ["add", "--all"], [*author, "commit", "--quiet", "--message", "all"]):
+            faults, _ = ran(["git", "-C", self.clone, *words])
+            self.case(f"git {words[0]}", faults)
+        return ran(["git", "-C", self.clone, "rev-parse", "HEAD"])[1].decode().strip()

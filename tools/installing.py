@@ -16,6 +16,9 @@ from builder import OUT, ROOT, text_of
 # The list of what was installed, one place a line. A folder that the installation made ends with a slash.
 LIST = "share/bootswap/installed"
 
+# The name of the file with the commit of what is packed, beside the documents.
+COMMIT = "commit"
+
 # Where the examples are, those of bindings/c among them.
 EXAMPLES = "share/doc/bootswap/examples"
 
