@@ -1,5 +1,5 @@
 -- How a call of uploads ends, from how the calls in it end.
-use Rattle.std.proofs.Common.{◌≡◌, ◌+◌, ◌↔◌, ℕ, arith, Bool, IsTrue, false, refl, Result, Ok, Err, sym, ◌∙◌, ap}
+use Rattle.std.proofs.Common.{◌≡◌, ◌+◌, ◌↔◌, ℕ, arith, Bool, IsTrue, true, false, refl, Result, Ok, Err, sym, ◌∙◌, ap}
 use Rattle.std.specs.Prelude.{IsErrAnd, IsErrOf}
 use Rattle.std.proofs.Common.{true≢false}
 use Rattle.flash_model.specs.Chip.{Chip, Ends, IsUncut}
@@ -114,3 +114,14 @@ not_too_much error e = cc
 
 pub too_much_none : {T : Type 0} → IsErrOf {T = T} (Err no.TooMuch) no.NoSession → ⊥
 too_much_none e = cc
+
+pub no_session_none : {T : Type 0} → IsErrOf {T = T} (Err no.NoSession) no.TooMuch → ⊥
+no_session_none e = cc
+
+-- A call that added nothing didn't return true.
+pub not_added : (result : Result Bool FlashError) (added : Bool) → result ≡ Ok added → added ≡ false
+    → result ≡ Ok true → ⊥
+not_added result added was is e = cc
+
+pub stopped_not : (result : Result Bool FlashError) (error : FlashError) → result ≡ Err error → result ≡ Ok true → ⊥
+stopped_not result error was e = cc

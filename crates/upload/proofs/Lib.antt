@@ -17,3 +17,4 @@ pub mod RefusedFinish
 pub mod FinishRow
 pub mod Worn
 pub mod StandingLaws
+pub mod Ready

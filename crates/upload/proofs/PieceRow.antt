@@ -1,18 +1,24 @@
 -- Adding a piece is a step of the machine.
-use Rattle.std.proofs.Common.{◌≡◌, ℕ, ◌+◌, ◌<◌, ◌≤◌, ◌==◌, true, List, length, Option, Some, None, Ok, Err, refl, sym, ◌∙◌, ap, subst, arith, length-append, if◌then◌else◌}
+use Rattle.std.proofs.Common.{◌≡◌, ◌⊎◌, ◌↔◌, ℕ, ◌+◌, ◌<◌, ◌≤◌, ◌==◌, Bool, true, false, IsTrue, List, length, Option, Some, None, Ok, Err, refl, sym, ◌∙◌, ap, subst, arith, length-append, inl, inr, ⊎_elim, if◌then◌else◌}
+use Rattle.std.proofs.lemmas.Bool.{cases_lt, eqb-true, false≢true}
+use Rattle.std.proofs.lemmas.List.{ext_get_or}
 use Rattle.std.proofs.lemmas.Bool.Decides.{nat_tests}
 use Rattle.std.proofs.lemmas.Option.{same_Some}
+use Rattle.flash_model.specs.Chip.{Chip}
 use Rattle.flash_model.specs.declared.error.FlashError.{FlashError}
+use Rattle.sector_map.specs.declared.layout.SectorMap.{SectorMap}
+use Rattle.sector_map.specs.Map.{Keeps}
+use Rattle.trailer.specs.Fields.{erased_fields, fields_at}
 use Rattle.sector_map.specs.declared.layout.Side.TheVariants.{Secondary}
 use Rattle.sector_map.specs.Part.{Slot, only}
-use Rattle.upload.specs.View.{View, KeepsView}
-use Rattle.upload.specs.Device.{Machine, closed}
+use Rattle.upload.specs.View.{View, KeepsView, view}
+use Rattle.upload.specs.Device.{DeviceState, Machine, closed}
 use Rattle.upload.specs.Steady.{IsSteadyAt}
-use Rattle.upload.specs.Sessions.{upload_at, IsWith, AllClosed, IsUploadAt, session_of, HasSession, IsUpAt}
+use Rattle.upload.specs.Sessions.{upload_at, IsWith, AllClosed, IsOpenAt, IsUploadAt, session_of, HasSession, IsUpAt}
 use Rattle.upload.specs.Piece.{Pieces, TakesMore, appended, with_session}
 use Rattle.upload.specs.declared.sessions.Upload.{Upload}
 use Rattle.upload.specs.declared.error.UploadError.TheVariants as no
-use Rattle.upload.proofs.Views.{view_refl}
+use Rattle.upload.proofs.Views.{view_kept, view_refl}
 use Rattle.upload.proofs.Frames.{others_slot, steady_unasked, erased_stands, sessions_to, closed_up, opened_as, with_with}
 
 -- The session of an upload in the table.
@@ -117,3 +123,50 @@ pub no_room : (a b : Upload) (n : ℕ) → Some a ≡ Some b → b.received + n 
 no_room a b n same fits long =
     let is = same_Some a b same in
     omega (arith, fits, long, ap (λ (v : Upload). v.received) is, ap (λ (v : Upload). v.size) is)
+
+-- A write to a slot whose trailer reads as erased keeps a device at rest.
+pub steady_written : (map : SectorMap) (i : ℕ) (old new : Chip) → Keeps map (only (Slot i Secondary)) old new
+    → (new ≡ old) ⊎ ((i < map.images) × (fields_at map old i Secondary ≡ erased_fields))
+    → (s : DeviceState) → IsSteadyAt (view map old) s → IsSteadyAt (view map new) s
+steady_written map i old new outside (inl same) s rest =
+    subst (λ chip. IsSteadyAt (view map chip) s) (sym same) rest
+steady_written map i old new outside (inr (lt, blank)) s rest =
+    let keeps = view_kept map (only (Slot i Secondary)) old new outside in
+    let w = view map old in
+    let v = view map new in
+    (steady_unasked i w v (others_slot i w v keeps) s lt
+    (erased_stands (w.trailer i Secondary) (w.slot i Secondary) blank)
+    (erased_stands (v.trailer i Secondary) (v.slot i Secondary) (keeps.trailers i Secondary refl ∙ blank)) rest).1
+
+-- Nothing is written unless the trailer reads as erased.
+pub unwritten : (same blank : Type 0) (there : Type 0) → same ⊎ (there × blank) → (blank → ⊥) → same
+unwritten same blank there (inl is) never = is
+unwritten same blank there (inr (lt, is)) never = absurd (never is)
+
+-- More bytes than an upload's size allows.
+pub exceeds : (size received n : ℕ) (told : Bool) → (IsTrue told ↔ received + n ≤ size) → told ≡ false
+    → size < received + n
+exceeds size received n told tells not = ⊎_elim
+    (λ (lt : size < received + n). lt)
+    (λ (fits : received + n ≤ size). absurd (false≢true (sym not ∙ tells.1 fits)))
+    (cases_lt size (received + n))
+
+-- An upload that is taken out of the table and put back leaves the table as it was.
+pub table_back : (i : ℕ) (told tmid tnew : List (Option Upload)) (u v : Upload) → Some u ≡ upload_at told i → v ≡ u
+    → IsWith i None told tmid → IsWith i (Some v) tmid tnew → length tmid ≡ length told
+    → length tnew ≡ length tmid → tnew ≡ told
+table_back i told tmid tnew u v here is out back first second =
+    let now = with_with i None (Some v) told tmid tnew out back in
+    ext_get_or None tnew told (second ∙ first) (λ k lt. at k (k == i) refl (now k)) where
+      at : (k : ℕ) (b : Bool) → (k == i) ≡ b → upload_at tnew k ≡ (if b then Some v else upload_at told k)
+          → upload_at tnew k ≡ upload_at told k
+      at k true same now = now ∙ ap (λ x. Some x) is ∙ here ∙ ap (λ j. upload_at told j) (sym (eqb-true k i same))
+      at k false same now = now
+
+-- A device whose upload matches the flash doesn't come to a result that says that it doesn't.
+pub piece_unmatched : (i : ℕ) (w v : View) (told tnew : List (Option Upload)) (u : Upload) (bytes : List ℕ)
+    → Some u ≡ upload_at told i → (IsOpenAt w i u → ⊥) → (m : Machine) → IsUpAt w told m
+    → (next : Machine) × Pieces m i bytes (Err no.NoSession) next × IsUpAt v tnew next
+piece_unmatched i w v told tnew u bytes is never m up =
+    let (written, at, here) = session_here w i u told m is up in
+    absurd (never (written, at))

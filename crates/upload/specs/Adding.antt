@@ -1,30 +1,54 @@
 -- Contracts of the calls that add bytes to an open upload: one record for each call.
-use Rattle.std.specs.Prelude.{◌≡◌, ◌≢◌, ◌+◌, ◌-◌, ◌≤◌, ◌<◌, ℕ, true, false, List, ◌++◌, length}
-use Rattle.std.specs.Prelude.{Option, Some, None, Result, Ok, Err, IfErr, IsErrOf, IsOk, OnOk}
+use Rattle.std.specs.Prelude.{◌≡◌, ◌≢◌, ◌⊎◌, ◌+◌, ◌-◌, ◌*◌, ◌≤◌, ◌<◌, ◌++◌, ℕ}
+use Rattle.std.specs.Prelude.{Bool, true, false, IsTrue, List, length}
+use Rattle.std.specs.Prelude.{Option, Some, None, Result, Ok, Err, IfErr, IfOk, IsErrOf, IsOk, OnOk}
 use Rattle.flash_model.specs.declared.error.FlashError.{FlashError}
 use Rattle.flash_model.specs.declared.error.FlashError.TheVariants.{Off}
-use Rattle.flash_model.specs.Chip.{Chip, Ends, SameOutside}
+use Rattle.flash_model.specs.Chip.{Chip, Ends, IsErased, SameOutside}
 use Rattle.sector_map.specs.declared.layout.SectorMap.{SectorMap}
 use Rattle.sector_map.specs.declared.layout.Side.TheVariants.{Secondary}
 use Rattle.sector_map.specs.Part.{Slot, only}
 use Rattle.sector_map.specs.Map.{IsLaidOut, Keeps, start_of}
+use Rattle.trailer.specs.Fields.{erased_fields, fields_at}
 use Rattle.upload.specs.declared.error.UploadError.{UploadError}
 use Rattle.upload.specs.declared.error.UploadError.TheVariants.{Flash, NoSession, TooMuch}
 use Rattle.upload.specs.declared.sessions.Upload.{Upload}
 use Rattle.upload.specs.View.{view}
-use Rattle.upload.specs.Device.{Machine}
+use Rattle.upload.specs.Device.{DeviceState, Machine}
+use Rattle.upload.specs.Standing.{HasCounts}
+use Rattle.upload.specs.Steady.{IsSteadyAt}
 use Rattle.upload.specs.Sessions.{AllClosed, AllOpenAt, IsOpenAt, IsUpAt, IsWith, upload_at}
 use Rattle.upload.specs.Ending.{EndsUpload, is_flash}
 use Rattle.upload.specs.Piece.{Pieces, TakesMore}
 
--- An upload matches the flash, and takes `n` bytes more.
+-- The counts of an upload fit, it takes `n` bytes more, and the units that they complete are erased
+-- in the slot of its image.
 pub record IsOpenFor (map : SectorMap) (image : ℕ) (upload : Upload) (n : ℕ) (chip : Chip)
     : Type 0 where
   pub laid_out : IsLaidOut map chip
-  pub stands : IsOpenAt (view map chip) image upload
+  pub written : ℕ
+  pub counts : HasCounts map image written upload
   pub fits : upload.received + n ≤ upload.size
+  pub erased : (k : ℕ) → 8 * k ≤ length upload.held.items + n
+      → IsErased chip (start_of map (Slot image Secondary) + written) (8 * k)
 
--- A call adds bytes to an upload.
+-- A call returns whether the trailer of an image's secondary slot reads as erased and an upload is
+-- open for `n` bytes more.
+pub record TellsReady (map : SectorMap) (image : ℕ) (upload : Upload) (n : ℕ) (old new : Chip)
+    (result : Result Bool FlashError) : Type 0 where
+  -- The flash doesn't change.
+  pub same : new ≡ old
+  -- If the result is true, this is so.
+  pub ready : IfOk result (λ answer. IsTrue answer
+      → (fields_at map old image Secondary ≡ erased_fields) × IsOpenFor map image upload n old)
+  -- The result is true for an upload that matches the flash.
+  pub matched : IfOk result (λ answer. IsOpenAt (view map old) image upload → IsTrue answer)
+  -- If the counts fit and the flash is off, that is the result.
+  pub off : old.is_on ≡ false → (written : ℕ) → HasCounts map image written upload
+      → IsErrOf result Off
+  pub ends : Ends result old new
+
+-- A call adds bytes to an upload that is open for them.
 pub record AddsBytes (map : SectorMap) (image : ℕ) (before after : Upload) (bytes : List ℕ)
     (old new : Chip) {T : Type 0} (result : Result T FlashError) : Type 0 where
   -- Only the image's secondary slot is written.
@@ -41,6 +65,36 @@ pub record AddsBytes (map : SectorMap) (image : ℕ) (before after : Upload) (by
   pub held : length before.held.items + length bytes < 8 → IsOk result × (new ≡ old)
   -- Other bytes are added only if the flash is on.
   pub on : OnOk result (8 ≤ length before.held.items + length bytes → old.is_on ≡ true)
+  -- It asks a journal for at most 31 bytes and the number of these bytes.
+  pub journal : new.journaled ≤ old.journaled + (31 + length bytes)
+  pub ends : Ends result old new
+
+-- A call adds bytes to an upload, or returns false: the upload doesn't match the flash.
+pub record AddsIfReady (map : SectorMap) (image : ℕ) (before after : Upload) (bytes : List ℕ)
+    (old new : Chip) (result : Result Bool FlashError) : Type 0 where
+  -- Only the image's secondary slot is written.
+  pub outside : Keeps map (only (Slot image Secondary)) old new
+  -- In the slot, only the place of these bytes and of the held ones is written.
+  pub range : SameOutside (start_of map (Slot image Secondary)
+      + (before.received - length before.held.items))
+      (length before.held.items + length bytes) old new
+  -- Even if the call fails, nothing is written unless the slot's trailer reads as erased.
+  pub front : (new ≡ old)
+      ⊎ ((image < map.images) × (fields_at map old image Secondary ≡ erased_fields))
+  -- If the result is true, the upload has these bytes.
+  pub ok : IfOk result (λ added. IsTrue added
+      → TakesMore (view map old) (view map new) image before after bytes)
+  -- If the result is false, nothing changes.
+  pub refused : IfOk result (λ added. added ≡ false → (after ≡ before) × (new ≡ old))
+  -- The result isn't false for an upload that matches the flash.
+  pub matched : IfOk result (λ added. IsOpenAt (view map old) image before → IsTrue added)
+  -- If the call succeeds, no sector is erased.
+  pub erases : OnOk result (new.erases ≡ old.erases)
+  -- Bytes that complete no unit are held in memory, whether the flash is on or off.
+  pub held : length before.held.items + length bytes < 8 → (result ≡ Ok true) × (new ≡ old)
+  -- If other bytes come, the counts fit and the flash is off, that is the result.
+  pub off : old.is_on ≡ false → (written : ℕ) → HasCounts map image written before
+      → 8 ≤ length before.held.items + length bytes → IsErrOf result Off
   -- It asks a journal for at most 31 bytes and the number of these bytes.
   pub journal : new.journaled ≤ old.journaled + (31 + length bytes)
   pub ends : Ends result old new
@@ -62,8 +116,17 @@ pub record TakesPiece (map : SectorMap) (image : ℕ) (bytes : List ℕ)
   pub takes : OnOk result ((u : Upload) → upload_at told image ≡ Some u
       → (after : Upload) × (upload_at tnew image ≡ Some after)
       × TakesMore (view map old) (view map new) image u after bytes)
+  -- On any flash, even if the call fails: nothing is written unless the slot's trailer reads as
+  -- erased.
+  pub front : ((view map old).trailer image Secondary ≡ erased_fields → ⊥) → new ≡ old
+  -- On any flash, whatever the uploads: a state at rest without a trial stays, even if the call
+  -- fails.
+  pub rests : (s : DeviceState) → IsSteadyAt (view map old) s → IsSteadyAt (view map new) s
   -- If no upload of the image is open, nothing changes.
   pub none : upload_at told image ≡ None → (result ≡ Err NoSession) × (new ≡ old)
+  -- An upload that matches the flash isn't refused so.
+  pub matched : (u : Upload) → upload_at told image ≡ Some u → IsOpenAt (view map old) image u
+      → IsErrOf result NoSession → ⊥
   -- More bytes than the upload's size allows are refused.
   pub more : (u : Upload) → upload_at told image ≡ Some u
       → u.size < u.received + length bytes → result ≡ Err TooMuch
@@ -72,13 +135,14 @@ pub record TakesPiece (map : SectorMap) (image : ℕ) (bytes : List ℕ)
   -- Bytes that complete no unit are held in memory, whether the flash is on or off.
   pub held : (u : Upload) → upload_at told image ≡ Some u → u.received + length bytes ≤ u.size
       → length u.held.items + length bytes < 8 → (result ≡ Ok tt) × (new ≡ old)
-  -- If other bytes fit and the flash is off, that is the result.
-  pub off : old.is_on ≡ false → (u : Upload) → upload_at told image ≡ Some u
+  -- If other bytes and the counts fit and the flash is off, that is the result.
+  pub off : old.is_on ≡ false → (u : Upload) (written : ℕ) → upload_at told image ≡ Some u
+      → HasCounts map image written u
       → u.received + length bytes ≤ u.size → 8 ≤ length u.held.items + length bytes
       → IsErrOf result (Flash Off)
   -- An upload that received too many bytes is closed, and no other.
   pub too_much : IsErrOf result TooMuch → IsWith image None told tnew
-  -- If no upload of the image is open, the table doesn't change.
+  -- If no upload that matches the flash is open, the table doesn't change.
   pub stays : IsErrOf result NoSession → tnew ≡ told
   -- Unless the call fails at the flash, the uploads of other images don't change.
   pub others : is_flash result ≡ false → (j : ℕ) → j ≢ image → upload_at tnew j ≡ upload_at told j

@@ -11,15 +11,14 @@ use Rattle.trailer.specs.Standing.{incoming_slot}
 use Rattle.upload.specs.Sessions.{IsWritten}
 use Rattle.upload.specs.Wear.{one_unless_erased, sector_in, worn_slot}
 
--- A secondary slot is written up to the place `at`, which is the start of a unit, and has at least
--- `n` bytes after it.
+-- In a secondary slot, `n` bytes from the place `at` on, which is the start of a unit, lie in the
+-- slot and are erased.
 pub record HasRoomBehind (map : SectorMap) (image at n : ℕ) (chip : Chip) : Type 0 where
   pub laid_out : IsLaidOut map chip
   pub there : image < map.images
   pub place : (k : ℕ) × (at ≡ 8 * k)
   pub room : at + n ≤ length_of map (Slot image Secondary)
-  pub written : (front : List ℕ) × (length front ≡ at)
-      × IsWritten (incoming_slot map chip image) front
+  pub erased : IsErased chip (start_of map (Slot image Secondary) + at) n
 
 -- A call appends bytes to the written bytes of a secondary slot. Their units take `width` bytes.
 pub record Appends (map : SectorMap) (image at : ℕ) (bytes : List ℕ) (width : ℕ) (old new : Chip)

@@ -1,13 +1,16 @@
 //! Adding bytes to an open upload: complete units are written, and the rest is held in memory.
 
 ghost use Rattle.std.specs.Prelude.{◌≡◌, ◌+◌, ◌*◌, ◌++◌, ◌<◌, ◌≤◌, ℕ, length};
-ghost use Rattle.upload.specs.Adding.{AddsBytes, HoldsBack, IsOpenFor};
+ghost use Rattle.sector_map.specs.Map.{IsLaidOut};
+ghost use Rattle.upload.specs.Adding.{AddsBytes, AddsIfReady, HoldsBack, IsOpenFor, TellsReady};
 
 use crate::sessions::{UNIT, Upload};
 use crate::slots::write_slot;
+use crate::standing::written_of;
 use arrayvec::ArrayVec;
-use flash_model::{Flash, Result};
-use sector_map::SectorMap;
+use flash_model::{Flash, Result, is_erased};
+use sector_map::{SectorMap, Side};
+use trailer::is_blank;
 
 /// Appends bytes to those of a unit. They have to fit.
 pub(crate) fn extend(held: &mut ArrayVec<u8, UNIT>, bytes: &[u8])
@@ -38,6 +41,32 @@ fn hold(upload: &mut Upload, bytes: &[u8])
     upload.received += bytes.len() as u32;
 }
 
+/// Returns whether an upload matches the flash as far as adding `count` bytes needs it: its counts
+/// fit, the trailer reads as erased, and the units that these bytes complete are erased.
+fn is_ready<F: Flash>(
+    flash: &mut F,
+    map: &SectorMap,
+    image: u8,
+    upload: &Upload,
+    count: usize,
+) -> Result<bool>
+    requires laid_out { IsLaidOut map.now (F.chip flash.old) }
+    requires fits { upload.now.received + count ≤ upload.now.size }
+    ensures { TellsReady map.now image upload.now count
+        (F.chip flash.old) (F.chip flash.new) result }
+{
+    let Some(written) = written_of(map, image, upload) else {
+        return Ok(false);
+    };
+    let is_blank = is_blank(flash, map, image, Side::Secondary)?;
+    if !is_blank {
+        return Ok(false);
+    }
+    let start = map.slot_start(image, Side::Secondary);
+    let units = whole_units(upload.held.len() + count) as u32;
+    is_erased(flash, start + written, units)
+}
+
 /// Writes the unit that these bytes complete and the complete units after it, and holds the rest.
 fn write_units<F: Flash>(
     flash: &mut F,
@@ -63,21 +92,28 @@ fn write_units<F: Flash>(
     Ok(())
 }
 
-/// Adds bytes to an open upload.
+/// Adds bytes to an upload, or returns false and changes nothing: the upload doesn't match the
+/// flash.
 pub(crate) fn add_bytes<F: Flash>(
     flash: &mut F,
     map: &SectorMap,
     image: u8,
     upload: &mut Upload,
     bytes: &[u8],
-) -> Result<()>
-    requires { IsOpenFor map.now image upload.old (length bytes.now) (F.chip flash.old) }
-    ensures { AddsBytes map.now image upload.old upload.new bytes.now
+) -> Result<bool>
+    requires laid_out { IsLaidOut map.now (F.chip flash.old) }
+    requires fits { upload.old.received + length bytes.now ≤ upload.old.size }
+    ensures { AddsIfReady map.now image upload.old upload.new bytes.now
         (F.chip flash.old) (F.chip flash.new) result }
 {
     if upload.held.len() + bytes.len() < UNIT {
         hold(upload, bytes);
-        return Ok(());
+        return Ok(true);
     }
-    write_units(flash, map, image, upload, bytes)
+    let is_ready = is_ready(flash, map, image, upload, bytes.len())?;
+    if !is_ready {
+        return Ok(false);
+    }
+    write_units(flash, map, image, upload, bytes)?;
+    Ok(true)
 }

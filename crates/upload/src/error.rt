@@ -17,7 +17,8 @@ pub enum UploadError {
     /// An image of the manifest is longer than its slot.
     #[error("an image that is longer than its slot")]
     TooBig,
-    /// No upload of the image is open, or there is no such image.
+    /// No upload of the image is open, or there is no such image. For a piece also: the open upload
+    /// doesn't match the flash.
     #[error("no upload of this image is open")]
     NoSession,
     /// More bytes were sent than the manifest says.

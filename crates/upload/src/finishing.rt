@@ -1,7 +1,8 @@
 //! Finishing an upload: its last unit, its checks, and its request.
 
-ghost use Rattle.std.specs.Prelude.{◌≡◌, ◌-◌, ◌++◌, ◌≤◌, ◌<◌, Some, length, replicate};
-ghost use Rattle.sector_map.specs.Map.{HasImage, IsLaidOut, length_of};
+ghost use Rattle.std.specs.Prelude.{◌≡◌, ◌+◌, ◌-◌, ◌++◌, ◌≤◌, ◌<◌, Some, length, replicate};
+ghost use Rattle.flash_model.specs.Chip.{IsErased};
+ghost use Rattle.sector_map.specs.Map.{HasImage, IsLaidOut, length_of, start_of};
 ghost use Rattle.sector_map.specs.Part.{Slot};
 ghost use Rattle.sector_map.specs.declared.layout.Side.TheVariants.{Secondary};
 ghost use Rattle.upload.specs.View.{view};
@@ -43,6 +44,8 @@ fn write_last<F: Flash>(
 ) -> Result<()>
     requires behind { HasRoomBehind map.now image start (length unit.items) (F.chip flash.old) }
     requires few { length unit.items < 8 }
+    requires whole { 0 < length unit.items → IsErased (F.chip flash.old)
+        (start_of map.now (Slot image Secondary) + start) 8 }
     ensures { Appends map.now image start unit.items 8
         (F.chip flash.old) (F.chip flash.new) result }
 {

@@ -52,6 +52,7 @@ impl Uploads {
         ensures value { result ≡ upload_at self.old.sessions image }
         ensures rest { IsWith image None self.old.sessions self.new.sessions }
         ensures kept { result ≡ None → self.new.sessions ≡ self.old.sessions }
+        ensures long { length self.new.sessions ≡ length self.old.sessions }
         ensures within { (u : Upload) → result ≡ Some u → image < MOST_IMAGES }
     {
         let index = usize::from(image);
@@ -65,7 +66,8 @@ impl Uploads {
     /// Puts an upload of an image into the table.
     pub(crate) fn put(&mut self, image: u8, upload: Upload)
         requires { image < MOST_IMAGES }
-        ensures { IsWith image (Some upload) self.old.sessions self.new.sessions }
+        ensures with { IsWith image (Some upload) self.old.sessions self.new.sessions }
+        ensures long { length self.new.sessions ≡ length self.old.sessions }
     {
         self.sessions[usize::from(image)] = Some(upload);
     }

@@ -7,7 +7,7 @@ ghost use Rattle.upload.specs.Slots.{Appends, ErasesSector, ErasesSlot, HasRoomB
 use flash_model::{Flash, Result, is_erased};
 use sector_map::{SectorMap, Side};
 
-/// Programs units directly after the written bytes of a secondary slot. No bytes program nothing.
+/// Programs units of a secondary slot that are erased. No bytes program nothing.
 pub(crate) fn write_slot<F: Flash>(
     flash: &mut F,
     map: &SectorMap,

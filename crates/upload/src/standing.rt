@@ -18,7 +18,7 @@ use trailer::is_blank;
 
 /// Returns how many bytes of an upload are written, or none if its counts don't fit each other and
 /// the slot of its image.
-fn written_of(map: &SectorMap, image: u8, upload: &Upload) -> Option<u32>
+pub(crate) fn written_of(map: &SectorMap, image: u8, upload: &Upload) -> Option<u32>
     ensures some { IfSome result (λ written. HasCounts map.now image written upload.now) }
     ensures none { result ≡ None → (written : ℕ) → HasCounts map.now image written upload.now → ⊥ }
 {

@@ -1,9 +1,12 @@
-use Rattle.std.proofs.Common.{arith, ap, refl}
+use Rattle.std.proofs.Common.{arith, ap, true≢false, refl, sym, inl, ◌∙◌}
+use Rattle.std.proofs.lemmas.Bool.{false≢true}
+use Rattle.flash_model.proofs.Ending.{no_error}
 use Rattle.flash_model.proofs.Frame.{same_outside_refl}
 use Rattle.sector_map.proofs.Parts.{keeps_refl}
 use Rattle.upload.specs.declared.sessions.Upload.{Upload}
 use Rattle.upload.proofs.Added.{held_back}
-use Rattle.upload.proofs.Ends.{reads_well}
+use Rattle.upload.proofs.Ends.{err_passed, reads_well}
+use Rattle.upload.proofs.Ready.{added_ready, stopped_ready}
 use Rattle.upload.proofs.adding.add_bytes.Goals as goal
 
 pub returns-then-len-bytes-lt-UNIT : goal.returns-then-len-bytes-lt-UNIT
@@ -12,20 +15,50 @@ returns-then-len-bytes-lt-UNIT g c =
     record {
       outside = keeps_refl _ _ _;
       range = same_outside_refl _ _ _;
-      ok = held_back c.args.image _ c.args.upload.now c.hold.new.upload c.args.bytes.now (record {
+      front = inl refl;
+      ok = λ yes. held_back c.args.image _ c.args.upload.now c.hold.new.upload c.args.bytes.now (record {
         size = ap (λ (v : Upload). v.size) rest;
         digest = ap (λ (v : Upload). v.digest) rest;
         kind = ap (λ (v : Upload). v.kind) rest;
         received = ap (λ (v : Upload). v.received) rest;
         held = c.hold.ensures.held;
       }) (omega (arith, c.len.ensures.value, c.if-len-bytes-lt-UNIT.true)) c.requires.fits;
+      refused = λ no. absurd (true≢false no);
+      matched = λ stands. refl;
       erases = refl;
       held = λ few. (refl, refl);
-      on = λ enough. absurd (
+      off = λ off written counts enough. absurd (
           let few = c.if-len-bytes-lt-UNIT.true in omega (arith, c.len.ensures.value, few, enough));
       journal = omega arith;
       ends = reads_well _ _ _ refl;
     }
 
+pub returns-then-not-is_ready : goal.returns-then-not-is_ready
+returns-then-not-is_ready g c = rw c.is_ready.ensures.same (record {
+  outside = keeps_refl _ _ _;
+  range = same_outside_refl _ _ _;
+  front = inl refl;
+  ok = λ yes. absurd (false≢true yes);
+  refused = λ no. (refl, refl);
+  matched = λ stands. absurd (false≢true (sym c.if-not-is_ready.true ∙ c.in_ok-is_ready.ensures.matched stands));
+  erases = refl;
+  held = λ few. absurd (let enough = c.if-len-bytes-lt-UNIT.false in omega (arith, c.len.ensures.value, few, enough));
+  off = λ off written counts enough. absurd (no_error _ _ (c.in_ok-is_ready.ensures.off off written counts));
+  journal = omega arith;
+  ends = reads_well _ _ _ refl;
+})
+
 pub returns : goal.returns
-returns g c = c.write_units.ensures
+returns g c =
+    let ready = c.in_ok-is_ready.ensures.ready c.if-not-is_ready.false in
+    added_ready c.args.map.now c.args.image c.args.upload.now c.write_units.new.upload c.args.bytes.now _ _ _
+    c.is_ready.ensures.same ready.0 ready.1 (omega (arith, c.len.ensures.value, c.if-len-bytes-lt-UNIT.false))
+    c.in_ok-write_units.ensures
+
+pub returns-in_err-write_units : goal.returns-in_err-write_units
+returns-in_err-write_units g c =
+    let ready = c.in_ok-is_ready.ensures.ready c.if-not-is_ready.false in
+    rw (err_passed _ c.in_err-write_units.field-0.0 c.from_residual-in_err-write_units.ensures.1)
+    (stopped_ready c.args.map.now c.args.image c.args.upload.now c.write_units.new.upload c.args.bytes.now
+    c.in_err-write_units.field-0.0 _ _ _ c.is_ready.ensures.same ready.0 ready.1
+    (omega (arith, c.len.ensures.value, c.if-len-bytes-lt-UNIT.false)) c.in_err-write_units.ensures)

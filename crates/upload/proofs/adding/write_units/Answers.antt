@@ -1,12 +1,12 @@
-use Rattle.std.proofs.Common.{◌≡◌, ◌+◌, ◌-◌, ◌++◌, ◌<◌, ◌≤◌, ℕ, length, List, arith, refl, sym, ◌∙◌, ap, subst, take, drop, length-append}
+use Rattle.std.proofs.Common.{◌≡◌, ◌+◌, ◌-◌, ◌*◌, ◌++◌, ◌<◌, ◌≤◌, ℕ, length, List, arith, refl, sym, ◌∙◌, ap, subst, take, drop, length-append}
 use Rattle.std.proofs.lemmas.List.{take-append-drop}
 use Rattle.sector_map.specs.declared.layout.Side.TheVariants.{Secondary}
 use Rattle.flash_model.specs.Chip.{Chip, SameOutside}
+use Rattle.flash_model.proofs.Erased.{erased_after, erased_narrower}
 use Rattle.flash_model.proofs.Frame.{same_outside_trans, same_outside_wider}
 use Rattle.sector_map.specs.Map.{start_of}
 use Rattle.sector_map.specs.Part.{Slot, only}
 use Rattle.sector_map.proofs.Parts.{keeps_trans, laid_out_kept}
-use Rattle.sector_map.proofs.PartBytes.{length_part}
 use Rattle.trailer.specs.Standing.{incoming_slot}
 use Rattle.upload.specs.Sessions.{IsWritten}
 use Rattle.upload.specs.declared.sessions.Upload.{Upload}
@@ -48,51 +48,52 @@ units_fit held bytes rest units last k w count few back front last_is =
 
 pub write_slot-requires-clause-units : goal.write_slot-requires-clause-units
 write_slot-requires-clause-units g c =
-    let was = c.requires.room.stands.1 in
+    let was = c.requires.room.counts in
     let unit = c.as_slice.ensures.value ∙ c.extend.ensures
     ∙ ap (λ v. v.items ++ c.split_at.result.0.now) c.take-unit.ensures.value in
     (1, unit_long _ _ _ _ unit c.len-2.ensures.value c.split_at.ensures.front_len was.few)
 
 pub write_slot-requires-clause-behind : goal.write_slot-requires-clause-behind
 write_slot-requires-clause-behind g c =
-    let was = c.requires.room.stands.1 in
+    let was = c.requires.room.counts in
     let unit = c.as_slice.ensures.value ∙ c.extend.ensures
     ∙ ap (λ v. v.items ++ c.split_at.result.0.now) c.take-unit.ensures.value in
     let full = unit_long _ _ _ _ unit c.len-2.ensures.value c.split_at.ensures.front_len was.few in
     let n = c.len.ensures.value in
-    let long = length_part c.args.map.now (g.F.Flash.chip c.args.flash.now) (Slot c.args.image Secondary)
-    c.requires.room.laid_out in
     record {
       laid_out = c.requires.room.laid_out;
       there = was.there;
       place = (was.units.0, omega (arith, was.units.1, n, was.count));
-      room = omega (arith, full, n, long, was.count, was.room, c.requires.room.fits, c.requires.enough);
-      written = (c.requires.room.stands.0, omega (arith, n, was.count), was.slot);
+      room = omega (arith, full, n, was.count, was.room, c.requires.room.fits, c.requires.enough);
+      erased = erased_narrower (g.F.Flash.chip c.args.flash.now) _ (8 * 1) _ _
+          (c.requires.room.erased 1 (omega (arith, c.requires.enough))) (omega (arith, n, was.count))
+          (omega (arith, full, n, was.count));
     }
 
 pub write_slot-requires-2-clause-behind : goal.write_slot-requires-2-clause-behind
 write_slot-requires-2-clause-behind g c =
-    let was = c.requires.room.stands.1 in
+    let was = c.requires.room.counts in
     let unit = c.as_slice.ensures.value ∙ c.extend.ensures
     ∙ ap (λ v. v.items ++ c.split_at.result.0.now) c.take-unit.ensures.value in
     let full = unit_long _ _ _ _ unit c.len-2.ensures.value c.split_at.ensures.front_len was.few in
     let fits = units_fit _ _ _ _ _ _ _ c.len-2.ensures.value was.few c.split_at.ensures.back_len
     c.split_at-2.ensures.front_len c.split_at-2.ensures.back_len in
     let n = c.len.ensures.value in
-    let l = length-append c.requires.room.stands.0 c.as_slice.result.now in
-    let long = length_part c.args.map.now (g.F.Flash.chip c.args.flash.now) (Slot c.args.image Secondary)
-    c.requires.room.laid_out in
+    let base = start_of c.args.map.now (Slot c.args.image Secondary) in
+    let k = c.whole_units.ensures.units in
+    let units : length c.split_at-2.result.0.now ≡ 8 * k.0 = c.split_at-2.ensures.front_len ∙ k.1 in
     record {
       laid_out = laid_out_kept c.args.map.now (only (Slot c.args.image Secondary)) _
           (g.F.Flash.chip c.write_slot.new.flash) c.requires.room.laid_out c.write_slot.ensures.outside;
       there = was.there;
       place = (was.units.0 + 1, omega (arith, was.units.1, n, was.count));
-      room = omega (arith, fits, n, long, was.count, was.room, c.requires.room.fits);
-      written = (
-        c.requires.room.stands.0 ++ c.as_slice.result.now,
-        omega (arith, l, full, n, was.count),
-        c.in_ok-write_slot.ensures.ok c.requires.room.stands.0 (omega (arith, n, was.count)) was.slot,
-      );
+      room = omega (arith, fits, n, was.count, was.room, c.requires.room.fits);
+      erased = erased_after _ _ (8 * (k.0 + 1)) (base + (c.args.upload.now.received - c.len.result)) _
+          (g.F.Flash.chip c.args.flash.now) (g.F.Flash.chip c.write_slot.new.flash)
+          (erased_narrower (g.F.Flash.chip c.args.flash.now) _ (8 * (k.0 + 1)) _ _
+          (c.requires.room.erased (k.0 + 1) (omega (arith, fits, units))) (omega (arith, n, was.count))
+          (omega (arith, n, was.count)))
+          c.write_slot.ensures.range (omega (arith, full)) (omega (arith, units));
     }
 
 pub returns-in_err-write_slot : goal.returns-in_err-write_slot
@@ -100,7 +101,7 @@ returns-in_err-write_slot g c =
     let unit = c.as_slice.ensures.value ∙ c.extend.ensures
     ∙ ap (λ v. v.items ++ c.split_at.result.0.now) c.take-unit.ensures.value in
     let full =
-    unit_long _ _ _ _ unit c.len-2.ensures.value c.split_at.ensures.front_len c.requires.room.stands.1.few in
+    unit_long _ _ _ _ unit c.len-2.ensures.value c.split_at.ensures.front_len c.requires.room.counts.few in
     rw (err_passed _ _ c.from_residual.ensures.1) (record {
       outside = c.write_slot.ensures.outside;
       range = subst (λ k. SameOutside (start_of c.args.map.now (Slot c.args.image Secondary)
@@ -119,7 +120,7 @@ returns-in_err-write_slot g c =
 pub returns-in_err-write_slot-2 : goal.returns-in_err-write_slot-2
 returns-in_err-write_slot-2 g c =
     let first = c.in_ok-write_slot.ensures.ends in
-    let was = c.requires.room.stands.1 in
+    let was = c.requires.room.counts in
     let unit = c.as_slice.ensures.value ∙ c.extend.ensures
     ∙ ap (λ v. v.items ++ c.split_at.result.0.now) c.take-unit.ensures.value in
     let full = unit_long _ _ _ _ unit c.len-2.ensures.value c.split_at.ensures.front_len was.few in
@@ -153,7 +154,7 @@ returns g c =
     let second = c.write_slot-2.ensures.outside in
     let laid = laid_out_kept map (only (Slot c.args.image Secondary)) _ (g.F.Flash.chip c.write_slot.new.flash)
     c.requires.room.laid_out first in
-    let was = c.requires.room.stands.1 in
+    let was = c.requires.room.counts in
     let n = c.len.ensures.value in
     let n2 = c.len-2.ensures.value in
     let one = c.in_ok-write_slot.ensures.ends in

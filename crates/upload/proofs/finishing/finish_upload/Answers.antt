@@ -18,21 +18,37 @@ use Rattle.upload.proofs.Views.{view_kept, slot_then_trailer}
 use Rattle.upload.proofs.Ends.{ends_flash, ends_later, ends_well, err_passed, off_stops, same_off}
 use Rattle.upload.proofs.RefusedFinish.{done_finish, judged_finish, last_unit, stopped_finish}
 use Rattle.upload.proofs.Finished.{refused, finish_refused, finish_done, finish_cut}
+use Rattle.upload.proofs.Writing.{behind_erased, slot_units}
 use Rattle.upload.proofs.finishing.finish_upload.Goals as goal
 
 pub write_last-requires-clause-behind : goal.write_last-requires-clause-behind
 write_last-requires-clause-behind g c =
+    let map = c.args.map.now in
     let was = c.requires.open.1 in
     let n = c.len.ensures.value in
-    let long = length_part c.args.map.now (g.F.Flash.chip c.args.flash.now) (Slot c.args.image Secondary)
+    let long = length_part map (g.F.Flash.chip c.args.flash.now) (Slot c.args.image Secondary)
     c.requires.laid_out in
     record {
       laid_out = c.requires.laid_out;
       there = was.there;
       place = (was.units.0, omega (arith, was.units.1, n, was.count));
       room = omega (arith, long, n, was.count, was.fits, was.room);
-      written = (c.requires.open.0, omega (arith, n, was.count), was.slot);
+      erased = behind_erased map (g.F.Flash.chip c.args.flash.now) c.args.image _ _ c.requires.open.0
+          c.requires.laid_out (omega (arith, n, was.count)) was.slot (omega (arith, long, n, was.count, was.fits, was.room));
     }
+
+-- The unit of the held bytes is erased.
+pub write_last-requires-clause-whole : goal.write_last-requires-clause-whole
+write_last-requires-clause-whole g c some =
+    let map = c.args.map.now in
+    let was = c.requires.open.1 in
+    let n = c.len.ensures.value in
+    let long = length_part map (g.F.Flash.chip c.args.flash.now) (Slot c.args.image Secondary)
+    c.requires.laid_out in
+    let whole = slot_units map c.args.image c.requires.laid_out.is_map in
+    behind_erased map (g.F.Flash.chip c.args.flash.now) c.args.image _ 8 c.requires.open.0
+    c.requires.laid_out (omega (arith, n, was.count)) was.slot
+    (omega (arith, long, n, was.count, was.fits, was.room, whole.1, was.units.1, some))
 
 pub judge-requires-clause-room : goal.judge-requires-clause-room
 judge-requires-clause-room g c =

@@ -1,6 +1,7 @@
 use Rattle.std.proofs.Common.{rules, ◌≡◌, ◌+◌, ◌-◌, ◌<◌, length, length-append, arith, ◌∙◌, ap, subst}
 use Rattle.std.proofs.lemmas.Result.{on_ok_weaker}
 use Rattle.flash_model.specs.Chip.{SameOutside}
+use Rattle.flash_model.proofs.Erased.{erased_narrower}
 use Rattle.sector_map.specs.declared.layout.Side.TheVariants.{Secondary}
 use Rattle.sector_map.specs.Part.{Slot}
 use Rattle.sector_map.specs.Map.{start_of}
@@ -25,7 +26,8 @@ write_slot-requires-clause-behind g c =
       there = before.there;
       place = before.place;
       room = omega (arith, m, n, c.requires.few, whole.1, before.place.1, before.room, some);
-      written = before.written;
+      erased = erased_narrower (g.F.Flash.chip c.args.flash.now) _ 8 _ _ (c.requires.whole some) (omega arith)
+          (omega (arith, m, n, c.requires.few));
     }
 
 pub returns : goal.returns

@@ -9,7 +9,7 @@ use Rattle.sector_map.proofs.PartBytes.{keeps_write, range_inside}
 use Rattle.flash_model.specs.Chip.{IsErased, SameOutside}
 use Rattle.flash_model.proofs.Frame.{same_outside_refl}
 use Rattle.flash_model.proofs.Ending.{ends_well, uncut_refl}
-use Rattle.upload.proofs.Writing.{behind_erased, no_bytes, slot_aligned, written_more}
+use Rattle.upload.proofs.Writing.{no_bytes, slot_aligned, written_more}
 use Rattle.upload.proofs.slots.write_slot.Goals as goal
 
 pub overflow_add-slot_start : goal.overflow_add-slot_start
@@ -29,9 +29,7 @@ program-requires-clause-inside g c =
 pub program-requires-clause-erased : goal.program-requires-clause-erased
 program-requires-clause-erased g c =
     subst (λ k. IsErased (g.F.Flash.chip c.args.flash.now) (k + c.args.at) (length c.args.bytes.now))
-    (sym c.slot_start.ensures)
-    (behind_erased c.args.map.now (g.F.Flash.chip c.args.flash.now) c.args.image c.args.at (length c.args.bytes.now)
-    c.requires.behind.written.0 c.requires.behind.laid_out c.requires.behind.written.1 c.requires.behind.written.2 c.requires.behind.room)
+    (sym c.slot_start.ensures) c.requires.behind.erased
 
 pub program-requires-clause-place : goal.program-requires-clause-place
 program-requires-clause-place g c =

@@ -1,0 +1,62 @@
+use Rattle.std.proofs.Common.{arith, refl, ◌∙◌}
+use Rattle.std.proofs.lemmas.Bool.{false≢true}
+use Rattle.std.proofs.lemmas.Result.{IfOk-weaker}
+use Rattle.flash_model.proofs.Ending.{no_error}
+use Rattle.sector_map.specs.Map.{HasImage}
+use Rattle.upload.proofs.Ends.{reads_well}
+use Rattle.upload.proofs.Ready.{matched_erased, open_for, units_inside}
+use Rattle.upload.proofs.StandingLaws.{incoming_inside, no_counts}
+use Rattle.upload.proofs.adding.is_ready.Goals as goal
+
+pub returns-in_default : goal.returns-in_default
+returns-in_default g c =
+    let never = c.written_of.ensures.none c.in_default.is in
+    record {
+      same = refl;
+      ready = λ yes. absurd (false≢true yes);
+      matched = λ stands. absurd (no_counts c.args.map.now (g.F.Flash.chip c.args.flash.now) c.args.image
+          c.args.upload.now c.requires.laid_out never stands);
+      off = λ off written counts. absurd (never written counts);
+      ends = reads_well _ _ _ refl;
+    }
+
+pub overflow_add-start : goal.overflow_add-start
+overflow_add-start g c =
+    let map = c.args.map.now in
+    let counts = c.in-Some.ensures.some in
+    let has : HasImage map c.args.image (g.F.Flash.chip c.args.flash.now) = record { laid_out = c.requires.laid_out; there = counts.there } in
+    let inside = incoming_inside map _ c.args.image has in
+    omega (arith, c.slot_start-start.ensures, inside, c.requires.laid_out.size, counts.count, counts.fits, counts.room)
+
+pub is_erased-requires : goal.is_erased-requires
+is_erased-requires g c =
+    let map = c.args.map.now in
+    let counts = c.in-Some.ensures.some in
+    let has : HasImage map c.args.image (g.F.Flash.chip c.args.flash.now) = record { laid_out = c.requires.laid_out; there = counts.there } in
+    let inside = incoming_inside map _ c.args.image has in
+    rw c.is_blank.ensures.same (let units = units_inside map c.args.image c.in-Some.written c.args.count c.whole_units-units.result c.args.upload.now counts
+    c.requires.fits (omega (arith, c.whole_units-units.ensures.least, c.len.ensures.value)) in
+    omega (arith, c.slot_start-start.ensures, inside, units))
+
+pub returns : goal.returns
+returns g c =
+    let map = c.args.map.now in
+    let chip = g.F.Flash.chip c.args.flash.now in
+    let counts = c.in-Some.ensures.some in
+    let units = c.whole_units-units.ensures in
+    let told = rw (c.slot_start-start.ensures, c.is_blank.ensures.same) at c.is_erased.ensures.ok in
+    record {
+      same = c.is_erased.ensures.same ∙ c.is_blank.ensures.same;
+      ready = IfOk-weaker c.is_erased.result _ _ (λ answer tells yes. (
+        c.in_ok-is_blank.ensures.ok.0 c.if-not-is_blank.false,
+        open_for map chip c.args.image c.in-Some.written c.args.count c.whole_units-units.result units.units.0
+            c.args.upload.now c.requires.laid_out counts c.requires.fits units.units.1
+            (omega (arith, units.most, c.len.ensures.value)) (tells.0 yes),
+      )) told;
+      matched = IfOk-weaker c.is_erased.result _ _ (λ answer tells stands. tells.1
+          (matched_erased map chip c.args.image c.in-Some.written c.args.count c.whole_units-units.result
+          c.args.upload.now c.requires.laid_out counts c.requires.fits
+          (omega (arith, units.least, c.len.ensures.value)) stands)) told;
+      off = λ off written counts. absurd (no_error _ _ (c.in_ok-is_blank.ensures.off off));
+      ends = rw c.is_blank.ensures.same at c.is_erased.ensures.ends;
+    }
