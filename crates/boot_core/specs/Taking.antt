@@ -17,7 +17,9 @@ use Rattle.manifest.specs.Fault.{IsManifest}
 use Rattle.manifest.specs.Manifest.{NamesEachOnce, NamesImages}
 use Rattle.set_log.specs.Log.{state_of}
 use Rattle.upload.specs.Accepted.{accepted_parts}
-use Rattle.upload.specs.Sessions.{AllClosed, AllOpenAt, upload_at}
+use Rattle.upload.specs.Device.{DeviceState}
+use Rattle.upload.specs.Sessions.{AllClosed, AllOpenAt, IsOpenAt, upload_at}
+use Rattle.upload.specs.Steady.{IsSteadyAt}
 use Rattle.upload.specs.View.{view}
 use Rattle.upload.specs.Wear.{journal_of_components}
 use Rattle.upload.specs.declared.sessions.Upload.{Upload}
@@ -28,7 +30,7 @@ use Rattle.machine.specs.declared.error.Fault.{Fault}
 use Rattle.machine.specs.declared.error.Fault.TheVariants as no
 use Rattle.boot_core.specs.Answers.{EndsCall, IsNotBooted, IsOff, is_stop, keeps_all, may_close, reply_of_result}
 use Rattle.upload.specs.declared.error.UploadError.{UploadError}
-use Rattle.upload.specs.declared.error.UploadError.TheVariants.{SizeWrong}
+use Rattle.upload.specs.declared.error.UploadError.TheVariants.{NoSession, SizeWrong}
 use Rattle.upload.specs.Finishing.{WritesLastUnit}
 use Rattle.boot_core.specs.Confirming.{IsOkSet}
 use Rattle.boot_core.specs.Device.{StaysHeld, made}
@@ -90,8 +92,9 @@ pub record StepsHere (map : SectorMap) (event : DeviceEvent) (touched : Part →
     (old new : DeviceView) (result : Result Unit Fault) : Type 0 where
   -- The map is still laid out on the flash.
   pub laid : IsLaidOut map new.flash
-  -- The open uploads match the flash.
-  pub opens : AllOpenAt (view map new.flash) new.sessions
+  -- If the open uploads matched the flash, they still do.
+  pub opens : AllOpenAt (view map old.flash) old.sessions
+      → AllOpenAt (view map new.flash) new.sessions
   -- On a flash with power the call is a step of the machine, whatever else the device was made
   -- with.
   pub steps : (identity : Identity) (boots : ℕ) → old.flash.is_on ≡ true
@@ -123,6 +126,20 @@ pub record TakesHere (map : SectorMap) (event : DeviceEvent) (touched : Part →
   pub open call use *
   -- A refusal that isn't the flash's leaves the flash as it was.
   pub refused : IfErr result (λ fault. is_stop fault ≡ false → new.flash ≡ old.flash)
+
+-- A call takes a piece of an upload on a device with this map, whether or not the open uploads
+-- match the flash.
+pub record TakesPieceHere (map : SectorMap) (image : ℕ) (more : Bor (List ℕ)) (old new : DeviceView)
+    (result : Result Unit Fault) : Type 0 where
+  pub taken : TakesHere map (event.Piece image more) (only (Slot image Secondary)) old new result
+  pub open taken use *
+  -- On any flash, whatever the uploads: a state at rest without a trial stays, even if the call
+  -- fails.
+  pub rests : (s : DeviceState) → IsSteadyAt (view map old.flash) s
+      → IsSteadyAt (view map new.flash) s
+  -- An upload that matches the flash isn't refused as one that doesn't.
+  pub matched : (u : Upload) → upload_at old.sessions image ≡ Some u
+      → IsOpenAt (view map old.flash) image u → result ≡ Err (no.Upload NoSession) → ⊥
 
 -- Accepting a text touches only the log, and the secondary slots and trailers of the images that
 -- its manifest names, and asks a journal for at most 120 bytes, and those that opening each slot

@@ -6,8 +6,7 @@ ghost use Rattle.common.specs.declared.event.Event.TheVariants as event;
 ghost use Rattle.manifest.specs.Fault.{IsManifest};
 ghost use Rattle.manifest.specs.Manifest.{NamesEachOnce, NamesImages};
 ghost use Rattle.sector_map.specs.Map.{IsLaidOut};
-ghost use Rattle.sector_map.specs.Part.{Slot, incoming_of, only};
-ghost use Rattle.sector_map.specs.declared.layout.Side.TheVariants.{Secondary};
+ghost use Rattle.sector_map.specs.Part.{incoming_of};
 ghost use Rattle.upload.specs.Sessions.{AllOpenAt};
 ghost use Rattle.upload.specs.View.{view};
 ghost use Rattle.boot_core.specs.Answers.{is_stop};
@@ -15,7 +14,7 @@ ghost use Rattle.boot_core.specs.Device.{seen};
 ghost use Rattle.boot_core.specs.Ready.{RefusesText, text_fault};
 ghost use Rattle.boot_core.specs.Taking.{AcceptsHere, AsksReady, CanOpen, ChecksReady, FinishesHere};
 ghost use Rattle.boot_core.specs.Taking.{OpensUploads, PassesOn, Stops, TakesHere};
-ghost use Rattle.boot_core.specs.Taking.{TakesManifestHere};
+ghost use Rattle.boot_core.specs.Taking.{TakesManifestHere, TakesPieceHere};
 
 use crate::confirming::is_trial;
 use flash_model::Flash;
@@ -241,8 +240,13 @@ pub fn accept_manifest<F: Flash>(
 }
 
 /// Takes the next bytes of an image's upload on a device that is held in parts, as `Device::piece`,
-/// with its arguments and errors. The other arguments are those of `accept_manifest`. Does not
-/// allocate.
+/// with its arguments and errors. The other arguments are those of `accept_manifest`, but the open
+/// uploads needn't match the flash: a caller that saved them doesn't have to read their slots
+/// first. Does not allocate.
+///
+/// Before it programs units, the call checks that the counts of the upload fit each other and the
+/// slot, that the trailer of the slot reads as erased, and that these units are erased. If one of
+/// these checks fails, it returns `Upload` with `NoSession`, and changes nothing.
 pub fn piece<F: Flash>(
     flash: &mut F,
     map: &SectorMap,
@@ -252,8 +256,7 @@ pub fn piece<F: Flash>(
     more: &[u8],
 ) -> Result<(), Fault>
     requires laid_out { IsLaidOut map.now (F.chip flash.old) }
-    requires opens { AllOpenAt (view map.now (F.chip flash.old)) uploads.old.sessions }
-    ensures { TakesHere map.now (event.Piece image more.entry) (only (Slot image Secondary))
+    ensures { TakesPieceHere map.now image more.entry
         (seen (F.chip flash.old) uploads.old.sessions is_booted.old)
         (seen (F.chip flash.new) uploads.new.sessions is_booted.new) result }
 {
