@@ -29,6 +29,7 @@ pub mod Measured
 mod Begun
 pub mod Wears
 mod Taken
+mod Pieces
 mod Finished
 mod Opening
 mod Repeats

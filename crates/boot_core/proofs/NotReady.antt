@@ -66,13 +66,12 @@ module _ (map : SectorMap) (old mid : Chip) (told tnew : List (Option Upload)) (
   -- A call is declined because the device takes no uploads.
   pub declines : (touched : Part → Bool) (happened : DeviceEvent) → needs_up happened ≡ true
       → needs_rest happened ≡ true
-      → IsLaidOut map old → AllOpenAt (view map old) told
-      → TakesHere map happened touched (seen old told up) (seen mid tnew upn) (Err given)
-  declines touched happened needs rests laid opens = record {
+      → IsLaidOut map old → TakesHere map happened touched (seen old told up) (seen mid tnew upn) (Err given)
+  declines touched happened needs rests laid = record {
     call = record {
       here = record {
         laid = subst (λ chip. IsLaidOut map chip) (sym asked.same) laid;
-        opens = opens_stopped (view map mid) fault told tnew up upn (stops fault given told tnew up upn after)
+        opens = λ opens. opens_stopped (view map mid) fault told tnew up upn (stops fault given told tnew up upn after)
             (subst (λ chip. AllOpenAt (view map chip) told) (sym asked.same) opens);
         steps = λ identity boots on. not_ready (made map identity boots) old mid told tnew up upn happened needs rests
             asked.same given fault after.is asked.ready on (stops fault given told tnew up upn after);
@@ -100,13 +99,12 @@ module _ (map : SectorMap) (old mid : Chip) (told tnew : List (Option Upload)) (
 pub declined : (map : SectorMap) (old new : DeviceView) (fault : Fault) (result : Result Unit Fault)
     → AsksReady map old new (Err fault) → IsErrAnd result (λ passed. passed ≡ fault)
     → (touched : Part → Bool) (happened : DeviceEvent) → needs_up happened ≡ true → needs_rest happened ≡ true
-    → IsLaidOut map old.flash → AllOpenAt (view map old.flash) old.sessions
-    → TakesHere map happened touched old new result
-declined map old new fault (Ok done) asks passed touched happened up rest laid opens = absurd passed
-declined map old new fault (Err given) asks passed touched happened up rest laid opens =
+    → IsLaidOut map old.flash → TakesHere map happened touched old new result
+declined map old new fault (Ok done) asks passed touched happened up rest laid = absurd passed
+declined map old new fault (Err given) asks passed touched happened up rest laid =
     subst (λ f. TakesHere map happened touched old new (Err f)) (sym passed)
     (declines map old.flash new.flash old.sessions new.sessions old.up new.up fault fault asks.asked asks.stops touched
-    happened up rest laid opens)
+    happened up rest laid)
 
 -- A device can't be both booted and not.
 pub not_down : (result : Result Unit Fault) (old new : DeviceView) → old.up ≡ true → old.up ≡ false

@@ -53,11 +53,11 @@ module _ (map : SectorMap) (identity : Identity) (old new : DeviceView) (fault :
   manifest_declines manifest =
       let stopped = stops fault fault old.sessions new.sessions old.up new.up asks.stops in
       let declined = declines map old.flash new.flash old.sessions new.sessions old.up new.up fault fault asks.asked
-      asks.stops (accepted_parts manifest.components.items) (event.Withdraw 0) refl refl laid opens in
+      asks.stops (accepted_parts manifest.components.items) (event.Withdraw 0) refl refl laid in
       record {
         taken = record {
           laid = declined.laid;
-          opens = declined.opens;
+          opens = declined.opens opens;
           steps = λ boots text on means. not_ready (made map identity boots) old.flash new.flash old.sessions
               new.sessions old.up new.up (event.Accept text) refl refl asks.asked.same fault fault refl asks.asked.ready
               on stopped;
@@ -81,10 +81,10 @@ module _ (map : SectorMap) (identity : Identity) (old new : DeviceView) (fault :
   text_declines : (text : Bor (List ℕ)) → AcceptsHere map identity text old new (Err fault)
   text_declines text =
       let declined = declines map old.flash new.flash old.sessions new.sessions old.up new.up fault fault asks.asked
-      asks.stops any_part (event.Accept text) refl refl laid opens in
+      asks.stops any_part (event.Accept text) refl refl laid in
       record {
         laid = declined.laid;
-        opens = declined.opens;
+        opens = declined.opens opens;
         steps = declined.steps identity;
         outside = declined.outside;
         named = Untouched asks.asked.same;

@@ -116,13 +116,9 @@ pub record IsTaken (map : SectorMap) (happened : DeviceEvent) (touched : Part �
 module _ (map : SectorMap) (happened : DeviceEvent) (touched : Part → Bool) (before : DeviceView) (old new : Chip)
     (told tmid tnew : List (Option Upload)) (up upn : Bool) (row : Machine → Row)
     (is : IsUploadEvent happened row) (laid : IsLaidOut map before.flash)
-    (open_before : AllOpenAt (view map before.flash) before.sessions)
     (ready : AsksReady map before (seen old told up) (Ok tt)) where
   now : IsReadyAt map (seen old told up)
   now = ready_now map before (seen old told up) ready
-
-  open_now : AllOpenAt (view map old) told
-  open_now = opens_now map before (seen old told up) ready open_before
 
   laid_new : Keeps map touched old new → IsLaidOut map new
   laid_new keeps = laid_out_kept map touched old new (laid_now map before (seen old told up) ready laid) keeps
@@ -138,7 +134,7 @@ module _ (map : SectorMap) (happened : DeviceEvent) (touched : Part → Bool) (b
       subst (λ at. TakesCall map happened touched (seen old told up) at (Ok passed)) after (record {
         here = record {
           laid = laid_new call.outside;
-          opens = call.opens open_now;
+          opens = call.opens;
           steps = λ identity boots on.
               is.own (made map identity boots) old new told tmid up now (Ok tt) Done refl refl call.row;
           outside = call.outside;
@@ -157,8 +153,8 @@ module _ (map : SectorMap) (happened : DeviceEvent) (touched : Part → Bool) (b
       record {
         here = record {
           laid = laid_new call.outside;
-          opens = opens_stopped (view map new) (no.Upload error) tmid tnew up upn stopped
-              (call.opens open_now);
+          opens = λ opens. opens_stopped (view map new) (no.Upload error) tmid tnew up upn stopped
+              (call.opens opens);
           steps = λ identity boots on. failed (made map identity boots) old new told tmid tnew up upn happened error on
               call.ends stopped
               (λ none cut. is.cut (made map identity boots) old new told tmid tnew up now (Err error) none

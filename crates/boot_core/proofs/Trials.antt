@@ -12,7 +12,6 @@ use Rattle.sector_map.specs.Part.{TrailerOf, is_member, only}
 use Rattle.sector_map.proofs.Parts.{laid_out_kept}
 use Rattle.common.specs.declared.event.Event.TheVariants as event
 use Rattle.upload.specs.Device.{DeviceState}
-use Rattle.upload.specs.Sessions.{AllOpenAt}
 use Rattle.upload.specs.View.{view}
 use Rattle.upload.specs.declared.sessions.Upload.{Upload}
 use Rattle.machine.specs.Holding.{IsAtRest}
@@ -75,16 +74,16 @@ flash_not_tried error given result passed is told = cc
 
 -- The flash didn't stop the confirmation.
 pub confirm_ends : (map : SectorMap) (image : ℕ) (old new : Chip) (told : List (Option Upload)) (up answer : Bool)
-    (result : Result Unit Fault) → IsLaidOut map old → AllOpenAt (view map old) told → up ≡ true
+    (result : Result Unit Fault) → IsLaidOut map old → up ≡ true
     → Confirms map image old new (Ok answer)
     → ((setup : Setup) → Keeps setup.map (only (TrailerOf image Primary)) old new
     → ((s : DeviceState) → IsAtRest (view setup.map old) s → EndsConfirm (view setup.map new) s image answer)
     → StepsTo setup (seen old told up) (seen new told up) (event.Confirm image) (reply_of_result result))
     → cut_of (reply_of_result result) ≡ 0 → is_stopped (reply_of_result result) ≡ false
     → StepsHere map (event.Confirm image) (only (TrailerOf image Primary)) (seen old told up) (seen new told up) result
-confirm_ends map image old new told up answer result laid opens booted confirms steps none unstopped = record {
+confirm_ends map image old new told up answer result laid booted confirms steps none unstopped = record {
   laid = laid_out_kept map (only (TrailerOf image Primary)) old new laid confirms.outside;
-  opens = open_confirmed map old new image told confirms.outside opens;
+  opens = open_confirmed map old new image told confirms.outside;
   steps = λ identity boots on. steps (made map identity boots) confirms.outside confirms.ok;
   outside = confirms.outside;
   down = not_down result (seen old told up) (seen new told up) booted;

@@ -19,7 +19,7 @@ pub returns-in-Ok-true : goal.returns-in-Ok-true
 returns-in-Ok-true g c =
     let answered = rw c.in-Ok-true.field-0-test at c.in-Ok-true.ensures.answers in
     record {
-      here = confirm_ends c.args.map.now c.args.image _ _ _ _ _ _ c.requires.laid_out c.requires.opens
+      here = confirm_ends c.args.map.now c.args.image _ _ _ _ _ _ c.requires.laid_out
           c.if-not-is_booted.false c.in-Ok-true.ensures (λ setup. steps_confirmed setup _ _ _ c.args.image
           c.if-not-is_booted.false _ _ c.in-Ok-true.field-0-test) refl refl;
       refused = tt;
@@ -34,7 +34,7 @@ returns-in-Ok-false g c =
     let same = c.in-Ok-false.ensures.same c.in-Ok-false.field-0-test in
     let all = ap (λ chip. seen chip c.args.uploads.now.sessions c.args.is_booted.now) same in
     record {
-      here = confirm_ends c.args.map.now c.args.image _ _ _ _ _ _ c.requires.laid_out c.requires.opens
+      here = confirm_ends c.args.map.now c.args.image _ _ _ _ _ _ c.requires.laid_out
           c.if-not-is_booted.false c.in-Ok-false.ensures (λ setup. steps_not_on_trial setup _ _ _ c.args.image
           c.if-not-is_booted.false _ _ c.in-Ok-false.field-0-test) refl refl;
       refused = λ own. same;
@@ -54,7 +54,7 @@ returns-in-Err g c =
     record {
       here = record {
         laid = laid_out_kept map _ _ _ c.requires.laid_out c.confirm.ensures.outside;
-        opens = open_none _ _ closed;
+        opens = λ opens. open_none _ _ closed;
         steps = λ identity boots on.
             subst (λ fault. StepsTo (made map identity boots)
             (seen old c.args.uploads.now.sessions c.args.is_booted.now)

@@ -11,12 +11,12 @@ pub returns-in_err-ready : goal.returns-in_err-ready
 returns-in_err-ready g c =
     finish_declined _ _ _ _ _ c.in_err-ready.ensures.asked.same
     (declined _ _ _ _ _ c.in_err-ready.ensures c.from_residual.ensures.1 (incoming_of c.args.image)
-    (event.Finish c.args.image) refl refl c.requires.laid_out c.requires.opens)
+    (event.Finish c.args.image) refl refl c.requires.laid_out)
 
 pub returns : goal.returns
 returns g c =
     finish_passed _ _ _ _ _ _ _ _ _ _ _ _ c.in_ok-ready.ensures (takes_call _ _ _ _ _ _ _ _ _ _ _ _
-    (finish_event c.args.image) c.requires.laid_out c.requires.opens c.in_ok-ready.ensures _ _ (record {
+    (finish_event c.args.image) c.requires.laid_out c.in_ok-ready.ensures _ _ (record {
       outside = c.finish.ensures.outside;
       opens = c.finish.ensures.all_open;
       ends = c.finish.ensures.ends;

@@ -9,11 +9,11 @@ use Rattle.boot_core.proofs.intake.withdraw.Goals as goal
 pub returns-in_err-ready : goal.returns-in_err-ready
 returns-in_err-ready g c =
     declined _ _ _ _ _ c.in_err-ready.ensures c.from_residual.ensures.1 (incoming_of c.args.image)
-    (event.Withdraw c.args.image) refl refl c.requires.laid_out c.requires.opens
+    (event.Withdraw c.args.image) refl refl c.requires.laid_out
 
 pub returns : goal.returns
 returns g c =
-    takes_here _ _ _ _ _ _ _ _ _ _ _ _ (withdraw_event c.args.image) c.requires.laid_out c.requires.opens
+    takes_here _ _ _ _ _ _ _ _ _ _ _ _ (withdraw_event c.args.image) c.requires.laid_out
     c.in_ok-ready.ensures _ _ (record {
       outside = c.withdraw.ensures.outside;
       opens = c.withdraw.ensures.all_open;

@@ -8,4 +8,4 @@ use Rattle.boot_core.proofs.device.Device.piece.Goals as goal
 pub returns : goal.returns
 returns g c =
     device_takes (event.Piece c.args.image c.args.more) (only (Slot c.args.image Secondary)) c.self.inside.map
-    c.self.inside.identity (c.self.inside.left + 1) _ _ _ c.piece.result c.self.view_is c.piece.ensures
+    c.self.inside.identity (c.self.inside.left + 1) _ _ _ c.piece.result c.self.view_is c.piece.ensures.taken
