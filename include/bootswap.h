@@ -6,9 +6,9 @@
  * between two calls in a `struct bootswap_kept`. If it isn't a valid state, or its uploads don't match the flash, the
  * device isn't booted and has no open upload. No call allocates, and each returns.
  *
- * The caller guarantees this: a pointer with a length points to that number of bytes, every other pointer to a complete
- * struct; no pointer is null, not even with a length of 0; a buffer that is written overlaps nothing else that is
- * passed. A call reads the slots of the open uploads, so upload in large pieces.
+ * The caller guarantees this: a pointer with a length points to that number of bytes or rows, and may be null if the
+ * length is 0; every other pointer points to a complete struct or number, and isn't null; memory that a call writes
+ * overlaps nothing else that is passed. A call reads the slots of the open uploads, so upload in large pieces.
  *
  * The flash is memory: a driver in C can't be called. The calls named `bootswap_journal_` record each write in a journal,
  * so that their caller can make the same writes on a part. `docs/PORTING.md` says how a device with its own flash runs

@@ -14,10 +14,17 @@ from support.program import CaseTest, short
 
 LIFE = f"{ROOT}/bindings/c/life.c"
 JOURNAL = f"{ROOT}/tests/journal.c"
+NULLS = f"{ROOT}/tests/nulls.c"
 STRICT = ["-std=c11", "-Wall", "-Wextra", "-Werror", "-I", f"{ROOT}/include"]
 
 # What life.c prints, whichever write of the boot is cut, after the line that names the write.
 ENDS = b"permanent\ntake 0 1.1.0+0\n"
+
+# What nulls.c prints: the numbers that its calls return, four lengths or lines, and the begin of the SHA-256 of no bytes.
+RETURNED = (
+    b"18 0 18 1 18 0 18 0 0 0 18 0 18 0 18 0 18 0 0 0 18 0 18 1 18 0 1 "
+    b"18 0 18 0 18 4 18 4 18 4 18 1 18 5 18 18 1 24 28 24 25 1 0 1 1 e3b0\n"
+)
 
 # What the library calls that it doesn't have itself. So it never allocates.
 CALLED = {"memcpy", "memmove", "memset"}
@@ -62,6 +69,15 @@ class LibraryTest(CaseTest):
             faults, output = ran([program, *images, str(room)])
             wanted = b"%d boots\ntake 0 1.1.0+0\n" % boots
             self.case(f"journal.c with {room} bytes", faults or [short(output)] * (output != wanted))
+
+    def test_null_pointers(self):
+        """Null with a length of 0 passes no bytes, in each call as any other pointer does."""
+        program = f"{self.folder}/nulls"
+        faults, _ = ran(["cc", *STRICT, NULLS, self.archive, "-o", program])
+        self.case("nulls.c compiles", faults)
+        images = [f"{EXAMPLES}/images/{name}.img" for name in ("one", "patched")]
+        faults, output = ([], b"") if faults else ran([program, *images])
+        self.case("what the calls return", faults or [short(output)] * (output != RETURNED))
 
     def test_header_in_cpp(self):
         file = f"{self.folder}/header.cpp"
