@@ -1,5 +1,5 @@
 -- The entries of groups, counted and written one by one.
-use Rattle.std.proofs.Common.{◌≡◌, ℕ, ◌+◌, ◌*◌, ◌<◌, List, [], ◌++◌, length, get_or, map, take, refl, sym, ap, ◌∙◌, length-append}
+use Rattle.std.proofs.Common.{◌≡◌, ℕ, ◌+◌, ◌*◌, ◌<◌, List, ◌++◌, length, get_or, map, take, sym, ap, ◌∙◌, length-append}
 use Rattle.std.proofs.lemmas.List.Folds.{flat_map-map}
 use Rattle.std.specs.Borrow.{Bor}
 use Rattle.std.specs.List.{AllByRecursion, flat_map}
@@ -22,15 +22,12 @@ group_pieces groups =
     ∙ flat_map-map (λ group. entry_bytes (group_entry group)) group_of groups
 
 -- One more group's entry is written.
-pub groups_more : (groups : List (Bor (List Dependency))) (i : ℕ) (other : Bor (List Dependency))
-    (start was now : List ℕ) → i < length groups
-    → was ≡ start ++ entries_bytes (map group_entry (groups_of (take i groups)))
-    → now ≡ was ++ group_piece (get_or groups i other)
-    → now ≡ start ++ entries_bytes (map group_entry (groups_of (take (i + 1) groups)))
-groups_more groups i other start was now within e f =
-    pieces_more group_piece groups i other start was now within
-    (e ∙ ap (λ (bytes : List ℕ). start ++ bytes) (group_pieces (take i groups))) f
-    ∙ ap (λ (bytes : List ℕ). start ++ bytes) (sym (group_pieces (take (i + 1) groups)))
+pub groups_more : (groups : List (Bor (List Dependency))) (i : ℕ) (other : Bor (List Dependency)) → i < length groups
+    → entries_bytes (map group_entry (groups_of (take i groups))) ++ group_piece (get_or groups i other)
+    ≡ entries_bytes (map group_entry (groups_of (take (i + 1) groups)))
+groups_more groups i other within =
+    ap (λ (bytes : List ℕ). bytes ++ group_piece (get_or groups i other)) (group_pieces (take i groups))
+    ∙ pieces_more group_piece groups i other within ∙ sym (group_pieces (take (i + 1) groups))
 
 -- One more group's entry adds its length.
 pub groups_size-more : (groups : List (Bor (List Dependency))) (i : ℕ) (other : Bor (List Dependency))
@@ -40,7 +37,7 @@ pub groups_size-more : (groups : List (Bor (List Dependency))) (i : ℕ) (other 
 groups_size-more groups i other within =
     let was = entries_bytes (map group_entry (groups_of (take i groups))) in
     let piece = group_piece (get_or groups i other) in
-    ap length (sym (groups_more groups i other [] was (was ++ piece) within refl refl)) ∙ length-append was piece
+    ap length (sym (groups_more groups i other within)) ∙ length-append was piece
     ∙ ap (λ (n : ℕ). length was + n) (length-group_entry (group_of (get_or groups i other)))
 
 -- If all groups have their alternatives, each has.

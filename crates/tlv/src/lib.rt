@@ -2,8 +2,8 @@
 //!
 //! - Promises: The image is intact and has exactly the given values; otherwise the first check that
 //!   fails is returned.
-//! - Main calls: `make_image`
-//! - Allocates: to make an image.
+//! - Main calls: `make_image`, `write_image`
+//! - Allocates: to make an image. `write_image` doesn't.
 //! - Callers: tools of a host. A device needs only the crate below, which reads images.
 #![tactic(auto)]
 
@@ -14,4 +14,4 @@ pub use image_reading::{
     a_walk_gives_the_entries_of_its_area, describe, describe_file, describe_slot, digest_file,
     no_image_begins_another, one_front_is_an_image,
 };
-pub use make::{ImageSpec, MakeError, make_image};
+pub use make::{ImageSpec, MakeError, make_image, write_image};

@@ -1,15 +1,15 @@
 //! Checks the groups of an image, and writes their entries.
 
-ghost use Rattle.std.specs.Prelude.{◌≡◌, ◌↔◌, ◌≤◌, ◌++◌, IsTrue, OnOk, length, map};
+ghost use Rattle.std.specs.Prelude.{◌≡◌, ◌↔◌, ◌≤◌, IsTrue, length, map};
 ghost use Rattle.std.specs.List.{AllByRecursion};
 ghost use Rattle.image_reading.specs.Area.{entries_bytes, entry_bytes};
 ghost use Rattle.image_reading.specs.Fields.{FitsDependency, FitsGroup, alternatives_bytes, group_kind};
 ghost use Rattle.tlv.specs.Making.{AreGroups, HasAlternatives, group_entry, groups_of};
+ghost use Rattle.tlv.specs.Writing.{PutsAfter};
 
-use crate::make::entries::{push_dependency, push_head};
+use crate::make::entries::{put_dependency, put_head};
 use common::limits::{MOST_ALTERNATIVES, MOST_GROUPS};
 use image_reading::format::{DEPENDENCY_LENGTH, GROUP_KIND, HEAD_LENGTH};
-use std::alloc::{AllocError, Allocator};
 use version_order::Dependency;
 
 /// Whether an image may have these groups: at most `MOST_GROUPS`, each with at least one
@@ -41,51 +41,44 @@ pub fn groups_length(groups: &[&[Dependency]]) -> usize
     length
 }
 
-/// Appends the alternatives of a group.
+/// Writes the alternatives of a group.
 #[tactic(auto, using(std::proofs::lemmas::List::take_all))]
-fn push_alternatives<A: Allocator>(
-    bytes: &mut Vec<u8, A>,
-    alternatives: &[Dependency],
-) -> Result<(), AllocError>
-    ensures written { OnOk result
-        (bytes.new.items ≡ bytes.old.items ++ alternatives_bytes alternatives.now) }
-    ensures fit { OnOk result (AllByRecursion FitsDependency alternatives.now) }
+fn put_alternatives(buffer: &mut [u8], place: usize, alternatives: &[Dependency]) -> usize
+    ensures written { PutsAfter place buffer.old (alternatives_bytes alternatives.now) result
+        buffer.new }
+    ensures fit { AllByRecursion FitsDependency alternatives.now }
 {
+    let mut end = place;
     for alternative in alternatives {
-        push_dependency(bytes, alternative)?;
+        end = put_dependency(buffer, end, alternative);
     }
-    Ok(())
+    end
 }
 
-/// Appends the entry of a group.
-fn push_group<A: Allocator>(
-    bytes: &mut Vec<u8, A>,
-    alternatives: &[Dependency],
-) -> Result<(), AllocError>
+/// Writes the entry of a group.
+fn put_group(buffer: &mut [u8], place: usize, alternatives: &[Dependency]) -> usize
     requires { length alternatives.now ≤ MOST_ALTERNATIVES }
     ensures entry { let value = alternatives_bytes alternatives.now in
         let entry = entry_bytes (record { kind = group_kind; value = value }) in
-        OnOk result (bytes.new.items ≡ bytes.old.items ++ entry) }
-    ensures fit { OnOk result (AllByRecursion FitsDependency alternatives.now) }
+        PutsAfter place buffer.old entry result buffer.new }
+    ensures fit { AllByRecursion FitsDependency alternatives.now }
 {
     let size = DEPENDENCY_LENGTH * alternatives.len();
-    push_head(bytes, GROUP_KIND, size as u16)?;
-    push_alternatives(bytes, alternatives)
+    let place = put_head(buffer, place, GROUP_KIND, size as u16);
+    put_alternatives(buffer, place, alternatives)
 }
 
-/// Appends the entries of groups.
+/// Writes the entries of groups.
 #[tactic(auto, using(std::proofs::lemmas::List::take_all))]
-pub fn push_groups<A: Allocator>(
-    bytes: &mut Vec<u8, A>,
-    groups: &[&[Dependency]],
-) -> Result<(), AllocError>
+pub fn put_groups(buffer: &mut [u8], place: usize, groups: &[&[Dependency]]) -> usize
     requires { AllByRecursion HasAlternatives (groups_of groups.now) }
     ensures entries { let entries = entries_bytes (map group_entry (groups_of groups.now)) in
-        OnOk result (bytes.new.items ≡ bytes.old.items ++ entries) }
-    ensures fit { OnOk result (AllByRecursion FitsGroup (groups_of groups.now)) }
+        PutsAfter place buffer.old entries result buffer.new }
+    ensures fit { AllByRecursion FitsGroup (groups_of groups.now) }
 {
+    let mut end = place;
     for alternatives in groups {
-        push_group(bytes, alternatives)?;
+        end = put_group(buffer, end, alternatives);
     }
-    Ok(())
+    end
 }
