@@ -2,13 +2,17 @@
  * bootswap for C: a device whose flash is bytes in memory, for simulators, update servers and tests on a desk.
  *
  * Each call of a device is one step of a machine that knows whole images only, from the device in the caller's bytes
- * before the call to the one in them after it. This is proved for any contents. The caller keeps the state of a device
- * between two calls in a `struct bootswap_kept`. If it isn't a valid state, or its uploads don't match the flash, the
- * device isn't booted and has no open upload. No call allocates, and each returns.
+ * before the call to the one in them after it. This is proved for any contents. Only bootswap_piece needs saved uploads
+ * that match the flash. The caller keeps the state of a device between two calls in a `struct bootswap_kept`. If it
+ * isn't a valid state, or its uploads don't match the flash, the device isn't booted and has no open upload. No call
+ * allocates, and each returns.
  *
  * The caller guarantees this: a pointer with a length points to that number of bytes or rows, and may be null if the
  * length is 0; every other pointer points to a complete struct or number, and isn't null; memory that a call writes
- * overlaps nothing else that is passed. A call reads the slots of the open uploads, so upload in large pieces.
+ * overlaps nothing else that is passed.
+ *
+ * Each call except bootswap_piece reads the slots of the open uploads and checks that the uploads match the flash. A
+ * piece reads only the range of its slot that it writes, so an upload in many pieces costs little more than in one.
  *
  * The flash is memory: a driver in C can't be called. The calls named `bootswap_journal_` record each write in a journal,
  * so that their caller can make the same writes on a part. `docs/PORTING.md` says how a device with its own flash runs
@@ -79,7 +83,7 @@ enum bootswap_manifest_fault {
 enum bootswap_upload_fault {
     BOOTSWAP_OLD_SEQUENCE = 1,     /* a manifest of a higher sequence number was accepted */
     BOOTSWAP_TOO_BIG = 2,          /* an image that is longer than its slot */
-    BOOTSWAP_NO_SESSION = 3,       /* no upload of the image is open */
+    BOOTSWAP_NO_SESSION = 3,       /* no upload of the image is open, or a piece finds that it doesn't match */
     BOOTSWAP_TOO_MUCH = 4,         /* more bytes than the manifest said: the upload is closed */
     BOOTSWAP_SIZE_WRONG = 5,       /* fewer bytes than the manifest said: the upload is closed */
     BOOTSWAP_DIGEST_WRONG = 6,     /* another digest than the manifest said: the upload is closed */
@@ -98,7 +102,11 @@ struct bootswap_setup {
     uint8_t class_id[16]; /* the class of devices, a UUID. No call compares these two with anything. */
 };
 
-/* The state of a device between two calls. All zero is a device that isn't booted. */
+/*
+ * The state of a device between two calls. All zero is a device that isn't booted. If the caller keeps it and the flash
+ * unchanged between two calls, its uploads match the flash at each call. A piece doesn't check that; every other call
+ * does.
+ */
 struct bootswap_kept {
     uint8_t is_booted; /* 1 if it is booted */
     uint8_t unused[3]; /* 0 */
@@ -247,7 +255,18 @@ uint32_t bootswap_accept(const struct bootswap_setup *setup, uint8_t *flash, siz
                          struct bootswap_kept *kept, const struct bootswap_cut *cuts, size_t cuts_count,
                          const struct bootswap_manifest *manifest, struct bootswap_told *told);
 
-/* Adds bytes to the upload of an image. Returns as bootswap_accept. */
+/*
+ * Adds bytes to the upload of an image. Returns as bootswap_accept.
+ *
+ * This call alone doesn't check that the saved uploads match the flash. Before it writes, it checks the upload of its
+ * image: the number of received bytes, the trailer of the slot, and that the range to write is erased. If one of these
+ * doesn't match, it returns BOOTSWAP_REFUSED with BOOTSWAP_NO_SESSION, and nothing changed.
+ *
+ * If the saved uploads don't match the flash, the call may write to erased bytes of the image's secondary slot. On a
+ * flash at rest without a trial the running images and the requests stay the same even then. Nothing is requested of
+ * such uploads: bootswap_finish, bootswap_accept, bootswap_withdraw, bootswap_confirm and bootswap_boot check all of
+ * them, and find a device that isn't booted.
+ */
 uint32_t bootswap_piece(const struct bootswap_setup *setup, uint8_t *flash, size_t flash_length,
                         struct bootswap_kept *kept, const struct bootswap_cut *cuts, size_t cuts_count, uint8_t image,
                         const uint8_t *bytes, size_t bytes_length, struct bootswap_told *told);

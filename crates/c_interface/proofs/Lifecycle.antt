@@ -1,5 +1,6 @@
 -- What the calls of C promise, in terms of the machine.
 use Rattle.std.proofs.Common.{◌≡◌, ◌≤◌, ℕ, List, [], false, Result, Ok, Err, OnOk, ap, refl, sym, arith, inl, inr, ◌∙◌}
+use Rattle.std.proofs.lemmas.Bool.{true≢false}
 use Rattle.flash_model.specs.Chip.{Chip}
 use Rattle.flash_model.specs.declared.error.FlashError.TheVariants as flash
 use Rattle.upload.specs.Sessions.{AllClosed}
@@ -48,7 +49,7 @@ boots_in setup checked old new was is reply number first last is_checked at call
   reply = reply;
   number_is = at;
   steps = λ m held.
-      let next = calls.each held.device held.is_device in
+      let next = calls.each (λ piece. absurd (true≢false (sym piece))) held.device held.is_device in
       let step = next.2 m held.holds in
       (step.0, step.1, record { device = next.0; is_device = next.1; holds = step.2 });
 })

@@ -1,7 +1,7 @@
 -- Laws of a call on a device in bytes, from the old bytes to the new ones.
-use Rattle.std.proofs.Common.{◌≡◌, ℕ, ◌-◌, ◌*◌, ◌/◌, ◌<◌, ◌≤◌, Bool, true, false, List, [], length, slice_index_or, Option, Some, None, Result, refl, sym, ◌∙◌, ap, subst, arith}
+use Rattle.std.proofs.Common.{◌≡◌, ℕ, ◌-◌, ◌*◌, ◌/◌, ◌<◌, ◌≤◌, Bool, true, false, List, [], length, slice_index_or, Option, Some, None, Result, refl, sym, ◌∙◌, ap, subst, arith, ⊎_elim}
 use Rattle.std.proofs.Math.Nat.{div-mul-le_self, le-div_iff_mul-le, mod-eq-sub-div-mul, mul-div_cancel}
-use Rattle.std.proofs.lemmas.Bool.{true≢false}
+use Rattle.std.proofs.lemmas.Bool.{cases_Bool, true≢false}
 use Rattle.std.proofs.lemmas.Option.{none-some}
 use Rattle.common.specs.declared.event.Event.TheVariants as event
 use Rattle.flash_model.specs.Chip.{Chip, Fixed, size_of}
@@ -13,8 +13,9 @@ use Rattle.sector_map.proofs.Parts.{keeps_refl, laid_out_by}
 use Rattle.manifest.specs.declared.identity.Identity.{Identity}
 use Rattle.trailer.specs.declared.kinds.Kind.{Kind}
 use Rattle.upload.specs.View.{view}
-use Rattle.upload.specs.Device.{Machine}
-use Rattle.upload.specs.Sessions.{AllClosed, AllOpenAt, upload_at}
+use Rattle.upload.specs.Device.{DeviceState, Machine}
+use Rattle.upload.specs.Sessions.{AllClosed, AllOpenAt, IsOpenAt, upload_at}
+use Rattle.upload.specs.Steady.{IsSteadyAt}
 use Rattle.upload.specs.declared.sessions.Upload.{Upload}
 use Rattle.machine.specs.Holding.{DeviceView, Holds}
 use Rattle.machine.specs.Intake as device
@@ -32,7 +33,7 @@ use Rattle.c_interface.specs.declared.saved_state.SavedUpload.{SavedUpload}
 use Rattle.c_interface.specs.declared.setup.CheckedSetup.{CheckedSetup}
 use Rattle.c_interface.specs.Calls.{IsCallOf, IsJournaled, IsStepOf, MakesCall, StepsBetween}
 use Rattle.c_interface.specs.Setup.{HasRoom}
-use Rattle.c_interface.specs.SavedState.{IsDeviceOf, IsFlashOf, IsSaved, SavesDevice, SavesUpload, no_row, Booted, NotBooted}
+use Rattle.c_interface.specs.SavedState.{IsDeviceOf, IsFlashOf, IsMatched, IsSaved, IsSavedFor, IsTakenBy, SavesDevice, SavesUpload, is_piece, no_row, Booted, NotBooted}
 use Rattle.c_interface.proofs.Leaving.{leaves_of}
 use Rattle.c_interface.proofs.SameBytes.{SameFlash, SameIfOpen, same_holds, upload_moved, upload_same}
 
@@ -60,11 +61,27 @@ same_refl : (u : Option Upload) → SameIfOpen u u
 same_refl None = tt
 same_refl (Some u) = upload_same u
 
--- open uploads match another flash of the same bytes
+-- the same uploads match another flash of the same bytes
+matched_as : (map : SectorMap) (old new : Chip) → new.bytes ≡ old.bytes → (sessions others : List (Option Upload))
+    → ((i : ℕ) → SameIfOpen (upload_at sessions i) (upload_at others i))
+    → AllOpenAt (view map old) sessions → AllOpenAt (view map new) others
+matched_as map old new same sessions others alike all i upload is = by (upload_at sessions i) refl
+  where
+    same_here : upload_at others i ≡ Some upload → SameIfOpen (upload_at sessions i) (Some upload)
+    same_here e = subst (λ (o : Option Upload). SameIfOpen (upload_at sessions i) o) e (alike i)
+
+    by : (one : Option Upload) → upload_at sessions i ≡ one → IsOpenAt (view map new) i upload
+    by None none = absurd (subst (λ (o : Option Upload). SameIfOpen o (Some upload)) none (same_here is))
+    by (Some one) some =
+        let stands = all i one some in (
+          stands.0,
+          upload_moved map old new same i one upload
+              (subst (λ (o : Option Upload). SameIfOpen o (Some upload)) some (same_here is)) stands.0 stands.1,
+        )
+
 moved : (map : SectorMap) (old new : Chip) → new.bytes ≡ old.bytes → (sessions : List (Option Upload))
     → AllOpenAt (view map old) sessions → AllOpenAt (view map new) sessions
-moved map old new same sessions all i upload is =
-    let stands = all i upload is in (stands.0, upload_moved map old new same i upload upload (upload_same upload) stands.0 stands.1)
+moved map old new same sessions = matched_as map old new same sessions sessions (λ i. same_refl (upload_at sessions i))
 
 -- ---- flashes
 
@@ -111,13 +128,11 @@ booted_same : (map : SectorMap) (bytes : List ℕ) (saved : SavedState) (d e : D
     → IsFlashOf map bytes e.flash → IsSaved map saved d → IsSaved map saved e → e.up ≡ d.up
 booted_same map bytes saved d e first second (Booted on_is was) (Booted also is) = also ∙ sym on_is
 booted_same map bytes saved d e first second (Booted on_is was) (NotBooted off_is closed never) = absurd (never d.sessions (record {
-  booted = was.booted;
-  each = was.each;
+  rows = was.rows;
   stands = moved map d.flash e.flash (second.has ∙ sym first.has) d.sessions was.stands;
 }))
 booted_same map bytes saved d e first second (NotBooted off_is closed never) (Booted on_is is) = absurd (never e.sessions (record {
-  booted = is.booted;
-  each = is.each;
+  rows = is.rows;
   stands = moved map e.flash d.flash (first.has ∙ sym second.has) e.sessions is.stands;
 }))
 booted_same map bytes saved d e first second (NotBooted off_is closed never) (NotBooted also shut nowhere) = also ∙ sym off_is
@@ -178,8 +193,7 @@ saved_after : (map : SectorMap) (bytes : List ℕ) (chip : Chip) (sessions : Lis
 saved_after map bytes chip sessions true saved laid is opens keeps = record {
   flash = flash_powered map bytes chip laid is;
   saved = Booted refl (record {
-    booted = keeps.booted refl;
-    each = keeps.each refl;
+    rows = record { booted = keeps.booted refl; each = keeps.each refl };
     stands = moved map chip (powered chip) refl sessions opens;
   });
 }
@@ -196,6 +210,50 @@ holds_after map chip sessions true laid =
 holds_after map chip sessions false laid =
     same_holds map (seen chip sessions false) (seen (powered chip) [] false) laid (same_powered chip) refl
     (λ on. absurd (true≢false (sym on))) (λ off_is. none_open)
+
+-- the saved uploads match a flash of the bytes after a call
+matched_after : (map : SectorMap) (bytes : List ℕ) (chip : Chip) (sessions : List (Option Upload)) (is_booted : Bool)
+    (saved : SavedState) → chip.bytes ≡ bytes → AllOpenAt (view map chip) sessions → SavesDevice saved sessions is_booted
+    → IsMatched map bytes saved
+matched_after map bytes chip sessions true saved is opens keeps other flash others rows =
+    matched_as map chip other (flash.has ∙ sym is) sessions others
+    (λ i. same_row (slice_index_or saved.uploads i no_row) (upload_at sessions i) (upload_at others i)
+    (keeps.each refl i) (rows.each i)) opens
+matched_after map bytes chip sessions false saved is opens keeps other flash others rows =
+    absurd (zero_one saved.is_booted (ap (λ (k : SavedState). k.is_booted) (keeps.not_booted refl)) rows.booted)
+
+-- ---- the device of a call
+
+-- The uploads that a call takes match the flash, if those of a piece do.
+taken_matches : (call : DeviceCall) (map : SectorMap) (chip : Chip) (saved : SavedState) (sessions : List (Option Upload))
+    → (is_piece call ≡ true → AllOpenAt (view map chip) sessions) → IsTakenBy call map chip saved sessions
+    → AllOpenAt (view map chip) sessions
+taken_matches call map chip saved sessions matches taken = ⊎_elim matches taken.stands (cases_Bool (is_piece call))
+
+-- Then the device of the call is the one that the saved state over the flash is.
+saved_for : (call : DeviceCall) (map : SectorMap) (bytes : List ℕ) (saved : SavedState) (d : DeviceView)
+    → IsFlashOf map bytes d.flash → (is_piece call ≡ true → IsMatched map bytes saved) → IsSavedFor call map saved d
+    → IsSaved map saved d
+saved_for call map bytes saved d flash matches (Booted on_is taken) = Booted on_is (record {
+  rows = taken.rows;
+  stands = taken_matches call map d.flash saved d.sessions (λ piece. matches piece d.flash flash d.sessions taken.rows) taken;
+})
+saved_for call map bytes saved d flash matches (NotBooted off_is closed never) =
+    NotBooted off_is closed (λ sessions was. never sessions (record { rows = was.rows; stands = λ other. was.stands }))
+
+-- the uploads of the device of a call match its flash, except those of a piece
+pub saved_opens : (call : DeviceCall) (map : SectorMap) (saved : SavedState) (d : DeviceView) → IsSavedFor call map saved d
+    → is_piece call ≡ false → AllOpenAt (view map d.flash) d.sessions
+saved_opens call map saved d (Booted on_is taken) other = taken.stands other
+saved_opens call map saved d (NotBooted off_is closed never) other =
+    λ i upload is. absurd (none-some upload (sym (closed i) ∙ is))
+
+-- the uploads of a saved device match its flash
+opens_saved : (map : SectorMap) (saved : SavedState) (d : DeviceView) → IsSaved map saved d
+    → AllOpenAt (view map d.flash) d.sessions
+opens_saved map saved d (Booted on_is is) = is.stands
+opens_saved map saved d (NotBooted off_is closed never) =
+    λ i upload is. absurd (none-some upload (sym (closed i) ∙ is))
 
 -- ---- steps
 
@@ -219,39 +277,66 @@ module _ (setup : device.Setup) (d a b e : DeviceView)
   step_moved (Confirm image) reply step = steps_moved (event.Confirm image) reply step
   step_moved Boot reply step = steps_moved event.Boot reply step
 
+-- a flash at rest holds the same state after a piece
+rests_by : (map : SectorMap) (identity : Identity) (boots : ℕ) (call : DeviceCall) (a b : DeviceView) (reply : Reply)
+    → IsCallOf map identity boots call a b reply → is_piece call ≡ true → (state : DeviceState)
+    → IsSteadyAt (view map a.flash) state → IsSteadyAt (view map b.flash) state
+rests_by map identity boots (Piece image more) a b reply (result, same, is) piece state = is.rests state
+rests_by map identity boots (Accept manifest) a b reply is piece state = absurd (true≢false (sym piece))
+rests_by map identity boots (Finish image) a b reply is piece state = absurd (true≢false (sym piece))
+rests_by map identity boots (Withdraw image) a b reply is piece state = absurd (true≢false (sym piece))
+rests_by map identity boots (Confirm image) a b reply is piece state = absurd (true≢false (sym piece))
+rests_by map identity boots Boot a b reply is piece state = absurd (true≢false (sym piece))
+
 -- a call on one device in these bytes is a step of each device in them
 pub steps_on : (checked : CheckedSetup) (call : DeviceCall) (old new : List ℕ) (was is : SavedState) (before behind : Chip)
     (sessions left : List (Option Upload)) (was_up is_booted : Bool) (reply : Reply)
-    → IsFlashOf checked.map old before → IsSaved checked.map was (seen before sessions was_up)
+    → IsFlashOf checked.map old before → IsSavedFor call checked.map was (seen before sessions was_up)
     → MakesCall checked.map checked.identity checked.boots call (seen before sessions was_up) (seen behind left is_booted) reply
     → behind.bytes ≡ new → SavesDevice is left is_booted → StepsBetween checked call old was new is reply before behind
 steps_on checked call old new was is before behind sessions left was_up is_booted reply flash saved makes bytes keeps =
     record {
-      before = seen before sessions was_up;
+      before = device_before;
       is_first = refl;
       is_before = record { flash = flash; saved = saved };
-      left = seen behind left is_booted;
+      left = device_left;
       is_last = refl;
       is_left = record { laid_out = makes.laid; has = bytes; saves = keeps };
       makes = makes;
-      leaves = leaves_of checked.map checked.identity checked.boots (seen before sessions was_up) (seen behind left is_booted) reply
+      leaves = leaves_of checked.map checked.identity checked.boots device_before device_left reply
           call old new flash.on flash.has bytes makes.is;
-      each = λ device given. (
+      each = λ matches device given. (
         after behind left is_booted,
-        saved_after checked.map new behind left is_booted is makes.laid bytes makes.opens keeps,
-        step_moved (made checked.map checked.identity checked.boots) device (seen before sessions was_up)
-            (seen behind left is_booted) (after behind left is_booted)
-            (saved_holds checked.map old was device (seen before sessions was_up) given (record { flash = flash; saved = saved }))
+        saved_after checked.map new behind left is_booted is makes.laid bytes (opens_left matches) keeps,
+        step_moved (made checked.map checked.identity checked.boots) device device_before device_left
+            (after behind left is_booted)
+            (saved_holds checked.map old was device device_before given
+            (record { flash = flash; saved = strictly matches }))
             (holds_after checked.map behind left is_booted makes.laid) call reply makes.steps,
       );
+      matched = λ matches. matched_after checked.map new behind left is_booted is bytes (opens_left matches) keeps;
+      rests = rests_by checked.map checked.identity checked.boots call device_before device_left reply makes.is;
     }
+  where
+    device_before : DeviceView
+    device_before = seen before sessions was_up
+
+    device_left : DeviceView
+    device_left = seen behind left is_booted
+
+    strictly : (is_piece call ≡ true → IsMatched checked.map old was) → IsSaved checked.map was (seen before sessions was_up)
+    strictly matches = saved_for call checked.map old was (seen before sessions was_up) flash matches saved
+
+    opens_left : (is_piece call ≡ true → IsMatched checked.map old was) → AllOpenAt (view checked.map behind) left
+    opens_left matches = makes.opens (opens_saved checked.map was (seen before sessions was_up) (strictly matches))
 
 -- ---- a call as the function of `boot_core` for it makes it
 
 module _ (map : SectorMap) (identity : Identity) (boots : ℕ) (old new : DeviceView) (reply : Reply)
     (on : old.flash.is_on ≡ true) where
   made_by : (call : DeviceCall) (answered : Reply) → reply ≡ answered → new.flash.fixed ≡ old.flash.fixed
-      → IsLaidOut map new.flash → AllOpenAt (view map new.flash) new.sessions
+      → IsLaidOut map new.flash
+      → (AllOpenAt (view map old.flash) old.sessions → AllOpenAt (view map new.flash) new.sessions)
       → IsStepOf (made map identity boots) call old new answered → IsJournaled map call old.flash new.flash
       → IsCallOf map identity boots call old new reply
       → MakesCall map identity boots call old new reply
@@ -267,7 +352,7 @@ module _ (map : SectorMap) (identity : Identity) (boots : ℕ) (old new : Device
   call_made : (call : DeviceCall) → IsCallOf map identity boots call old new reply
       → MakesCall map identity boots call old new reply
   call_made (Accept manifest) (result, same, is) =
-      made_by (Accept manifest) (reply_of_result result) same is.outside.fixed is.laid is.opens
+      made_by (Accept manifest) (reply_of_result result) same is.outside.fixed is.laid (λ was. is.opens)
       (λ text means. is.steps boots text on means, is.holds on) is.journal (result, same, is)
   call_made (Piece image more) (result, same, is) =
       made_by (Piece image more) (reply_of_result result) same is.outside.fixed is.laid is.opens
@@ -283,7 +368,7 @@ module _ (map : SectorMap) (identity : Identity) (boots : ℕ) (old new : Device
       (is.steps identity boots on) is.journal (result, same, is)
   call_made Boot (left, count, result, same, is) =
       made_by Boot (reply_of_boot result) same (is.on_map old.flash (keeps_refl map any_part old.flash)).fixed is.laid
-      is.opens (subst (λ n. StepsTo (made map identity n) old new event.Boot (reply_of_boot result)) count (is.steps identity on))
+      (λ was. is.opens) (subst (λ n. StepsTo (made map identity n) old new event.Boot (reply_of_boot result)) count (is.steps identity on))
       tt (left, count, result, same, is)
 
 -- a call by another name of it
@@ -301,13 +386,6 @@ pub makes_boot : (map : SectorMap) (identity : Identity) (boots : ℕ) (call : D
     → MakesCall map identity boots call old new reply
 makes_boot map identity boots call old new reply result some is same on all =
     makes map identity boots call Boot old new reply is on (boots - 1, omega (arith, some), result, same, all)
-
--- the uploads of a saved device match its flash
-pub saved_opens : (map : SectorMap) (saved : SavedState) (d : DeviceView) → IsSaved map saved d
-    → AllOpenAt (view map d.flash) d.sessions
-saved_opens map saved d (Booted on_is is) = is.stands
-saved_opens map saved d (NotBooted off_is closed never) =
-    λ i upload is. absurd (none-some upload (sym (closed i) ∙ is))
 
 -- a flash over borrowed bytes that was just made
 pub borrowed_flash : (map : SectorMap) (bytes : List ℕ) (chip : Chip) (fixed : Fixed) → IsMap map → HasRoom map bytes

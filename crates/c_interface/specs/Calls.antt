@@ -1,14 +1,15 @@
 -- What a call does to a device, and to the bytes that hold it.
-use Rattle.std.specs.Prelude.{◌≡◌, ◌⊎◌, ℕ, ◌+◌, ◌<◌, ◌≤◌, List, length, slice_index, Result}
+use Rattle.std.specs.Prelude.{◌≡◌, ◌⊎◌, ℕ, ◌+◌, ◌<◌, ◌≤◌, true, List, length, slice_index, Result}
 use Rattle.std.specs.Borrow.{Bor}
 use Rattle.common.specs.declared.event.Event.TheVariants as event
 use Rattle.flash_model.specs.Chip.{Chip, Fixed}
 use Rattle.sector_map.specs.declared.layout.SectorMap.{SectorMap}
-use Rattle.sector_map.specs.declared.layout.Side.TheVariants.{Secondary}
 use Rattle.sector_map.specs.Map.{IsLaidOut, end_of_map}
-use Rattle.sector_map.specs.Part.{Slot, incoming_of, only}
+use Rattle.sector_map.specs.Part.{incoming_of}
 use Rattle.manifest.specs.declared.identity.Identity.{Identity}
 use Rattle.manifest.specs.Fault.{IsManifest}
+use Rattle.upload.specs.Device.{DeviceState}
+use Rattle.upload.specs.Steady.{IsSteadyAt}
 use Rattle.upload.specs.View.{view}
 use Rattle.upload.specs.Sessions.{AllOpenAt}
 use Rattle.upload.specs.Wear.{journal_of_components}
@@ -21,7 +22,7 @@ use Rattle.machine.specs.declared.reply.Reply.TheVariants.{Refused}
 use Rattle.boot_core.specs.Answers.{reply_of_boot, reply_of_result}
 use Rattle.boot_core.specs.Booting.{EndsUploadsAndBoots}
 use Rattle.boot_core.specs.Device.{StaysHeld, made}
-use Rattle.boot_core.specs.Taking.{ConfirmsHere, FinishesHere, TakesHere, TakesManifestHere}
+use Rattle.boot_core.specs.Taking.{ConfirmsHere, FinishesHere, TakesHere, TakesManifestHere, TakesPieceHere}
 use Rattle.c_interface.specs.declared.dispatch.DeviceCall.{DeviceCall}
 use Rattle.c_interface.specs.declared.dispatch.DeviceCall.TheVariants.{Accept, Piece, Finish, Withdraw, Confirm, Boot}
 use Rattle.c_interface.specs.declared.cuts.CutRow.{CutRow}
@@ -29,7 +30,7 @@ use Rattle.c_interface.specs.declared.saved_state.SavedState.{SavedState}
 use Rattle.c_interface.specs.declared.setup.CheckedSetup.{CheckedSetup}
 use Rattle.c_interface.specs.declared.setup.Setup.{Setup}
 use Rattle.c_interface.specs.Cuts.{IsCutAsAsked, WritesAsAsked, asked_by}
-use Rattle.c_interface.specs.SavedState.{IsDeviceOf, IsLeftIn}
+use Rattle.c_interface.specs.SavedState.{IsDeviceFor, IsDeviceOf, IsLeftIn, IsMatched, is_piece}
 use Rattle.c_interface.specs.Numbers.{MOST_CUTS, TOO_MANY}
 use Rattle.c_interface.specs.Setup.{IsCheckedSetup, IsRefusedSetup}
 
@@ -64,7 +65,7 @@ abbrev pub IsCallOf : SectorMap → Identity → ℕ → DeviceCall → DeviceVi
 IsCallOf map identity boots (Accept manifest) old new reply =
     HasResult reply (TakesManifestHere map identity manifest.now old new)
 IsCallOf map identity boots (Piece image more) old new reply =
-    HasResult reply (TakesHere map (event.Piece image more) (only (Slot image Secondary)) old new)
+    HasResult reply (TakesPieceHere map image more old new)
 IsCallOf map identity boots (Finish image) old new reply =
     HasResult reply (FinishesHere map image old new)
 IsCallOf map identity boots (Withdraw image) old new reply =
@@ -96,8 +97,9 @@ pub record MakesCall (map : SectorMap) (identity : Identity) (boots : ℕ) (call
   pub fixed : new.flash.fixed ≡ old.flash.fixed
   -- The map is still laid out on the flash.
   pub laid : IsLaidOut map new.flash
-  -- The open uploads match the flash.
-  pub opens : AllOpenAt (view map new.flash) new.sessions
+  -- If the open uploads matched the flash, they still do.
+  pub opens : AllOpenAt (view map old.flash) old.sessions
+      → AllOpenAt (view map new.flash) new.sessions
   -- The call is a step of the machine.
   pub steps : IsStepOf (made map identity boots) call old new reply
   -- The call asks a journal for no more bytes than its bound.
@@ -127,7 +129,7 @@ pub record StepsBetween (checked : CheckedSetup) (call : DeviceCall) (old : List
   -- The call is made on a device in the old bytes. Its flash has power.
   pub before : DeviceView
   pub is_first : before.flash ≡ first
-  pub is_before : IsDeviceOf checked.map old was before
+  pub is_before : IsDeviceFor call checked.map old was before
   -- It leaves a device in the new bytes. Its flash may be off if power failed.
   pub left : DeviceView
   pub is_last : left.flash ≡ last
@@ -136,10 +138,18 @@ pub record StepsBetween (checked : CheckedSetup) (call : DeviceCall) (old : List
   pub makes : MakesCall checked.map checked.identity checked.boots call before left reply
   pub leaves : LeavesBytes checked.map call old new reply
   -- From each device in the old bytes the call is a step to a device in the new bytes. The flash of
-  -- the latter has power, also after a power cut.
-  pub each : (device : DeviceView) → IsDeviceOf checked.map old was device
+  -- the latter has power, also after a power cut. For a piece this holds if the saved uploads match
+  -- the old bytes.
+  pub each : (is_piece call ≡ true → IsMatched checked.map old was)
+      → (device : DeviceView) → IsDeviceOf checked.map old was device
       → (next : DeviceView) × IsDeviceOf checked.map new is next
       × IsStepOf (made checked.map checked.identity checked.boots) call device next reply
+  -- Afterwards the saved uploads match the new bytes. For a piece this holds if they did before.
+  pub matched : (is_piece call ≡ true → IsMatched checked.map old was)
+      → IsMatched checked.map new is
+  -- After a piece a flash at rest without a trial holds the same state, whatever was saved.
+  pub rests : is_piece call ≡ true → (state : DeviceState)
+      → IsSteadyAt (view checked.map first) state → IsSteadyAt (view checked.map last) state
 
 -- A call is made on the device in the caller's bytes, with cuts for some of its writes. It makes
 -- this number of writes.

@@ -10,6 +10,8 @@ use Rattle.upload.specs.View.{view}
 use Rattle.upload.specs.Sessions.{AllClosed, AllOpenAt, upload_at}
 use Rattle.upload.specs.declared.sessions.Upload.{Upload}
 use Rattle.machine.specs.Holding.{DeviceView}
+use Rattle.c_interface.specs.declared.dispatch.DeviceCall.{DeviceCall}
+use Rattle.c_interface.specs.declared.dispatch.DeviceCall.TheVariants.{Piece}
 use Rattle.c_interface.specs.declared.saved_state.SavedState.{SavedState}
 use Rattle.c_interface.specs.declared.saved_state.SavedUpload.{SavedUpload}
 
@@ -51,21 +53,49 @@ abbrev pub SaveUploads : List SavedUpload → List (Option Upload) → Type 0
 SaveUploads rows sessions =
     (i : ℕ) → SavesUpload (slice_index_or rows i no_row) (upload_at sessions i)
 
+-- The saved state is a booted device with these uploads. They may not match the flash.
+pub record IsSavedWith (saved : SavedState) (sessions : List (Option Upload)) : Type 0 where
+  pub booted : saved.is_booted ≡ 1
+  pub each : SaveUploads saved.uploads sessions
+
 -- The saved state is a booted device with these uploads, and they match the flash.
 pub record IsSavedBooted (map : SectorMap) (chip : Chip) (saved : SavedState)
     (sessions : List (Option Upload)) : Type 0 where
-  pub booted : saved.is_booted ≡ 1
-  pub each : SaveUploads saved.uploads sessions
+  pub rows : IsSavedWith saved sessions
+  pub open rows use *
   pub stands : AllOpenAt (view map chip) sessions
 
--- The saved state over a flash restores this device: a booted one with the saved uploads, if they
--- match the flash; else one that isn't booted and has no uploads.
-pub data IsSaved (map : SectorMap) (saved : SavedState) (device : DeviceView) : Type 0 where
-  Booted : device.up ≡ true → IsSavedBooted map device.flash saved device.sessions
-      → IsSaved map saved device
+-- Whether a call adds bytes to an upload.
+abbrev pub is_piece : DeviceCall → Bool
+is_piece (Piece image more) = true
+is_piece other = false
+
+-- A call takes these uploads from the saved state of a booted device. They match the flash, unless
+-- the call is a piece: it takes them unchecked.
+pub record IsTakenBy (call : DeviceCall) (map : SectorMap) (chip : Chip) (saved : SavedState)
+    (sessions : List (Option Upload)) : Type 0 where
+  pub rows : IsSavedWith saved sessions
+  pub open rows use *
+  pub stands : is_piece call ≡ false → AllOpenAt (view map chip) sessions
+
+-- The device that a saved state restores, if these uploads may be taken from it: a booted one with
+-- such uploads; or one that isn't booted and has no uploads, if there are none to take.
+pub data IsRestored (may_take : List (Option Upload) → Type 0) (device : DeviceView)
+    : Type 0 where
+  Booted : device.up ≡ true → may_take device.sessions → IsRestored may_take device
   NotBooted : device.up ≡ false → AllClosed device.sessions
-      → ((sessions : List (Option Upload)) → IsSavedBooted map device.flash saved sessions → ⊥)
-      → IsSaved map saved device
+      → ((sessions : List (Option Upload)) → may_take sessions → ⊥)
+      → IsRestored may_take device
+
+-- The saved state over a flash is this device: a booted one with the saved uploads, if they match
+-- the flash; else one that isn't booted and has no uploads.
+abbrev pub IsSaved : SectorMap → SavedState → DeviceView → Type 0
+IsSaved map saved device = IsRestored (IsSavedBooted map device.flash saved) device
+
+-- A call is made on this device. It is the one that the saved state over the flash is, unless the
+-- call is a piece: then the device is booted even if the saved uploads don't match the flash.
+abbrev pub IsSavedFor : DeviceCall → SectorMap → SavedState → DeviceView → Type 0
+IsSavedFor call map saved device = IsRestored (IsTakenBy call map device.flash saved) device
 
 -- A flash with power that has these bytes, in sectors of the map's size.
 pub record IsFlashOf (map : SectorMap) (bytes : List ℕ) (chip : Chip) : Type 0 where
@@ -78,6 +108,18 @@ pub record IsDeviceOf (map : SectorMap) (bytes : List ℕ) (state : SavedState) 
     : Type 0 where
   pub flash : IsFlashOf map bytes device.flash
   pub saved : IsSaved map state device
+
+-- Bytes and a saved state are the device on which a call is made.
+pub record IsDeviceFor (call : DeviceCall) (map : SectorMap) (bytes : List ℕ) (state : SavedState)
+    (device : DeviceView) : Type 0 where
+  pub flash : IsFlashOf map bytes device.flash
+  pub saved : IsSavedFor call map state device
+
+-- If the saved state is a booted device, its uploads match the flash of these bytes.
+abbrev pub IsMatched : SectorMap → List ℕ → SavedState → Type 0
+IsMatched map bytes saved =
+    (chip : Chip) → IsFlashOf map bytes chip → (sessions : List (Option Upload))
+    → IsSavedWith saved sessions → AllOpenAt (view map chip) sessions
 
 -- The saved state of a device that isn't booted: all zero.
 abbrev pub no_device : SavedState

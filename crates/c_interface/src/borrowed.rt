@@ -8,11 +8,11 @@ ghost use Rattle.slice_flash.specs.Rows.{fixed_by};
 ghost use Rattle.upload.specs.declared.sessions.Upload.{Upload};
 ghost use Rattle.c_interface.specs.Calls.{CallsOn, IsJournaled, IsRefusedBefore, StepsBetween};
 ghost use Rattle.c_interface.specs.Calls.{StepsOn};
-ghost use Rattle.c_interface.specs.SavedState.{IsSaved, IsSavedBooted, SavesDevice};
+ghost use Rattle.c_interface.specs.SavedState.{IsSavedFor, IsSavedWith, IsTakenBy, SavesDevice};
 ghost use Rattle.c_interface.specs.Setup.{HasRoom, IsTrial};
 
 use crate::cuts::{CutRow, MOST_CUTS, table_of};
-use crate::dispatch::{DeviceCall, dispatch};
+use crate::dispatch::{DeviceCall, dispatch, is_piece};
 use crate::numbers::TOO_MANY;
 use crate::saved_state::{NOT_BOOTED, SavedState, load_uploads, upload_rows};
 use crate::setup::{CheckedSetup, Setup, check_setup};
@@ -38,35 +38,60 @@ pub(crate) struct CallOutcome {
     pub(crate) writes: u64,
 }
 
-/// The saved uploads, if the saved state is a booted device and the uploads match the flash.
-fn valid_uploads<F: Flash>(flash: &mut F, map: &SectorMap, saved: &SavedState) -> Option<Uploads>
-    requires laid_out { IsLaidOut map.now (F.chip flash.old) }
-    requires on { (F.chip flash.old).is_on ≡ true }
-    ensures same { F.chip flash.new ≡ F.chip flash.old }
-    ensures some { IfSome result (λ uploads.
-        IsSavedBooted map.now (F.chip flash.old) saved.now uploads.sessions) }
+/// The saved uploads, if the saved state is a booted device. They may not match the flash.
+fn saved_uploads(saved: &SavedState) -> Option<Uploads>
+    ensures some { IfSome result (λ uploads. IsSavedWith saved.now uploads.sessions) }
     ensures none { result ≡ None → (sessions : List (Option Upload))
-        → IsSavedBooted map.now (F.chip flash.old) saved.now sessions → ⊥ }
+        → IsSavedWith saved.now sessions → ⊥ }
 {
     if saved.is_booted != 1 {
         return None;
     }
-    let uploads = load_uploads(&saved.uploads)?;
+    load_uploads(&saved.uploads)
+}
+
+/// The uploads that a call takes from a saved state, if that is a booted device. They have to match
+/// the flash. To check that, their slots are read, which would make an upload in many pieces slow.
+/// So a piece takes the uploads unchecked: `boot_core` checks the range that it writes.
+fn uploads_for<F: Flash>(
+    flash: &mut F,
+    map: &SectorMap,
+    saved: &SavedState,
+    call: &DeviceCall<'_>,
+) -> Option<Uploads>
+    requires laid_out { IsLaidOut map.now (F.chip flash.old) }
+    requires on { (F.chip flash.old).is_on ≡ true }
+    ensures same { F.chip flash.new ≡ F.chip flash.old }
+    ensures some { IfSome result (λ uploads.
+        IsTakenBy call.now map.now (F.chip flash.old) saved.now uploads.sessions) }
+    ensures none { result ≡ None → (sessions : List (Option Upload))
+        → IsTakenBy call.now map.now (F.chip flash.old) saved.now sessions → ⊥ }
+{
+    let uploads = saved_uploads(saved)?;
+    if is_piece(call) {
+        return Some(uploads);
+    }
     match uploads.stand(flash, map) {
         Ok(true) => Some(uploads),
         _ => None,
     }
 }
 
-/// The state that was saved, or that of a device that isn't booted if the saved state isn't valid.
-fn restore<F: Flash>(flash: &mut F, map: &SectorMap, saved: &SavedState) -> VolatileState
+/// The state of the device on which a call is made: booted, with the uploads that the call takes
+/// from the saved state, or not booted if it takes none.
+fn restore<F: Flash>(
+    flash: &mut F,
+    map: &SectorMap,
+    saved: &SavedState,
+    call: &DeviceCall<'_>,
+) -> VolatileState
     requires laid_out { IsLaidOut map.now (F.chip flash.old) }
     requires on { (F.chip flash.old).is_on ≡ true }
     ensures same { F.chip flash.new ≡ F.chip flash.old }
-    ensures restored { IsSaved map.now saved.now
+    ensures restored { IsSavedFor call.now map.now saved.now
         (seen (F.chip flash.old) result.uploads.sessions result.is_booted) }
 {
-    match valid_uploads(flash, map, saved) {
+    match uploads_for(flash, map, saved, call) {
         Some(uploads) => VolatileState {
             uploads,
             is_booted: true,
@@ -111,7 +136,7 @@ pub(crate) fn resume_and_run<F: Flash>(
     ensures steps { StepsBetween checked.now call.now (F.chip flash.old).bytes saved.old
         (F.chip flash.new).bytes saved.new result (F.chip flash.old) (F.chip flash.new) }
 {
-    let mut state = restore(flash, &checked.map, saved);
+    let mut state = restore(flash, &checked.map, saved, call);
     let reply = dispatch(
         flash,
         &checked.map,

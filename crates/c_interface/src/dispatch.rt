@@ -1,11 +1,12 @@
 //! The calls of a device, and the function of `boot_core` that carries each out.
 
-ghost use Rattle.std.specs.Prelude.{◌≡◌, true};
+ghost use Rattle.std.specs.Prelude.{◌≡◌, false, true};
 ghost use Rattle.boot_core.specs.Device.{seen};
 ghost use Rattle.sector_map.specs.Map.{IsLaidOut};
 ghost use Rattle.upload.specs.Sessions.{AllOpenAt};
 ghost use Rattle.upload.specs.View.{view};
 ghost use Rattle.c_interface.specs.Calls.{MakesCall};
+ghost use Rattle.c_interface.specs.SavedState.{is_piece};
 ghost use Rattle.c_interface.specs.Setup.{IsTrial};
 
 use boot_core::apart::{
@@ -34,6 +35,13 @@ pub(crate) enum DeviceCall<'a> {
     Boot,
 }
 
+/// Whether a call adds bytes to an upload.
+pub(crate) fn is_piece(call: &DeviceCall<'_>) -> bool
+    ensures { result ≡ is_piece call.now }
+{
+    matches!(call, DeviceCall::Piece(..))
+}
+
 /// Passes a call to the function of `boot_core` that carries it out. The flash has power.
 pub(crate) fn dispatch<F: Flash>(
     flash: &mut F,
@@ -46,7 +54,8 @@ pub(crate) fn dispatch<F: Flash>(
 ) -> Reply
     requires laid_out { IsLaidOut map.now (F.chip flash.old) }
     requires images { identity.now.images ≡ map.now.images }
-    requires opens { AllOpenAt (view map.now (F.chip flash.old)) uploads.old.sessions }
+    requires opens { is_piece call.now ≡ false
+        → AllOpenAt (view map.now (F.chip flash.old)) uploads.old.sessions }
     requires trial { IsTrial boots }
     requires on { (F.chip flash.old).is_on ≡ true }
     ensures { MakesCall map.now identity.now boots call.now

@@ -106,6 +106,12 @@ pub extern "C" fn bootswap_accept(
 /// Adds bytes to the upload of an image, after those that were received before. Images are numbered
 /// from 0.
 ///
+/// The saved uploads are taken without a check that they match the flash, which every other call
+/// makes. Before it writes, the call checks only the number of received bytes, the trailer of the
+/// slot, and that the range to write is erased. If one of these doesn't match, the piece is refused
+/// with `NoSession`. Whatever was saved, a flash at rest without a trial holds the same state
+/// afterwards, and `bootswap_finish` requests nothing of an upload that doesn't match.
+///
 /// Returns `DONE`, `REFUSED`, `CUT`, or why no call was made: then nothing changed.
 #[unsafe(no_mangle)]
 pub extern "C" fn bootswap_piece(

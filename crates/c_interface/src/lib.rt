@@ -1,7 +1,7 @@
 //! A static library for C: a device in its caller's memory, for simulators, servers and tests.
 //!
 //! - Promises: Each call from C is one step of the machine over whole images, from what the
-//!   caller's bytes hold to what they hold then.
+//!   caller's bytes hold to what they hold then; a piece if the saved uploads match the flash.
 //! - Main calls: `bootswap_boot`, `bootswap_accept`, `bootswap_piece`, `bootswap_finish`,
 //!   `bootswap_withdraw`, `bootswap_confirm`, `bootswap_provision`, `bootswap_slot`,
 //!   `bootswap_state`, `bootswap_describe`, `bootswap_choose`, `bootswap_check`; and with a journal
@@ -18,8 +18,10 @@
 //!
 //! The state of a device between two calls is in the caller's memory too. The next call reads what
 //! the last one wrote there. Bytes that aren't a valid state, or whose uploads don't match the
-//! flash, are a device that isn't booted. Each call returns, on any contents. The caller guarantees
-//! the lengths, and that a buffer that is written overlaps no other.
+//! flash, are a device that isn't booted. A piece doesn't check that its uploads match, so an upload
+//! may come in many pieces. A flash at rest holds the same state after a piece, even if they don't
+//! match. The next call of another kind finds that. Each call returns, on any contents. The caller
+//! guarantees the lengths, and that a buffer that is written overlaps no other.
 //!
 //! The flash is bytes in memory: this library doesn't call a flash driver in C. The calls with a
 //! journal record each of their writes there, so that their caller can make the same writes on a

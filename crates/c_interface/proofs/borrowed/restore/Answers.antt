@@ -3,4 +3,4 @@ use Rattle.c_interface.specs.SavedState.{NotBooted}
 use Rattle.c_interface.proofs.borrowed.restore.Goals as goal
 
 pub returns-in-None-clause-restored : goal.returns-in-None-clause-restored
-returns-in-None-clause-restored g c = NotBooted refl (search rules) (c.valid_uploads.ensures.none c.in-None.is)
+returns-in-None-clause-restored g c = NotBooted refl (search rules) (c.uploads_for.ensures.none c.in-None.is)

@@ -11,12 +11,12 @@ use Rattle.c_interface.proofs.StepLaws.{saved_opens, steps_on}
 use Rattle.c_interface.proofs.borrowed.resume_and_run.Goals as goal
 
 pub dispatch-reply-requires-clause-opens : goal.dispatch-reply-requires-clause-opens
-dispatch-reply-requires-clause-opens g c =
+dispatch-reply-requires-clause-opens g c other =
     subst (λ (chip : Chip). AllOpenAt (view c.args.checked.now.map chip) c.restore-state.result.uploads.sessions)
     (sym c.restore-state.ensures.same)
-    (saved_opens c.args.checked.now.map c.args.saved.now
+    (saved_opens c.args.call.now c.args.checked.now.map c.args.saved.now
     (seen (g.F.Flash.chip c.args.flash.now) c.restore-state.result.uploads.sessions c.restore-state.result.is_booted)
-    c.restore-state.ensures.restored)
+    c.restore-state.ensures.restored other)
 
 pub returns-clause-cuts : goal.returns-clause-cuts
 returns-clause-cuts g c =

@@ -1,8 +1,21 @@
 use Rattle.std.proofs.Common.{sym, ◌∙◌, ap}
 use Rattle.boot_core.specs.Answers.{reply_of_boot}
 use Rattle.c_interface.specs.declared.dispatch.DeviceCall.TheVariants.{Accept, Piece, Finish, Withdraw, Confirm}
+use Rattle.c_interface.specs.SavedState.{is_piece}
 use Rattle.c_interface.proofs.StepLaws.{makes, makes_boot}
 use Rattle.c_interface.proofs.dispatch.dispatch.Goals as goal
+
+pub accept_manifest-requires-clause-opens : goal.accept_manifest-requires-clause-opens
+accept_manifest-requires-clause-opens g c = c.requires.opens (ap is_piece c.in-Accept.is)
+
+pub finish-requires-clause-opens : goal.finish-requires-clause-opens
+finish-requires-clause-opens g c = c.requires.opens (ap is_piece c.in-Finish.is)
+
+pub withdraw-requires-clause-opens : goal.withdraw-requires-clause-opens
+withdraw-requires-clause-opens g c = c.requires.opens (ap is_piece c.in-Withdraw.is)
+
+pub confirm_on-requires-clause-opens : goal.confirm_on-requires-clause-opens
+confirm_on-requires-clause-opens g c = c.requires.opens (ap is_piece c.in-Confirm.is)
 
 pub returns-in-Accept : goal.returns-in-Accept
 returns-in-Accept g c = makes _ _ _ _ (Accept c.in-Accept.manifest) _ _ _ c.in-Accept.is c.requires.on
