@@ -1,5 +1,5 @@
-//! A test of uploads on a flash that has three sectors more than its map: the bytes after the map
-//! don't change.
+//! Tests of uploads on a flash that has three sectors more than its map: the bytes after the map
+//! don't change, and a piece of a saved upload is refused if the flash isn't as the upload needs it.
 //!
 //! The map has 16 sectors of 512 bytes, for two images of two sectors. The secondary slots begin at
 //! the addresses 3072 and 4608, and no image runs.
@@ -22,7 +22,8 @@ use std::marker::Brand;
 use std::process::Abort;
 use std::sync::ledger::{Blank, Ledger};
 use std::test::Fail;
-use upload::{UploadError, Uploads};
+use trailer::Kind;
+use upload::{Upload, UploadError, Uploads};
 
 /// The bytes after the map's sectors.
 const MORE: [u8; 1536] = [0xa5; 1536];
@@ -191,4 +192,63 @@ fn uploaded<L: Ledger>(rt: &(impl Abort + AllocGlobal), blank: Blank) -> Result<
 #[test]
 fn uploads_change_nothing_behind_the_map(rt: HostRuntime) -> Result<(), Fail> {
     uploaded::<Brand>(&rt, Blank::new(2))
+}
+
+/// A table with one upload, of 512 bytes for an image, as a caller may have saved it.
+fn saved(rt: &impl Abort, image: usize, received: u32) -> Uploads {
+    let mut uploads = Uploads::new();
+    assert!(rt; image < uploads.sessions.len());
+    uploads.sessions[image] = Some(Upload {
+        size: 512,
+        digest: FIRST_DIGEST,
+        kind: Kind::Test,
+        received,
+        held: ArrayVec::new(),
+    });
+    uploads
+}
+
+/// Passes the first unit of FIRST to saved uploads, most of which don't match the flash.
+fn resumed<L: Ledger>(rt: &(impl Abort + AllocGlobal), blank: Blank) -> Result<(), Fail>
+    requires name { blank.name ≡ L.name }
+    requires parts { blank.parts ≡ L.parts }
+    requires two { L.parts ≡ 2 }
+{
+    let map = SectorMap::new(512, &[2, 2])?;
+    let mut flash = begun::<L>(rt, blank, &map)?;
+    let mut uploads = Uploads::new();
+    let both = manifest_of(4, files(96))?;
+    let steps = [
+        (Step::Accept(&both), DONE),
+        (Step::Piece(0, &FIRST[..48]), DONE),
+        (Step::Piece(1, &SECOND), DONE),
+        (Step::Finish(1), DONE),
+    ];
+    play(rt, &mut uploads, &mut flash, &map, &steps)?;
+    let cases = [
+        // The unit is written already.
+        (0, 40, Err(UploadError::NoSession)),
+        // The received bytes aren't complete units, and none is held.
+        (0, 50, Err(UploadError::NoSession)),
+        // More bytes come, or came before, than the file has.
+        (0, 505, Err(UploadError::TooMuch)),
+        (0, 600, Err(UploadError::TooMuch)),
+        // The unit is erased, but the image is requested.
+        (1, 104, Err(UploadError::NoSession)),
+        // The unit is erased. The call doesn't read the bytes before it and after it.
+        (0, 64, DONE),
+        (0, 48, DONE),
+    ];
+    for (image, received, expected) in cases {
+        assert!(rt; map.fits(&flash));
+        let mut uploads = saved(rt, image, received);
+        let answer = uploads.piece(&mut flash, &map, image as u8, &FIRST[..8]);
+        assert!(rt; answer == expected);
+    }
+    Ok(())
+}
+
+#[test]
+fn a_piece_of_an_upload_that_does_not_match_is_refused(rt: HostRuntime) -> Result<(), Fail> {
+    resumed::<Brand>(&rt, Blank::new(2))
 }
