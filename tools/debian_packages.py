@@ -51,6 +51,22 @@ OVERRIDES = """# The program and its library are one package.
 bootswap: package-name-doesnt-match-sonames
 """
 
+# Python's own tools compile the module, and remove what is compiled of it, also by programs that root ran.
+SCRIPTS = {
+    "postinst": """#!/bin/sh
+set -e
+if [ "$1" = configure ] && command -v py3compile > /dev/null; then
+    py3compile -p python3-bootswap
+fi
+""",
+    "prerm": """#!/bin/sh
+set -e
+if command -v py3clean > /dev/null; then
+    py3clean -p python3-bootswap
+fi
+""",
+}
+
 ABOUT = {
     "bootswap": """bootloader core and updater for devices with several images
  Upgrades, tries and reverts images that depend on each other as one
@@ -155,6 +171,9 @@ def seal(top, package):
     if any(it.place.startswith(f"{LIBRARIES}/libbootswap.so.") for it in package.files):
         write(f"{top}/DEBIAN/triggers", "activate-noawait ldconfig\n")
         write(f"{top}/DEBIAN/shlibs", f"libbootswap {major()} {package.name} (= {version()})\n")
+    for name, text in SCRIPTS.items() if package.name == "python3-bootswap" else ():
+        write(f"{top}/DEBIAN/{name}", text)
+        os.chmod(f"{top}/DEBIAN/{name}", 0o755)
     for at, _, _ in os.walk(top):
         os.chmod(at, 0o755)
 
