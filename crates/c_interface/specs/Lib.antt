@@ -6,7 +6,6 @@ pub mod Calls
 pub mod CallResult
 pub mod Sinks
 pub mod Texts
-pub mod Manifests
 pub mod Answers
 pub mod Provisioning
 pub mod Recording

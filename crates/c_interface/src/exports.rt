@@ -9,11 +9,11 @@ use crate::borrowed::{CallOutcome, call_device};
 use crate::call_result::{CallResult, NO_RESULT, number_of, result_of};
 use crate::cuts::CutRow;
 use crate::dispatch::DeviceCall;
-use crate::manifests::{ManifestRow, manifest_in};
 use crate::numbers::TOO_MANY;
 use crate::saved_state::{NOT_BOOTED, SavedState};
 use crate::setup::Setup;
 use crate::texts::{NO_TEXTS, put_texts};
+use manifest_rows::{ManifestRow, manifest_in};
 
 /// Makes a call on the device of a setup, reports its outcome, and returns the number of its reply.
 fn call_and_report(

@@ -10,12 +10,12 @@ ghost use Rattle.c_interface.specs.declared.dispatch.DeviceCall.TheVariants as c
 
 use crate::call_result::{CallResult, NO_RESULT, number_of, recorded_result_of};
 use crate::dispatch::DeviceCall;
-use crate::manifests::{ManifestRow, manifest_in};
 use crate::numbers::TOO_MANY;
 use crate::recording::{RecordedOutcome, record_device, record_provision};
 use crate::saved_state::SavedState;
 use crate::setup::Setup;
 use crate::texts::{NO_TEXTS, put_texts};
+use manifest_rows::{ManifestRow, manifest_in};
 
 /// Makes a call on the device of a setup, records its writes, reports its outcome, and returns the
 /// number of its reply.

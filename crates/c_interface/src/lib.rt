@@ -37,7 +37,6 @@ mod description;
 mod dispatch;
 mod exports;
 mod journal_exports;
-mod manifests;
 mod numbers;
 mod provisioning;
 mod recording;

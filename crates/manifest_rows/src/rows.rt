@@ -1,7 +1,8 @@
-//! Manifests that C gives by their fields.
+//! Manifests by their fields.
 
 ghost use Rattle.std.specs.Prelude.{◌≡◌, ◌<◌, ◌≤◌, IfSome, None, length, map};
-ghost use Rattle.c_interface.specs.Manifests.{IsManifestOf, component_in};
+ghost use Rattle.common.specs.Limits.{MOST_COMPONENTS};
+ghost use Rattle.manifest_rows.specs.Rows.{IsManifestOf, IsRowOf, component_in, component_row};
 
 use arrayvec::ArrayVec;
 use manifest::{Component, MOST_COMPONENTS, Manifest};
@@ -38,6 +39,17 @@ pub struct ManifestRow {
     pub components: [ComponentRow; MOST_COMPONENTS],
 }
 
+/// No component: all zero.
+const NO_COMPONENT: ComponentRow = ComponentRow {
+    size: 0,
+    image: 0,
+    is_permanent: 0,
+    has_precursor: 0,
+    unused: 0,
+    digest: [0; 32],
+    precursor: [0; 32],
+};
+
 /// A component of a row.
 fn component_in(row: &ComponentRow) -> Component
     ensures { result ≡ component_in row.now }
@@ -68,8 +80,8 @@ fn components_in(rows: &[ComponentRow]) -> ArrayVec<Component, MOST_COMPONENTS>
     components
 }
 
-/// The manifest of a row, unless it has too many components.
-pub(crate) fn manifest_in(row: &ManifestRow) -> Option<Manifest>
+/// Returns the manifest of a row, or `None` if it has more than 8 components. Does not allocate.
+pub fn manifest_in(row: &ManifestRow) -> Option<Manifest>
     ensures some { IfSome result (IsManifestOf row.now) }
     ensures none { result ≡ None → MOST_COMPONENTS < row.now.count }
 {
@@ -81,4 +93,36 @@ pub(crate) fn manifest_in(row: &ManifestRow) -> Option<Manifest>
         sequence: row.sequence,
         components: components_in(&row.components[..count]),
     })
+}
+
+/// The row of a component.
+fn component_row(component: &Component) -> ComponentRow
+    ensures { result ≡ component_row component.now }
+{
+    ComponentRow {
+        size: component.size,
+        image: component.image,
+        is_permanent: u8::from(component.permanent),
+        has_precursor: u8::from(component.precursor.is_some()),
+        unused: 0,
+        digest: component.digest,
+        precursor: component.precursor.unwrap_or([0; 32]),
+    }
+}
+
+/// Returns the row of a manifest. Entries after the last component are all zero. Does not allocate.
+pub fn manifest_row(manifest: &Manifest) -> ManifestRow
+    ensures row { IsRowOf manifest.now result }
+    ensures read_back { IsManifestOf result manifest.now }
+{
+    let given = manifest.components.as_slice();
+    let mut components = [NO_COMPONENT; MOST_COMPONENTS];
+    for i in 0..given.len() {
+        components[i] = component_row(&given[i]);
+    }
+    ManifestRow {
+        sequence: manifest.sequence,
+        count: given.len() as u32,
+        components,
+    }
 }
