@@ -33,13 +33,15 @@ COSTS = {
     "bootswap": "the program: from nothing it takes 45 to 80 minutes of one processor, 1.8 GB of disk",
     "bootswap_core": "the core of the program: from nothing it takes 25 to 45 minutes of one processor, 1.1 GB of disk",
     "c_interface": "the library: from nothing it takes 25 to 45 minutes of one processor, 1 GB of disk",
+    "manifest_interface": "the library for manifests: from nothing it takes 5 to 10 minutes of one processor, 0.2 GB of disk",
 }
 
 # The most memory that the check of a crate has taken, in bytes.
 MEMORY = 2_300_000_000
 
-# The crate of the library of include/bootswap.h.
+# The crates of the libraries of include/bootswap.h and of include/bootswap_manifest.h.
 LIBRARY = "c_interface"
+MANIFEST_LIBRARY = "manifest_interface"
 
 TARGET = "x86_64-unknown-linux-gnu"
 ARM_TARGET = "aarch64-unknown-linux-gnu"
@@ -325,6 +327,12 @@ def static_library(target=TARGET):
     if not crates[-1].is_built(toolchain):
         build(crates, toolchain)
     return crates[-1].made
+
+
+def share_words(archives, shared):
+    """Returns the command that makes a shared library of everything in static ones, and of the memory for manifests."""
+    words = ["cc", "-O2", "-shared", "-fPIC", "-I", f"{ROOT}/include", f"{ROOT}/bindings/c/manifest.c", "-o", shared]
+    return [*words, "-Wl,--whole-archive", *archives, "-Wl,--no-whole-archive"]
 
 
 def link_for_web(archive, module):
