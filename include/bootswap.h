@@ -73,10 +73,16 @@ enum bootswap_fault {
     BOOTSWAP_UPLOAD = 10          /* `detail` is a bootswap_upload_fault */
 };
 
-/* Why a manifest is refused: `detail` of BOOTSWAP_MANIFEST. */
+/* Why a manifest is refused. `detail` of BOOTSWAP_MANIFEST is 6 or 7. bootswap_manifest.h reads texts, and returns any. */
 enum bootswap_manifest_fault {
-    BOOTSWAP_NO_COMPONENT = 6,      /* a component is for an image that the device lacks */
-    BOOTSWAP_REPEATED_COMPONENT = 7 /* the device has each image, and two components are for the same one */
+    BOOTSWAP_NOT_JSON = 1,           /* the bytes aren't the JSON text of a value */
+    BOOTSWAP_BAD_KEY = 2,            /* a key is missing, or isn't known */
+    BOOTSWAP_BAD_VALUE = 3,          /* a value that its key doesn't allow */
+    BOOTSWAP_WRONG_VENDOR = 4,       /* the manifest is for devices of another vendor */
+    BOOTSWAP_WRONG_CLASS = 5,        /* the manifest is for devices of another class */
+    BOOTSWAP_NO_COMPONENT = 6,       /* a component is for an image that the device lacks */
+    BOOTSWAP_REPEATED_COMPONENT = 7, /* the device has each image, and two components are for the same one */
+    BOOTSWAP_NO_MEMORY = 8           /* the memory is too short for the text */
 };
 
 /* Why an upload is refused: `detail` of BOOTSWAP_UPLOAD. */
@@ -99,7 +105,7 @@ struct bootswap_setup {
     uint32_t sectors[BOOTSWAP_MAX_IMAGES]; /* the number of sectors of each slot of an image */
     uint32_t trial_boots; /* the number of boots of a trial, 1 to 7 */
     uint8_t vendor[16];   /* the vendor: a UUID (RFC 9562), the bytes in the order of its text */
-    uint8_t class_id[16]; /* the class of devices, a UUID. No call compares these two with anything. */
+    uint8_t class_id[16]; /* the class of devices, a UUID. Only bootswap_manifest.h compares these two with anything. */
 };
 
 /*
@@ -183,7 +189,7 @@ struct bootswap_component {
     uint8_t precursor[32];  /* the digest of the image that has to run (bootswap_describe) */
 };
 
-/* A manifest: the images that may be uploaded. */
+/* A manifest: the images that may be uploaded. bootswap_manifest.h reads one from its JSON text. */
 struct bootswap_manifest {
     uint32_t sequence; /* rises from manifest to manifest */
     uint32_t count;    /* the number of components, 1 to 8 */

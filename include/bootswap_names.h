@@ -49,8 +49,14 @@ static inline const char *bootswap_fault_name(uint32_t fault) {
 /* Returns the name of the reason why a manifest is refused, a bootswap_manifest_fault. */
 static inline const char *bootswap_manifest_fault_name(uint32_t fault) {
     switch (fault) {
+    case BOOTSWAP_NOT_JSON: return "NotJson";
+    case BOOTSWAP_BAD_KEY: return "BadKey";
+    case BOOTSWAP_BAD_VALUE: return "BadValue";
+    case BOOTSWAP_WRONG_VENDOR: return "WrongVendor";
+    case BOOTSWAP_WRONG_CLASS: return "WrongClass";
     case BOOTSWAP_NO_COMPONENT: return "NoComponent";
     case BOOTSWAP_REPEATED_COMPONENT: return "RepeatedComponent";
+    case BOOTSWAP_NO_MEMORY: return "NoMemory";
     default: return "unknown";
     }
 }

@@ -1,14 +1,17 @@
-"""The library for 64-bit ARM, as `qemu-aarch64` runs it."""
+"""The libraries for 64-bit ARM, as `qemu-aarch64` runs them."""
 
 import shutil
 import tempfile
 import unittest
 
-from support.files import EXAMPLES, ROOT
-from support.libraries import ARM_TARGET, archive_for, ran
+from support.builders import CLASS, VENDOR
+from support.files import EXAMPLES, ROOT, read
+from support.libraries import ARM_TARGET, archive_for, manifest_archive_for, ran
 from support.program import CaseTest, short
+from test_random_manifests import listing_of
 
 LIFE = f"{ROOT}/bindings/c/life.c"
+MANIFEST = [f"{ROOT}/tests/manifest.c", f"{ROOT}/bindings/c/manifest.c", "-I", f"{ROOT}/bindings/c"]
 COMPILER, EMULATOR = "aarch64-linux-gnu-gcc", "qemu-aarch64"
 STRICT = ["-std=c11", "-Wall", "-Wextra", "-Werror", "-I", f"{ROOT}/include"]
 
@@ -44,6 +47,16 @@ class ArmTest(CaseTest):
             faults, output = ran([EMULATOR, program, *images, str(write)])
             wanted = b"power failed in write %d\n" % write + ENDS
             self.case(f"life.c with a cut of write {write} on 64-bit ARM", faults or [short(output)] * (output != wanted))
+
+    def test_manifests(self):
+        """tests/manifest.c reads a text in memory that is long enough."""
+        program, text = f"{self.folder}/manifest", f"{EXAMPLES}/manifests/both.json"
+        faults, _ = ran([COMPILER, "-static", *STRICT, *MANIFEST, manifest_archive_for(ARM_TARGET), "-o", program])
+        self.case("manifest.c compiles for 64-bit ARM", faults)
+        own = [VENDOR.replace("-", ""), CLASS.replace("-", "")]
+        for room, wanted in () if faults else (("13000", listing_of(read(text))), ("3000", b"refused 8 NoMemory\n")):
+            faults, output = ran([EMULATOR, program, *own, text, room])
+            self.case(f"manifest.c with {room} bytes on 64-bit ARM", faults or [short(output)] * (output != wanted))
 
     def test_requests_no_memory(self):
         """The library calls no allocator."""

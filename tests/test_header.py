@@ -1,4 +1,4 @@
-"""That the header, the crate `c_interface`, Python and the page have the same structs, calls and numbers.
+"""That the headers, their crates, Python and the page have the same structs, calls and numbers.
 
 A struct is compared by its rows: the path of each number in it, such as `refused[1].reason`, its offset and its size. So the
 four may name their types differently, but not their fields.
@@ -18,7 +18,7 @@ import unittest
 from unittest import mock
 
 ROOT = os.path.dirname(os.path.dirname(os.path.realpath(__file__)))
-HEADER, NAMES = "include/bootswap.h", "include/bootswap_names.h"
+HEADER, MANIFEST, NAMES = "include/bootswap.h", "include/bootswap_manifest.h", "include/bootswap_names.h"
 
 # Names of the header that are others elsewhere: `class` is a word of C++, and a number of the header has `INVALID_SET`.
 OTHER_NAMES = {"class": "class_id", "InvalidSet": "RunningInvalid"}
@@ -68,8 +68,8 @@ def rows_of(kind, path="", start=0):
 
 
 def header():
-    """Returns the header without its comments, and with numbers for the names of limits."""
-    text = re.sub(r"/\*.*?\*/", "", text_of(HEADER), flags=re.DOTALL)
+    """Returns the two headers without their comments, and with numbers for the names of limits."""
+    text = re.sub(r"/\*.*?\*/", "", text_of(HEADER) + text_of(MANIFEST), flags=re.DOTALL)
     limits = limits_of_c()
     return re.sub(r"\[(\w+)\]", lambda it: f"[{limits.get(it[1], it[1])}]", text)
 
@@ -120,7 +120,8 @@ def calls_of_rattle():
     call = re.compile(r"^pub extern \"C\" fn bootswap_(\w+)\((.*?)\)(?: -> (\w+))?$", re.MULTILINE | re.DOTALL)
     for name, words, result in [it for text in sources() for it in call.findall(text)]:
         takes = []
-        for reference, bracket, kind in re.findall(r"\w+: (&mut |&)?(\[?)(\w+)", words):
+        # C passes nothing for an allocator.
+        for reference, bracket, kind in re.findall(r"\w+: (?!Global)(&mut |&)?(\[?)(\w+)", words):
             takes.append((bool(reference), reference == "&", rows_of(NUMBERS.get(kind) or structs[kind])))
             takes += [(False, False, rows_of(8))] if bracket else []
         calls[name] = takes, NUMBERS.get(result)
@@ -243,7 +244,7 @@ class HeaderTest(unittest.TestCase):
     def test_a_compiler_lays_structs_out_so(self):
         if not shutil.which("cc"):
             self.skipTest("there is no C compiler cc")
-        lines = ["#include <bootswap.h>"]
+        lines = ["#include <bootswap_manifest.h>"]
         for name, rows in self.structs.items():
             kind = f"struct bootswap_{name}"
             size = size_and_alignment(structs_of_c()[name])[0]

@@ -1,20 +1,25 @@
-"""The library of include/bootswap.h from C and from Python."""
+"""The libraries for C, from C and from Python."""
 
 import os
+import random
 import re
 import shutil
 import subprocess
 import sys
 import tempfile
 
+from support.builders import CLASS, VENDOR
 from support.compiled import needs_compiler
+from support.driven import Library
 from support.files import EXAMPLES, ROOT, read
-from support.libraries import TARGET, archive_for, ran
+from support.libraries import TARGET, archive_for, manifest_archive_for, ran, shared_library
 from support.program import CaseTest, short
+from test_random_manifests import drawn_text, listing_of
 
 LIFE = f"{ROOT}/bindings/c/life.c"
 JOURNAL = f"{ROOT}/tests/journal.c"
 NULLS = f"{ROOT}/tests/nulls.c"
+MANIFEST = [f"{ROOT}/tests/manifest.c", f"{ROOT}/bindings/c/manifest.c", "-I", f"{ROOT}/bindings/c"]
 STRICT = ["-std=c11", "-Wall", "-Wextra", "-Werror", "-I", f"{ROOT}/include"]
 
 # What life.c prints, whichever write of the boot is cut, after the line that names the write.
@@ -29,6 +34,9 @@ RETURNED = (
 # What the library calls that it doesn't have itself. So it never allocates.
 CALLED = {"memcpy", "memmove", "memset"}
 
+# How the library for manifests allocates.
+ALLOCATOR = {"rattle_alloc", "rattle_dealloc", "rattle_realloc"}
+
 # How many seconds the tests of the Python names, and a command of the page, may take.
 LIMIT = 120
 
@@ -41,11 +49,8 @@ class LibraryTest(CaseTest):
     def setUpClass(cls):
         cls.folder = tempfile.mkdtemp(prefix="bootswap-library-")
         cls.addClassCleanup(shutil.rmtree, cls.folder, ignore_errors=True)
-        cls.archive = archive_for(TARGET)
-        cls.shared = f"{cls.folder}/libbootswap.so"
-        faults, _ = ran(["cc", "-shared", "-o", cls.shared, "-Wl,--whole-archive", cls.archive, "-Wl,--no-whole-archive"])
-        if faults:
-            raise AssertionError(f"the library for Python is linked: {faults[0]}")
+        cls.archive, cls.manifests = archive_for(TARGET), manifest_archive_for(TARGET)
+        cls.shared = shared_library(cls.folder)
 
     def test_program_in_c(self):
         """It compiles without a warning, has fewer than 100 lines, and ends with the new image whichever write is cut."""
@@ -82,16 +87,54 @@ class LibraryTest(CaseTest):
     def test_header_in_cpp(self):
         file = f"{self.folder}/header.cpp"
         with open(file, "wb") as it:
-            it.write(b"#include <bootswap.h>")
+            it.write(b"#include <bootswap_manifest.h>")
         faults, _ = ran(["cc", "-x", "c++", "-Wall", "-Wextra", "-Werror", "-I", f"{ROOT}/include", "-fsyntax-only", file])
         self.case("the header compiles as C++", faults)
 
+    def test_manifests(self):
+        """tests/manifest.c reads a text as it stands in the examples, with both libraries and in any memory."""
+        program = f"{self.folder}/manifest"
+        faults, _ = ran(["cc", *STRICT, "-Wconversion", *MANIFEST, self.manifests, self.archive, "-o", program])
+        self.case("manifest.c compiles", faults)
+        own = [VENDOR.replace("-", ""), CLASS.replace("-", "")]
+        text = f"{EXAMPLES}/manifests/both.json"
+        listing = listing_of(read(text))
+        for what, words, wanted in () if faults else (
+            ("enough memory", [*own, text, "13000"], listing),
+            ("too little memory", [*own, text, "3000"], b"refused 8 NoMemory\n"),
+            ("no memory", [*own, text, "0"], b"refused 8 NoMemory\n"),
+            ("another vendor", [own[1], own[1], text, "13000"], b"refused 4 WrongVendor\n"),
+            ("an image", [*own, f"{EXAMPLES}/images/one.img", "13000"], b"refused 1 NotJson\n"),
+            ("an image that the device lacks", [*own, f"{EXAMPLES}/manifests/third.json", "13000"], b"refused 6 NoComponent\n"),
+        ):
+            faults, output = ran([program, *words])
+            self.case(f"manifest.c with {what}", faults or [short(output)] * (output != wanted))
+
+    def test_random_manifests(self):
+        """Ten thousand random texts are refused by their pieces, and each other one is read."""
+        names, dice = Library(self.shared).names, random.Random(2)
+        device = names.Device(512, [2, 2], vendor=names.uuid.UUID(VENDOR), class_id=names.uuid.UUID(CLASS))
+        faults, counts = [], [0] * 9
+        for text, code in (drawn_text(dice) for _ in range(10_000)):
+            try:
+                got, answer = 0, listed(device.read_manifest(text), names)
+            except names.BadManifest as error:
+                got, answer = int(error.fault), b""
+            counts[got] += 1
+            if got != code or (not code and answer != listing_of(text)):
+                faults.append(f"{short(text)}: {got} {short(answer)}, and not {code}")
+        faults += [] if min(counts[:8]) > 50 else [f"few of a kind: {counts}"]
+        self.case("the texts of ten thousand manifests that are drawn", faults[:5])
+
     def test_requests_no_memory(self):
-        """The library calls no allocator, in a boot as in any other call."""
-        faults, output = ran(["nm", "--undefined-only", "--format=posix", self.archive])
-        called = {line.split()[0] for line in output.decode().splitlines() if line.split()[1:] == ["U"]}
-        faults += [f"what it calls: {it}" for it in sorted(called ^ CALLED)]
-        self.case("the library requests no memory", faults)
+        """The library calls no allocator, in a boot as in any other call. That for manifests calls one of the program's own."""
+        for what, archive, wanted in (
+            ("the library requests no memory", self.archive, CALLED),
+            ("the library for manifests requests memory of the program", self.manifests, CALLED | ALLOCATOR),
+        ):
+            faults, output = ran(["nm", "--undefined-only", "--format=posix", archive])
+            called = {line.split()[0] for line in output.decode().splitlines() if line.split()[1:] == ["U"]}
+            self.case(what, faults + [f"what it calls: {it}" for it in sorted(called ^ wanted)])
 
     def test_python_names(self):
         tests = [sys.executable, "-B", f"{ROOT}/bindings/python/test_bootswap.py"]
@@ -117,6 +160,7 @@ class LibraryTest(CaseTest):
             shutil.copytree(f"{ROOT}/{name}", f"{clone}/{name}")
         os.mkdir(f"{clone}/out")
         shutil.copy(self.archive, f"{clone}/out/libbootswap.a")
+        shutil.copy(self.manifests, f"{clone}/out/libbootswap_manifest.a")
         shutil.copy(self.shared, f"{clone}/out/libbootswap.so")
         return clone
 
@@ -128,6 +172,16 @@ class LibraryTest(CaseTest):
         faults = [f"status {done.returncode}: {short(done.stderr[-2000:])}"] * (done.returncode != 0)
         faults += [f"it prints {short(done.stdout)}, and not {short(wanted)}"] * (not wanted or done.stdout != wanted)
         self.case(f"the {what} of bindings/README.md", faults)
+
+
+def listed(manifest, names):
+    """The listing of a manifest that was read, as `listing_of` its text."""
+    lines = [f"sequence {manifest.sequence}"]
+    for it in manifest.components:
+        kind = "permanent" if it.kind == names.Kind.PERMANENT else "test"
+        line = f"component {it.image} {it.size} {kind} {it.digest.hex()}"
+        lines.append(line + (f" precursor {it.precursor.hex()}" if it.precursor else ""))
+    return "".join(f"{line}\n" for line in lines).encode()
 
 
 def fenced(text, language):

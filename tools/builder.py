@@ -329,12 +329,6 @@ def static_library(target=TARGET):
     return crates[-1].made
 
 
-def share_words(archives, shared):
-    """Returns the command that makes a shared library of everything in static ones, and of the memory for manifests."""
-    words = ["cc", "-O2", "-shared", "-fPIC", "-I", f"{ROOT}/include", f"{ROOT}/bindings/c/manifest.c", "-o", shared]
-    return [*words, "-Wl,--whole-archive", *archives, "-Wl,--no-whole-archive"]
-
-
 def link_for_web(archive, module):
     """Links a static library to a module of WebAssembly, and returns whether that succeeded, and the output."""
     kit = os.path.dirname(asked_of_rt("doc"))

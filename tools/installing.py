@@ -85,10 +85,12 @@ def major():
     return version().partition(".")[0]
 
 
-def share(archive, shared):
-    """Makes a shared library with everything in a static one, and returns whether it succeeded."""
-    words = ["cc", "-shared", "-s", f"-Wl,-soname,libbootswap.so.{major()}", "-o", shared]
-    return subprocess.run([*words, "-Wl,--whole-archive", archive, "-Wl,--no-whole-archive"]).returncode == 0
+def share(archives, shared):
+    """Makes a shared library of everything in static ones, and of the memory for manifests. Returns whether it
+    succeeded."""
+    words = ["cc", "-O2", "-shared", "-fPIC", "-s", f"-Wl,-soname,libbootswap.so.{major()}", "-o", shared]
+    words += ["-I", f"{ROOT}/include", f"{ROOT}/bindings/c/manifest.c"]
+    return subprocess.run([*words, "-Wl,--whole-archive", *archives, "-Wl,--no-whole-archive"]).returncode == 0
 
 
 def items(prefix, python, program, archive, shared):

@@ -26,6 +26,8 @@ MOST_IMAGES = 8
 MOST_CUTS = 16
 TABLE_ROOM = 20480
 REPORT_ROOM = 2048
+# The memory for a manifest, beside the length of its text, as `BOOTSWAP_MANIFEST_ROOM` of bindings/c/manifest.h.
+MANIFEST_ROOM = 12288
 
 # The name of the installed library. Its number is the major version.
 SHARED_NAME = "libbootswap.so.0"
@@ -81,10 +83,16 @@ class UploadFault(enum.IntEnum):
 
 
 class ManifestFault(enum.IntEnum):
-    """Why a manifest is refused that was given by its fields."""
+    """Why a manifest is refused. One that is given by its fields is refused for NoComponent or RepeatedComponent."""
 
+    NotJson = 1
+    BadKey = 2
+    BadValue = 3
+    WrongVendor = 4
+    WrongClass = 5
     NoComponent = 6
     RepeatedComponent = 7
+    NoMemory = 8
 
 
 class ImageFault(enum.IntEnum):
@@ -152,6 +160,14 @@ class Refused(Exception):
         self.reply = reply
 
 
+class BadManifest(Exception):
+    """A text that isn't a manifest for the device. `fault` says why."""
+
+    def __init__(self, fault: ManifestFault) -> None:
+        super().__init__(f"the manifest is refused: {fault.name}")
+        self.fault = fault
+
+
 class _Setup(ctypes.Structure):
     _fields_ = [("sector_size", c_uint32), ("images", c_uint32), ("sectors", c_uint32 * MOST_IMAGES)]
     _fields_ += [("trial_boots", c_uint32), ("vendor", c_uint8 * 16), ("class_id", c_uint8 * 16)]
@@ -198,6 +214,10 @@ class _Manifest(ctypes.Structure):
     _fields_ = [("sequence", c_uint32), ("count", c_uint32), ("components", _Component * MOST_IMAGES)]
 
 
+class _Identity(ctypes.Structure):
+    _fields_ = [("vendor", c_uint8 * 16), ("class_id", c_uint8 * 16), ("images", c_uint8)]
+
+
 class _Group(ctypes.Structure):
     _fields_ = [("count", c_uint32), ("alternatives", _Need * 4)]
 
@@ -237,6 +257,8 @@ def _load() -> ctypes.CDLL:
         "digest": [*flash, POINTER(_Sha256)],
         "choose": [*text, *text, POINTER(c_uint64)],
         "check": [*text, *text, POINTER(c_uint64)],
+        "parse_manifest": [POINTER(_Identity), *text, POINTER(_Manifest)],
+        "read_manifest": [POINTER(_Setup), *text, *flash, POINTER(_Manifest)],
     }
     # What a call takes after its cuts, or in its other form after its journal.
     of_device = {
@@ -251,7 +273,11 @@ def _load() -> ctypes.CDLL:
         arguments[f"{form}provision"] = [POINTER(_Setup), *flash, *writes, *result]
         for name, types in of_device.items():
             arguments[f"{form}{name}"] = [POINTER(_Setup), *flash, POINTER(_SavedState), *writes, *types]
+    # Everything else works over a library without the calls that read a manifest's text.
+    missing = {it for it in ("parse_manifest", "read_manifest") if not hasattr(library, f"bootswap_{it}")}
     for name, types in arguments.items():
+        if name in missing:
+            continue
         call = getattr(library, f"bootswap_{name}")
         call.argtypes, call.restype = types, None if name in ("reset", "digest") else c_uint32
     return library
@@ -314,6 +340,14 @@ class Component:
     def of(cls, image: int, file: bytes, kind: Kind = Kind.TEST, precursor: bytes | None = None) -> Component:
         """Returns the component for a file."""
         return cls(image, len(file), digest(file), kind, precursor)
+
+
+@dataclass(frozen=True)
+class Manifest:
+    """A manifest: its sequence number, which rises from manifest to manifest, and the images that may be uploaded."""
+
+    sequence: int
+    components: tuple[Component, ...]
 
 
 @dataclass(frozen=True)
@@ -393,6 +427,12 @@ def _version(given: _Version) -> Version:
 
 def _needs(given: Sequence[_Need], count: int) -> tuple[Need, ...]:
     return tuple(Need(it.image, _version(it.minimum)) for it in given[:count])
+
+
+def _component(given: _Component) -> Component:
+    precursor = bytes(given.precursor) if given.has_precursor else None
+    kind = Kind.PERMANENT if given.is_permanent else Kind.TEST
+    return Component(given.image, given.size, bytes(given.digest), kind, precursor)
 
 
 def _description(given: _Description) -> Description:
@@ -491,6 +531,20 @@ class Device:
         """Boots."""
         table, report = ctypes.create_string_buffer(TABLE_ROOM), ctypes.create_string_buffer(REPORT_ROOM)
         return self._call("boot", cuts, table, TABLE_ROOM, report, REPORT_ROOM, texts=(table, report))
+
+    def read_manifest(self, text: str | bytes, room: int | None = None) -> Manifest:
+        """Reads the JSON text of a manifest for the device, in `room` bytes of memory. By default they are always enough for
+        a manifest whose objects name no key twice. Raises `BadManifest` for any other text, or if they aren't enough."""
+        given = text.encode() if isinstance(text, str) else bytes(text)
+        room = MANIFEST_ROOM + len(given) if room is None else _number("a number of bytes", room, 2**32 - 1)
+        memory, result = (c_uint8 * max(room, 1))(), _Manifest()
+        buffer = ctypes.create_string_buffer(given, len(given) + 1)
+        number = _LIBRARY.bootswap_read_manifest(
+            byref(self._setup), buffer, len(given), memory, room, byref(result)
+        )
+        if number:
+            raise BadManifest(ManifestFault(number))
+        return Manifest(result.sequence, tuple(map(_component, result.components[: result.count])))
 
     def accept(self, sequence: int, components: Iterable[Component], cuts: Sequence[Cut] = ()) -> Reply:
         """Accepts a manifest."""

@@ -8,8 +8,8 @@ import unittest
 import uuid
 
 import bootswap
-from bootswap import Component, Cut, Device, Fault, ImageFault, Kind, ManifestFault, Need, Number, Phase, Reason, State
-from bootswap import UploadFault, Version
+from bootswap import BadManifest, Component, Cut, Device, Fault, ImageFault, Kind, Manifest, ManifestFault, Need, Number
+from bootswap import Phase, Reason, State, UploadFault, Version
 
 EXAMPLES = f"{os.path.dirname(os.path.realpath(__file__))}/../../examples"
 
@@ -66,8 +66,8 @@ class Script:
         if word == "boot":
             return self.device.boot(cuts)
         if word == "accept":
-            manifest = json.loads(read(words[0].removeprefix("examples/")))
-            return self.device.accept(manifest["sequence-number"], components_of(manifest), cuts)
+            manifest = self.device.read_manifest(read(words[0].removeprefix("examples/")))
+            return self.device.accept(manifest.sequence, manifest.components, cuts)
         if word == "piece":
             file = read(words[1].removeprefix("examples/"))
             at, length = map(int, words[2:]) if len(words) > 2 else (0, len(file))
@@ -129,6 +129,65 @@ class Images(unittest.TestCase):
     def test_the_digest_of_abc(self):
         wanted = "ba7816bf8f01cfea414140de5dae2223b00361a396177a9cb410ff61f20015ad"
         self.assertEqual(bootswap.digest(b"abc").hex(), wanted)
+
+
+class Manifests(unittest.TestCase):
+    def setUp(self):
+        it = json.loads(read("manifests/both.json"))
+        self.vendor, self.class_id = uuid.UUID(it["vendor-id"]), uuid.UUID(it["class-id"])
+
+    def device(self, images=2, **more):
+        return Device(512, [2] * images, **{"vendor": self.vendor, "class_id": self.class_id, **more})
+
+    def check_refused(self, fault, device, text, room=None):
+        with self.assertRaises(BadManifest) as caught:
+            device.read_manifest(text, room)
+        self.assertEqual((caught.exception.fault, str(caught.exception)), (fault, f"the manifest is refused: {fault.name}"))
+
+    def test_each_text_is_read(self):
+        for name in names_in("manifests"):
+            text = read(f"manifests/{name}.json")
+            value = json.loads(text)
+            wanted = Manifest(value["sequence-number"], tuple(components_of(value)))
+            self.assertEqual(self.device(8).read_manifest(text), wanted, name)
+            self.assertEqual(self.device(8).read_manifest(text.decode()), wanted, name)
+
+    def test_the_largest_manifest_is_read(self):
+        fields = {"kind": "test", "size": 2**32 - 1, "precursor-digest": "f" * 64}
+        components = [{"component-id": i, "payload-digest": f"{i:064x}", **fields} for i in range(8)]
+        value = {"manifest-version": 1, "sequence-number": 2**32 - 1, "vendor-id": f"urn:uuid:{self.vendor}"}
+        value = {**value, "class-id": f"urn:uuid:{self.class_id}", "components": components}
+        wanted = Manifest(2**32 - 1, tuple(components_of(value)))
+        self.assertEqual(self.device(8).read_manifest(json.dumps(value)), wanted)
+
+    def test_the_lowest_refusal_is_raised(self):
+        text = read("manifests/both.json").decode()
+        twice = text.replace('"component-id": 1', '"component-id": 0')
+        for fault, device, given in (
+            (ManifestFault.NotJson, self.device(), ""),
+            (ManifestFault.NotJson, self.device(), text[:-2]),
+            (ManifestFault.NotJson, self.device(), b"\xff"),
+            (ManifestFault.BadKey, self.device(), text.replace("kind", "sort")),
+            (ManifestFault.BadValue, self.device(vendor=self.class_id), text.replace("permanent", "forever")),
+            (ManifestFault.WrongVendor, self.device(vendor=self.class_id, class_id=self.vendor), text),
+            (ManifestFault.WrongClass, self.device(1, class_id=self.vendor), text),
+            (ManifestFault.NoComponent, self.device(1), text),
+            (ManifestFault.RepeatedComponent, self.device(), twice),
+        ):
+            self.check_refused(fault, device, given)
+
+    def test_less_memory_is_refused_and_more_is_not(self):
+        text, device = read("manifests/both.json"), self.device()
+        wanted, most, found = device.read_manifest(text), bootswap.MANIFEST_ROOM + len(text), []
+        for room in range(0, most, 8):
+            try:
+                found.append(device.read_manifest(text, room) == wanted)
+            except BadManifest as error:
+                self.assertEqual(error.fault, ManifestFault.NoMemory)
+                found.append(None)
+        self.assertEqual(found, [None] * found.count(None) + [True] * found.count(True))
+        self.assertLess(2000, 8 * found.count(None))
+        self.assertLess(8 * found.count(None), most - 4000)
 
 
 class Devices(unittest.TestCase):

@@ -1,4 +1,4 @@
-"""The static library of include/bootswap.h, for the tests that link it.
+"""The static libraries of include/bootswap.h and of include/bootswap_manifest.h, for the tests that link them.
 
 Tests don't prove it anew. They take what `bindings/build` and `web/build` built. In the complete gate the first test that
 needs it builds it, over the libraries of the crates below it that `rt ci` proved in the folder BOOTSWAP_PROVED.
@@ -15,20 +15,26 @@ from support.program import short
 
 sys.path.insert(0, f"{ROOT}/tools")
 
-from builder import ARM_TARGET, TARGET, WEB_TARGET, asked_of_rt, library_crates, link_for_web
+from builder import ARM_TARGET, LIBRARY, MANIFEST_LIBRARY, TARGET, WEB_TARGET, asked_of_rt, library_crates, link_for_web
+from installing import share
 from proved_copy import library_in
 
 BUILDERS = {TARGET: "bindings/build", ARM_TARGET: f"bindings/build --target {ARM_TARGET}", WEB_TARGET: "web/build"}
 
 
-def archive_for(target):
-    """Returns the file of the library for a target. Skips the tests that need it if it isn't built."""
-    crates, proved = library_crates(target), os.environ.get("BOOTSWAP_PROVED")
+def archive_for(target, name=LIBRARY):
+    """Returns the file of a library for a target. Skips the tests that need it if it isn't built."""
+    crates, proved = library_crates(target, name), os.environ.get("BOOTSWAP_PROVED")
     if proved:
-        return built_over(proved, crates, f"{proved}/library.{target}.a")
+        return built_over(proved, crates, f"{proved}/{name}.{target}.a")
     if not crates[-1].is_built(asked_of_rt("version")):
         raise unittest.SkipTest(f"the library isn't built, or not of these sources: {BUILDERS[target]} builds it")
     return crates[-1].made
+
+
+def manifest_archive_for(target):
+    """Returns the file of the library for manifests, as `archive_for`."""
+    return archive_for(target, MANIFEST_LIBRARY)
 
 
 def built_over(proved, crates, archive):
@@ -44,6 +50,14 @@ def built_over(proved, crates, archive):
             if faults:
                 raise AssertionError(f"the library builds: {faults[0]}")
     return archive
+
+
+def shared_library(folder):
+    """Makes the library for Python, as `bindings/build` does, and returns its file."""
+    shared = f"{folder}/libbootswap.so"
+    if not share([archive_for(TARGET), manifest_archive_for(TARGET)], shared):
+        raise AssertionError("the library for Python isn't linked")
+    return shared
 
 
 def web_module(folder):
