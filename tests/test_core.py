@@ -1,4 +1,4 @@
-"""What the core of the program answers: the same as the complete program, or a refusal."""
+"""What the core answers: the same as the complete program, or a refusal."""
 
 import os
 import subprocess

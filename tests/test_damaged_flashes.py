@@ -1,4 +1,4 @@
-"""What a device replies after its flash was damaged: each event gets a reply, whatever the flash holds."""
+"""What a device replies after its flash was damaged. Each event gets a reply, whatever the flash holds."""
 
 import random
 

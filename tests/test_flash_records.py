@@ -1,4 +1,4 @@
-"""What a device writes to its flash, byte by byte: trailers, the log, and swaps from every place.
+"""What a device writes to its flash, byte by byte.
 
 The tests make the flash files with any state in the log, and `Expected` computes what the device has to write.
 """

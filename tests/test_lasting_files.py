@@ -1,5 +1,7 @@
-"""How commands make files that survive a crash: when they reach the disk, who may use them, and what other
-programs may do."""
+"""How commands make files that survive a crash.
+
+When these reach the disk, who may use them, and what other programs may do.
+"""
 
 import errno
 import os

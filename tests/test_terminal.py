@@ -1,4 +1,4 @@
-"""What a terminal shows besides the output: that `--explain` says more, and that a table is read."""
+"""What a terminal shows besides the output. `--explain` says more, and that a table is read."""
 
 import fcntl
 import os
