@@ -12,7 +12,7 @@ SECONDS = {
     "chooser": 61, "command_line": 127, "common": 28, "creating": 142, "decision": 39, "device_commands": 100,
     "device_texts": 71, "diagnostics": 218, "explaining": 126, "flash_model": 72, "host": 290, "image_header": 31,
     "image_reading": 106, "inputs": 120, "inspecting": 151, "machine": 50, "manifest": 86, "manifest_interface": 60,
-    "manifest_rows": 11, "script": 42, "sector_map": 33, "set_log": 68, "slice_flash": 45, "swap_scratch": 35,
+    "script": 42, "sector_map": 33, "set_log": 68, "slice_flash": 45, "swap_scratch": 35,
     "sweep": 144, "tlv": 53, "trailer": 75, "upload": 106, "version_order": 27,
 }
 

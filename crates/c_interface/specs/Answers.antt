@@ -9,13 +9,13 @@ use Rattle.machine.specs.declared.reply.Reply.TheVariants.{Booted}
 use Rattle.c_interface.specs.declared.dispatch.DeviceCall.{DeviceCall}
 use Rattle.c_interface.specs.declared.dispatch.DeviceCall.TheVariants.{Accept}
 use Rattle.c_interface.specs.declared.saved_state.SavedState.{SavedState}
-use Rattle.manifest_rows.specs.declared.rows.ManifestRow.{ManifestRow}
+use Rattle.manifest.specs.declared.rows.ManifestRow.{ManifestRow}
 use Rattle.c_interface.specs.declared.cuts.CutRow.{CutRow}
 use Rattle.c_interface.specs.Numbers.{MOST_COMPONENTS, TOO_MANY}
 use Rattle.c_interface.specs.declared.setup.Setup.{Setup}
 use Rattle.c_interface.specs.declared.call_result.CallResult.{CallResult}
 use Rattle.c_interface.specs.Calls.{CallsOn, IsRefusedBefore}
-use Rattle.manifest_rows.specs.Rows.{IsManifestOf}
+use Rattle.manifest.specs.Rows.{IsManifestOf}
 use Rattle.c_interface.specs.Texts.{IsPut}
 use Rattle.c_interface.specs.CallResult.{IsResultOf, no_result, number_of}
 

@@ -10,14 +10,14 @@ use Rattle.std.specs.Borrow.{Bor}
 use Rattle.c_interface.specs.declared.call_result.CallResult.{CallResult}
 use Rattle.c_interface.specs.declared.dispatch.DeviceCall.{DeviceCall}
 use Rattle.c_interface.specs.declared.dispatch.DeviceCall.TheVariants.{Accept, Boot}
-use Rattle.manifest_rows.specs.declared.rows.ManifestRow.{ManifestRow}
+use Rattle.manifest.specs.declared.rows.ManifestRow.{ManifestRow}
 use Rattle.c_interface.specs.declared.saved_state.SavedState.{SavedState}
 use Rattle.c_interface.specs.declared.setup.CheckedSetup.{CheckedSetup}
 use Rattle.c_interface.specs.declared.setup.Setup.{Setup}
 use Rattle.c_interface.specs.Answers.{no_more}
 use Rattle.c_interface.specs.CallResult.{IsResultOf, no_result, number_of}
 use Rattle.c_interface.specs.Calls.{StepsBetween, journal_bound}
-use Rattle.manifest_rows.specs.Rows.{IsManifestOf}
+use Rattle.manifest.specs.Rows.{IsManifestOf}
 use Rattle.c_interface.specs.Numbers.{MOST_COMPONENTS, TOO_MANY}
 use Rattle.c_interface.specs.Provisioning.{ProvisionsBetween}
 use Rattle.c_interface.specs.Setup.{IsCheckedSetup, IsRefusedSetup}

@@ -13,7 +13,7 @@ use crate::numbers::TOO_MANY;
 use crate::saved_state::{NOT_BOOTED, SavedState};
 use crate::setup::Setup;
 use crate::texts::{NO_TEXTS, put_texts};
-use manifest_rows::{ManifestRow, manifest_in};
+use manifest::{ManifestRow, manifest_in};
 
 /// Makes a call on the device of a setup, reports its outcome, and returns the number of its reply.
 fn call_and_report(

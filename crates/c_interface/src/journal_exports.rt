@@ -15,7 +15,7 @@ use crate::recording::{RecordedOutcome, record_device, record_provision};
 use crate::saved_state::SavedState;
 use crate::setup::Setup;
 use crate::texts::{NO_TEXTS, put_texts};
-use manifest_rows::{ManifestRow, manifest_in};
+use manifest::{ManifestRow, manifest_in};
 
 /// Makes a call on the device of a setup, records its writes, reports its outcome, and returns the
 /// number of its reply.

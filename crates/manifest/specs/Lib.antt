@@ -4,3 +4,4 @@ pub mod Manifest
 pub mod Fault
 pub mod Ids
 pub mod Codes
+pub mod Rows

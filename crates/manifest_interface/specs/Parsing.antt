@@ -6,8 +6,8 @@ use Rattle.manifest.specs.declared.error.ManifestError.{ManifestError}
 use Rattle.manifest.specs.declared.error.ManifestError.TheVariants.{NoMemory}
 use Rattle.manifest.specs.declared.identity.Identity.{Identity}
 use Rattle.manifest.specs.declared.manifest.Manifest.{Manifest}
-use Rattle.manifest_rows.specs.Rows.{IsManifestOf, IsRowOf}
-use Rattle.manifest_rows.specs.declared.rows.ManifestRow.{ManifestRow}
+use Rattle.manifest.specs.Rows.{IsManifestOf, IsRowOf}
+use Rattle.manifest.specs.declared.rows.ManifestRow.{ManifestRow}
 use Rattle.manifest_interface.specs.declared.identity.IdentityRow.{IdentityRow}
 
 -- The identity of a row.

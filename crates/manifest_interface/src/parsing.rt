@@ -6,12 +6,11 @@ ghost use Rattle.manifest.specs.Fault.{IsManifest, IsRefusal};
 ghost use Rattle.manifest.specs.declared.error.ManifestError.{ManifestError};
 ghost use Rattle.manifest.specs.declared.error.ManifestError.TheVariants.{NoMemory};
 ghost use Rattle.manifest.specs.declared.manifest.Manifest.{Manifest};
-ghost use Rattle.manifest_rows.specs.Rows.{IsRowOf};
+ghost use Rattle.manifest.specs.Rows.{IsRowOf};
 ghost use Rattle.manifest_interface.specs.Parsing.{Parses, identity_in};
 
 use crate::identity::{IdentityRow, identity_in};
-use manifest::Manifest;
-use manifest_rows::{ManifestRow, manifest_row};
+use manifest::{Manifest, ManifestRow, manifest_row};
 use std::alloc::Global;
 
 /// The text is read.

@@ -4,7 +4,7 @@ use Rattle.manifest.specs.Fault.{IsManifest, IsRefusal}
 use Rattle.manifest.specs.declared.error.ManifestError.TheVariants.{NoMemory}
 use Rattle.manifest.specs.declared.identity.Identity.{Identity}
 use Rattle.manifest.specs.declared.manifest.Manifest.{Manifest}
-use Rattle.manifest_rows.specs.Rows.{IsRowOf}
+use Rattle.manifest.specs.Rows.{IsRowOf}
 use Rattle.manifest_interface.specs.Parsing.{Read, Refused, OutOfMemory}
 use Rattle.manifest_interface.proofs.MemoryFaults.{cases_NoMemory}
 use Rattle.manifest_interface.proofs.parsing.bootswap_parse_manifest.Goals as goal

@@ -3,8 +3,8 @@ use Rattle.std.specs.Prelude.{◌≡◌, ◌==◌, ◌<◌, ◌≤◌, ℕ, List
 use Rattle.common.specs.Limits.{MOST_COMPONENTS}
 use Rattle.manifest.specs.declared.manifest.Component.{Component}
 use Rattle.manifest.specs.declared.manifest.Manifest.{Manifest}
-use Rattle.manifest_rows.specs.declared.rows.ComponentRow.{ComponentRow}
-use Rattle.manifest_rows.specs.declared.rows.ManifestRow.{ManifestRow}
+use Rattle.manifest.specs.declared.rows.ComponentRow.{ComponentRow}
+use Rattle.manifest.specs.declared.rows.ManifestRow.{ManifestRow}
 
 -- The component of a row.
 abbrev pub component_in : ComponentRow → Component

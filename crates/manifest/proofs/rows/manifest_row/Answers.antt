@@ -1,7 +1,7 @@
 use Rattle.std.proofs.Common.{◌∙◌, refl, sym, arith, rules}
 use Rattle.std.proofs.lemmas.Option.{slice_get_within}
-use Rattle.manifest_rows.proofs.ReadBack.{components_in_rows}
-use Rattle.manifest_rows.proofs.rows.manifest_row.Goals as goal
+use Rattle.manifest.proofs.ReadBack.{components_in_rows}
+use Rattle.manifest.proofs.rows.manifest_row.Goals as goal
 
 pub returns-clause-read_back : goal.returns-clause-read_back
 returns-clause-read_back c = record {

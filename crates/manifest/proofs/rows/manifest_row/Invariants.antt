@@ -1,7 +1,7 @@
 use Rattle.std.proofs.Common.{◌≡◌, ◌<◌, ◌≤◌, ℕ, Some, length, slice_get}
 use Rattle.manifest.specs.declared.manifest.Component.{Component}
-use Rattle.manifest_rows.specs.Rows.{component_row, no_component}
-use Rattle.manifest_rows.proofs.rows.manifest_row.Given as goal
+use Rattle.manifest.specs.Rows.{component_row, no_component}
+use Rattle.manifest.proofs.rows.manifest_row.Given as goal
 
 abbrev pub invariant-loop-i : goal.invariant-loop-i
 invariant-loop-i l = record {

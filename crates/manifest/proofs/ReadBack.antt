@@ -2,8 +2,8 @@
 use Rattle.std.proofs.Common.{◌≡◌, ℕ, suc, List, [], ◌∷◌, Some, length, map, slice_get, take, refl, rules}
 use Rattle.std.proofs.lemmas.Option.{none-some, same_Some}
 use Rattle.manifest.specs.declared.manifest.Component.{Component}
-use Rattle.manifest_rows.specs.declared.rows.ComponentRow.{ComponentRow}
-use Rattle.manifest_rows.specs.Rows.{component_in, component_row}
+use Rattle.manifest.specs.declared.rows.ComponentRow.{ComponentRow}
+use Rattle.manifest.specs.Rows.{component_in, component_row}
 
 -- A component's row is read as this component.
 component_in_row : (component : Component) → component_in (component_row component) ≡ component

@@ -1,11 +1,11 @@
-//! Manifests by their fields.
+//! Manifests as the libraries for C pass them.
 
 ghost use Rattle.std.specs.Prelude.{◌≡◌, ◌<◌, ◌≤◌, IfSome, None, length, map};
 ghost use Rattle.common.specs.Limits.{MOST_COMPONENTS};
-ghost use Rattle.manifest_rows.specs.Rows.{IsManifestOf, IsRowOf, component_in, component_row};
+ghost use Rattle.manifest.specs.Rows.{IsManifestOf, IsRowOf, component_in, component_row};
 
+use crate::manifest::{Component, MOST_COMPONENTS, Manifest};
 use arrayvec::ArrayVec;
-use manifest::{Component, MOST_COMPONENTS, Manifest};
 
 /// One image that may be uploaded.
 #[repr(C)]
