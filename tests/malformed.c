@@ -1,11 +1,22 @@
-/* In the place of the library below bindings/c/driver.c: each call returns `returned`, and has recorded the journal of
-   `length` bytes that the test put there. */
+/* In the place of the library below bindings/c/driver.c: each call returns the number, and says that it used the bytes of the
+   journal, that the test set. The test put the journal there. */
 #include <string.h>
 
 #include "bootswap.h"
 
-uint32_t returned, attempts;
-uint64_t length;
+static uint32_t returned, attempts;
+static uint64_t length;
+
+/* Sets what the next calls return and use. */
+uint32_t malformed_set(uint32_t number, uint64_t used) {
+    returned = number;
+    length = used;
+    attempts = 0;
+    return 0;
+}
+
+/* Returns how many calls were made since then. */
+uint32_t malformed_attempts(void) { return attempts; }
 
 static uint32_t answer(struct bootswap_told *told) {
     memset(told, 0, sizeof *told);

@@ -1,8 +1,8 @@
-/* Loaded before a program, takes its power away in one of its writes to a file.
+/* Linked with a program, takes its power away in one of its writes to a file.
 
    POWER_AT is the number of that call of `pwrite`, counted from 1. POWER_LEAVES says what it leaves in its range: "nothing"
    of the new bytes, "all" of them, the first "half" of them, or a number from which bytes at random follow. Then the process
-   is killed. */
+   is killed. Without POWER_AT nothing changes. */
 #define _GNU_SOURCE
 #include <signal.h>
 #include <stdlib.h>

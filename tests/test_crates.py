@@ -1,4 +1,4 @@
-"""Checks that the checker of a report shares no code with the choice.
+"""That the checker of a report shares no code with the choice.
 
 The test reads the sources of the crates, and finds which functions `certificate::check` may call, and which the
 choice and its callers may call. A function may call each function that its body names. The test knows no types:

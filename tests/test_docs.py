@@ -1,4 +1,4 @@
-"""Tests of what `tools/docs` writes."""
+"""What `tools/docs` writes."""
 
 import glob
 import os

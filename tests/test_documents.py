@@ -1,4 +1,4 @@
-"""Checks that the commands of the documents print what the documents show."""
+"""That the commands of the documents print what these show."""
 
 import os
 import re

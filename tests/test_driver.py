@@ -6,7 +6,6 @@ library never records.
 
 import ctypes
 import json
-import mmap
 import os
 import re
 import shutil
@@ -16,9 +15,10 @@ from ctypes import POINTER, byref, c_char, c_size_t, c_uint8, c_uint32, c_uint64
 from support.builders import image, version
 from support.compiled import needs_compiler
 from support.driven import CUT, DRIVER_FAILED, INCLUDE, SMALL_JOURNAL, STRICT
-from support.driven import Driven, Flash, Library, reply_of, shared_library
+from support.driven import Driven, Flash, Library, reply_of
 from support.files import EXAMPLES, ROOT, names_in, read
-from support.libraries import TARGET, archive_for, ran
+from support.libraries import ran
+from support.processors import HERE
 from support.program import ProgramTest, CaseTest, short
 from support.worked import SUM_OF_WRITES, WORKED
 
@@ -43,16 +43,21 @@ ROOMS = {512: 8 * (12 + 12 + 20 + 20 + 28) + 120, 1024: 12 + 1024 + 4 * 12 + 20,
 
 
 class DriverTest(CaseTest):
-    """A test of the library over a driver in Python."""
+    """A test of driver.c over the library, on a processor, with a driver in Python."""
+
+    processor, library_class = HERE, Library
 
     @classmethod
     def setUpClass(cls):
         cls.build = tempfile.mkdtemp(prefix="bootswap-driver-")
         cls.addClassCleanup(shutil.rmtree, cls.build, ignore_errors=True)
-        made, faults = shared_library(archive_for(TARGET), cls.build)
-        if faults:
-            raise AssertionError(f"the calls over a driver compile: {faults[0]}")
-        cls.library = Library(made)
+        cls.library = cls.library_class(cls.processor, [cls.below_driver()], cls.build)
+        cls.addClassCleanup(cls.library.close)
+
+    @classmethod
+    def below_driver(cls):
+        """The file of what driver.c calls."""
+        return cls.processor.archive()
 
     def new_device(self, sector=512, sectors=(2, 2), room=None, running=ONE):
         """A provisioned device, whose slots run the same image."""
@@ -79,7 +84,8 @@ def make_call(device, event):
     word, *words = event.split()
     if word == "accept":
         given = json.loads(read(f"{ROOT}/{words[0]}"))
-        manifest = device.library.names._Manifest(given["sequence-number"], len(given["components"]))
+        library = device.library
+        manifest = library.new(library.names._Manifest, given["sequence-number"], len(given["components"]))
         for row, it in zip(manifest.components, given["components"]):
             row.image, row.size, row.is_permanent = it["component-id"], it["size"], it["kind"] == "permanent"
             row.digest[:] = bytes.fromhex(it["payload-digest"])
@@ -322,9 +328,9 @@ class JournalsTest(DriverTest):
         given = {
             "boot": lambda: texts,
             "accept": lambda manifest: [byref(manifest)],
-            "piece": lambda number, file: [c_uint8(number), (c_uint8 * len(file)).from_buffer_copy(file), c_size_t(len(file))],
+            "piece": lambda number, file: [c_uint8(number), device.library.copy(file), c_size_t(len(file))],
         }.get(name, lambda number: [c_uint8(number)])(*words)
-        kept, told = device.device.kept, names._CallResult()
+        kept, told = device.device.kept, device.library.new(names._CallResult)
         ctypes.memset(device.journal, 0xC5, device.room)
         journal = [device.journal, c_size_t(room)]
         mirror = [device.mirror, c_size_t(len(device.mirror))]
@@ -412,55 +418,49 @@ class JournalsTest(DriverTest):
         return False
 
 
+class Listed:
+    """A flash whose driver lists its calls."""
+
+    def __init__(self):
+        self.made = []
+
+    def read(self, context, at, out, length):
+        return 0
+
+    def program(self, context, at, given, length):
+        self.made.append((at, ctypes.string_at(given, length)))
+        return 0
+
+    def erase(self, context, at, length):
+        self.made.append((at, length))
+        return 0
+
+
 @needs_compiler
-class MalformedTest(CaseTest):
+class MalformedTest(DriverTest):
     """Journals that the library never records, by a stand-in for it."""
 
     @classmethod
-    def setUpClass(cls):
-        cls.build = tempfile.mkdtemp(prefix="bootswap-driver-")
-        cls.addClassCleanup(shutil.rmtree, cls.build, ignore_errors=True)
-        made = f"{cls.build}/libmalformed.so"
-        words = ["cc", "-O1", "-fPIC", "-shared", "-Wall", *INCLUDE, "-o", made, DRIVER, f"{ROOT}/tests/malformed.c"]
-        faults, _ = ran(words)
-        if faults:
-            raise AssertionError(f"the stand-in compiles: {faults[0]}")
-        cls.calls = ctypes.CDLL(made)
+    def below_driver(cls):
+        return f"{ROOT}/tests/malformed.c"
 
-    def device(self, journal, used, number=0):
-        """Opens a device whose next call records these bytes in a journal of their length, at the end of a page that no
-        page follows. Returns the calls of its driver, and what makes the call."""
-        page = mmap.PAGESIZE
-        pages = mmap.mmap(-1, 2 * page)
-        place = ctypes.addressof(c_uint8.from_buffer(pages))
-        ctypes.CDLL(None).mprotect(ctypes.c_void_p(place + page), c_size_t(page), 0)
-        ctypes.memmove(place + page - len(journal), journal, len(journal))
-        made, self.held = [], (pages,)
-        self.struct(place + page - len(journal), len(journal), made)
-        c_uint64.in_dll(self.calls, "length").value = used
-        c_uint32.in_dll(self.calls, "returned").value = number
-        c_uint32.in_dll(self.calls, "attempts").value = 0
-        return made
+    def opened(self, journal, used, number=0):
+        """A device of one image, whose next call records these bytes in a journal of their length, at the end of a page that
+        no page follows; and what its driver lists."""
+        library, flash = self.library, Listed()
+        setup, driver, mirror = library.setup(512, [2]), library.driver_of(flash), library.copy(bytes(5120))
+        room = library.at_page_end(len(journal))
+        ctypes.memmove(room, journal, len(journal))
+        pointers = [ctypes.cast(it, POINTER(c_uint8)) for it in (mirror, room)]
+        parts = ctypes.pointer(setup), ctypes.pointer(driver), pointers[0], len(mirror), pointers[1], len(journal)
+        device = library.new(library.device, *parts)
+        self.held = flash, setup, driver, mirror, room
+        library.calls.malformed_set(c_uint32(number), c_uint64(used))
+        self.assertEqual(library.calls.bootswap_open(byref(device)), 0)
+        return device, flash.made
 
-    def struct(self, place, room, made):
-        """A device of one image over a driver that lists its calls."""
-        numbers = [ctypes.c_int, ctypes.c_void_p, c_uint32]
-        read = ctypes.CFUNCTYPE(*numbers, POINTER(c_uint8), c_uint32)(lambda _, at, out, length: 0)
-        program = ctypes.CFUNCTYPE(*numbers, POINTER(c_uint8), c_uint32)(
-            lambda _, at, given, length: made.append((at, ctypes.string_at(given, length))) or 0
-        )
-        erase = ctypes.CFUNCTYPE(*numbers, c_uint32)(lambda _, at, length: made.append((at, length)) or 0)
-        pointers = [ctypes.cast(it, ctypes.c_void_p).value for it in (read, program, erase)]
-        driver = (c_uint64 * 4)(*pointers, 0)
-        setup = (c_uint32 * 19)(512, 1, 2)
-        mirror = (c_uint8 * 5120)()
-        # The six fields of bindings/c/driver.h that the caller sets, and room for the state and the result.
-        device = (c_uint64 * 200)(*map(ctypes.addressof, (setup, driver, mirror)), len(mirror), place, room)
-        self.held += (read, program, erase, driver, setup, mirror, device)
-        self.assertEqual(self.calls.bootswap_open(byref(device)), 0)
-
-    def confirm(self):
-        return self.calls.bootswap_device_confirm(byref(self.held[-1]), c_uint8(0))
+    def confirm(self, device):
+        return self.library.calls.bootswap_device_confirm(byref(device), c_uint8(0))
 
     def test_malformed(self):
         """Each, after a write that is performed, is a failure. No byte after the journal is read."""
@@ -483,25 +483,24 @@ class MalformedTest(CaseTest):
             "far more bytes than it has": (good, 2**63),
         }
         for name, (journal, used) in rows.items():
-            made = self.device(good + journal, 20 + used)
+            device, made = self.opened(good + journal, 20 + used)
             wanted = DRIVER_FAILED, [(512, b"ABCDEFGH")] * (used <= len(journal))
-            got = self.confirm(), made
+            got = self.confirm(device), made
             self.case(name, [f"{got}, and not {wanted}"] * (got != wanted))
 
     def test_well_formed(self):
         """The writes of a journal in their order, up to its last byte."""
-        made = self.device(words(1, 1024, 512) + words(0, 1032, 16) + bytes(range(16)), 40)
-        number = self.confirm()
+        device, made = self.opened(words(1, 1024, 512) + words(0, 1032, 16) + bytes(range(16)), 40)
+        number = self.confirm(device)
         self.case("two writes", [f"{number}, {made}"] * ((number, made) != (0, [(1024, 512), (1032, bytes(range(16)))])))
 
     def test_no_progress(self):
         """A boot whose attempts write the same ends after two of them."""
         for journal, used in ((bytes(856), 0), (words(0, 512, 8) + bytes(844), 20)):
-            made = self.device(journal, used, CUT)
-            text = ctypes.create_string_buffer(8)
-            number = self.calls.bootswap_device_boot(byref(self.held[-1]), text, c_size_t(8), text, c_size_t(8))
-            attempts = c_uint32.in_dll(self.calls, "attempts").value
-            got = (number, attempts, len(made))
+            device, made = self.opened(journal, used, CUT)
+            text, calls = self.library.copy(bytes(8)), self.library.calls
+            number = calls.bootswap_device_boot(byref(device), text, c_size_t(8), text, c_size_t(8))
+            got = (number, calls.malformed_attempts(), len(made))
             self.case(f"a boot that writes {used} bytes", [got] * (got != (SMALL_JOURNAL, 2, 2 * (used > 0))))
 
 
@@ -512,6 +511,8 @@ def words(*numbers):
 @needs_compiler
 class SourceTest(CaseTest):
     """The files of bindings/c, and the listing of docs/PORTING.md."""
+
+    processor, compilers, has_cpp = HERE, ("gcc", "clang"), True
 
     def setUp(self):
         self.folder = tempfile.mkdtemp(prefix="bootswap-driver-")
@@ -525,18 +526,19 @@ class SourceTest(CaseTest):
             it.write("\n".join(re.findall(r"^```c\n(.*?)^```$", text, re.MULTILINE | re.DOTALL)))
         with open(f"{self.folder}/header.cpp", "w", encoding="utf-8") as it:
             it.write("#include <driver.h>\n")
-        for compiler in filter(shutil.which, ("gcc", "clang")):
+        for compiler in filter(shutil.which, self.compilers):
             for file in (DRIVER, f"{ROOT}/bindings/c/file_device.c", self.listing):
                 faults, _ = ran([compiler, *STRICT, *INCLUDE, "-O2", "-c", file, "-o", f"{self.folder}/made.o"])
                 self.case(f"{os.path.basename(file)} with {compiler}", faults)
             header = ["-x", "c++", *STRICT[1:], *INCLUDE, "-fsyntax-only", f"{self.folder}/header.cpp"]
-            self.case(f"driver.h as C++ with {compiler}", ran([compiler, *header])[0])
+            if self.has_cpp:
+                self.case(f"driver.h as C++ with {compiler}", ran([compiler, *header])[0])
 
     def test_names(self):
         """driver.c calls nothing but the library, memcpy and memset, and has no data of its own."""
         made = f"{self.folder}/driver.o"
-        faults, _ = ran(["cc", *STRICT, *INCLUDE, "-O1", "-fno-pie", "-c", DRIVER, "-o", made])
-        _, output = ran(["nm", "--format=posix", made])
+        faults = self.processor.compiled([*STRICT, *INCLUDE, "-O1", "-fno-pie", "-c", DRIVER, "-o", made])
+        _, output = ran([self.processor.nm, "--format=posix", made])
         rows = [line.split()[:2] for line in output.decode().splitlines()]
         called = {name for name, kind in rows if kind == "U" and not name.startswith("bootswap_")}
         data = [name for name, kind in rows if kind.upper() in "BDC"]

@@ -10,10 +10,10 @@ import signal
 import subprocess
 import tempfile
 
-from support.compiled import needs_compiler, preloaded
+from support.compiled import needs_compiler
 from support.driven import INCLUDE, STRICT
 from support.files import EXAMPLES, ROOT, read
-from support.libraries import TARGET, archive_for, ran
+from support.processors import HERE
 from support.program import CaseTest
 
 OLD, NEW = "1.0.0+0", "2.0.0+0"
@@ -29,14 +29,14 @@ KEPT = f"plain\nrun 0 {NEW}\nrun 1 {NEW}\nruns 0 {NEW}\nruns 1 {NEW}\n"
 # that reverts them was. A trial that was recorded before power failed is over at the next boot.
 LIVES = [(TRIAL, BACK, PLAIN), (BACK, PLAIN, PLAIN), (PLAIN, PLAIN, PLAIN)]
 
-KILLS = 1000
-
 # How many seconds a run may take.
 LIMIT = 20
 
 
 @needs_compiler
 class FileDeviceTest(CaseTest):
+    processor, most_kills = HERE, 1000
+
     @classmethod
     def setUpClass(cls):
         # The flash is in memory, where that is a folder: each of its writes waits for the disk.
@@ -45,17 +45,17 @@ class FileDeviceTest(CaseTest):
         for folder in (cls.folder, place):
             cls.addClassCleanup(shutil.rmtree, folder, ignore_errors=True)
         cls.program, cls.flash = f"{cls.folder}/device", f"{place}/flash"
-        files = [f"{ROOT}/bindings/c/{name}.c" for name in ("file_device", "driver")]
-        faults, _ = ran(["cc", *STRICT, "-O1", *INCLUDE, *files, archive_for(TARGET), "-o", cls.program])
+        files = [f"{ROOT}/{name}.c" for name in ("bindings/c/file_device", "bindings/c/driver", "tests/power")]
+        faults = cls.processor.compiled([*STRICT, "-O1", *INCLUDE, *files, cls.processor.archive(), "-o", cls.program])
         if faults:
             raise AssertionError(f"file_device.c compiles: {faults[0]}")
 
     def run_device(self, *commands, at=None, leaves="nothing"):
         """A power-up: how the run ends, and what it prints. Power fails in write `at`, which leaves what `leaves` says."""
-        environment = {**preloaded(self, "power"), "POWER_LEAVES": leaves} if at else os.environ
-        environment = {**environment, "POWER_AT": str(at)} if at else environment
+        environment = {**os.environ, "POWER_AT": str(at), "POWER_LEAVES": leaves} if at else os.environ
         streams = {"stdin": subprocess.DEVNULL, "stdout": subprocess.PIPE, "stderr": subprocess.STDOUT, "text": True}
-        done = subprocess.run([self.program, self.flash, *commands], env=environment, timeout=LIMIT, **streams)
+        words = [*self.processor.runner, self.program, self.flash, *commands]
+        done = subprocess.run(words, env=environment, timeout=LIMIT, **streams)
         return done.returncode, done.stdout
 
     def put(self, contents):
@@ -85,7 +85,7 @@ class FileDeviceTest(CaseTest):
         self.assertEqual(self.run_device("boot"), (0, TRIAL))
         tried = read(self.flash)
         starts = [(requested, self.writes(requested), LIVES), (tried, self.writes(tried), LIVES[1:])]
-        while kills < KILLS and len(faults) < 5:
+        while kills < self.most_kills and len(faults) < 5:
             whole, writes, lives = starts[numbers.randrange(2)]
             self.put(whole)
             more, is_open = self.killed(numbers, writes)
@@ -95,13 +95,13 @@ class FileDeviceTest(CaseTest):
 
     def writes(self, whole):
         """How many times a boot of a flash calls `pwrite`."""
-        at, status = 0, -signal.SIGKILL
-        while status == -signal.SIGKILL:
+        last, after = 40, 200
+        while after - last > 1:
+            middle = (last + after) // 2
             self.put(whole)
-            at += 1
-            status, _ = self.run_device("boot", at=at)
-        self.assertGreater(at, 40)
-        return at - 1
+            last, after = (middle, after) if self.run_device("boot", at=middle)[0] == -signal.SIGKILL else (last, middle)
+        self.assertGreater(last, 40)
+        return last
 
     def killed(self, numbers, writes):
         """Boots with a power cut, and in half of the cases again with one. Returns how many runs were killed, and whether the

@@ -8,16 +8,17 @@ import ctypes
 import glob
 import importlib.util
 import json
-import os
 import re
-import shutil
 import subprocess
 import sys
 import tempfile
 import unittest
 from unittest import mock
 
-ROOT = os.path.dirname(os.path.dirname(os.path.realpath(__file__)))
+from support.compiled import needs_compiler
+from support.files import ROOT
+from support.processors import HERE
+
 HEADER, MANIFEST, NAMES = "include/bootswap.h", "include/bootswap_manifest.h", "include/bootswap_names.h"
 
 # Names of the header that are others elsewhere: `class` is a word of C++, and a number of the header has `INVALID_SET`.
@@ -196,17 +197,17 @@ def enums_of_c():
     return {name: {key: int(number) for key, number in re.findall(r"BOOTSWAP_(\w+) = (\d+)", body)} for name, body in found}
 
 
-def printed_names():
-    """Returns the names of include/bootswap_names.h as a program in C prints them: for each kind its names by their numbers,
-    without those that are unknown."""
+def printed_names(processor):
+    """Returns the names of include/bootswap_names.h as a program in C prints them on a processor: for each kind its names by
+    their numbers, without those that are unknown."""
     kinds = re.findall(r"^static inline const char \*bootswap_(\w+)_name", text_of(NAMES), re.MULTILINE)
     lines = [f'for (uint32_t n = 0; n < 64; n++) printf("{it} %u %s\\n", n, bootswap_{it}_name(n));' for it in kinds]
     text = "\n".join(["#include <stdio.h>", "#include <bootswap_names.h>", "int main(void) {", *lines, "}", ""])
     with tempfile.TemporaryDirectory() as folder:
         program = f"{folder}/names"
-        words = ["cc", "-std=c11", "-Wall", "-Wextra", "-Werror", "-I", f"{ROOT}/include", "-x", "c", "-", "-o", program]
-        subprocess.run(words, input=text, text=True, check=True)
-        rows = subprocess.run([program], capture_output=True, text=True, check=True).stdout.splitlines()
+        words = ["-std=c11", "-Wall", "-Wextra", "-Werror", "-I", f"{ROOT}/include", "-x", "c", "-", "-o", program]
+        subprocess.run([*processor.compiler, *words], input=text, text=True, check=True)
+        rows = subprocess.run([*processor.runner, program], capture_output=True, text=True, check=True).stdout.splitlines()
     names = {it: {} for it in kinds}
     for kind, number, name in map(str.split, rows):
         if name != "unknown":
@@ -227,6 +228,39 @@ def codes_of_rattle(kind):
     return {OTHER_NAMES.get(name, name): int(code) for name, code in re.findall(rf"{kind}::(\w+)(?:\(_\))? => (\d+),", text)}
 
 
+@needs_compiler
+class CompiledHeaderTest(unittest.TestCase):
+    """The header as a compiler reads it."""
+
+    processor = HERE
+
+    def test_a_compiler_lays_structs_out_so(self):
+        lines = ["#include <bootswap_manifest.h>"]
+        for name, fields in structs_of_c().items():
+            kind = f"struct bootswap_{name}"
+            size = size_and_alignment(fields)[0]
+            lines.append(f'_Static_assert(sizeof({kind}) == {size}, "the size of {name}");')
+            for path, offset, size in rows_of(fields):
+                facts = f"offsetof({kind}, {path}) == {offset} && sizeof((({kind} *)0)->{path}) == {size}"
+                lines.append(f'_Static_assert({facts}, "{name}.{path}");')
+        words = [*self.processor.compiler, "-std=c11", "-fsyntax-only", "-I", f"{ROOT}/include", "-x", "c", "-"]
+        done = subprocess.run(words, input="\n".join([*lines, ""]), capture_output=True, text=True)
+        self.assertEqual((done.returncode, done.stderr), (0, ""))
+
+    def test_names(self):
+        """include/bootswap_names.h has the names that the program prints."""
+        wanted, enums = {}, enums_of_c()
+        faults = (("fault", "Fault"), ("manifest_fault", "ManifestError"), ("upload_fault", "UploadError"))
+        for enum, kind in faults:
+            returned = enums[enum].values()
+            wanted[enum] = {at: name for at, name in names_of_rattle(kind).items() if at in returned}
+        wanted["number"] = {at: name.lower().replace("_", "-") for name, at in enums["number"].items()}
+        wanted["check"] = names_of_rattle("ImageError")
+        reasons = next(re.findall(r"Reason::(\w+)(?:\(.*\))? => (\d),", it) for it in sources() if "fn reason_number" in it)
+        wanted["reason"] = {int(at): re.sub(r"(?<!^)([A-Z])", r"-\1", name).lower() for name, at in reasons}
+        self.assertEqual(printed_names(self.processor), wanted)
+
+
 class HeaderTest(unittest.TestCase):
     @classmethod
     def setUpClass(cls):
@@ -240,21 +274,6 @@ class HeaderTest(unittest.TestCase):
             with self.subTest(name):
                 self.assertTrue(rows)
                 self.assertEqual(rows, max(others.values(), key=lambda it: (it == rows, len({*it} & {*rows}))))
-
-    def test_a_compiler_lays_structs_out_so(self):
-        if not shutil.which("cc"):
-            self.skipTest("there is no C compiler cc")
-        lines = ["#include <bootswap_manifest.h>"]
-        for name, rows in self.structs.items():
-            kind = f"struct bootswap_{name}"
-            size = size_and_alignment(structs_of_c()[name])[0]
-            lines.append(f'_Static_assert(sizeof({kind}) == {size}, "the size of {name}");')
-            for path, offset, size in rows:
-                facts = f"offsetof({kind}, {path}) == {offset} && sizeof((({kind} *)0)->{path}) == {size}"
-                lines.append(f'_Static_assert({facts}, "{name}.{path}");')
-        words = ["cc", "-std=c11", "-fsyntax-only", "-I", f"{ROOT}/include", "-x", "c", "-"]
-        done = subprocess.run(words, input="\n".join([*lines, ""]), capture_output=True, text=True)
-        self.assertEqual((done.returncode, done.stderr), (0, ""))
 
     def test_the_crate_has_the_structs(self):
         self.check_structs({name: rows_of(fields) for name, fields in structs_of_rattle().items()})
@@ -326,21 +345,6 @@ class HeaderTest(unittest.TestCase):
         """The header has the version that the program prints."""
         version = re.search(r'#define BOOTSWAP_VERSION "(.+)"', text_of(HEADER))[1]
         self.assertIn(f'.version("{version}")', "".join(sources()))
-
-    def test_names(self):
-        """include/bootswap_names.h has the names that the program prints."""
-        if not shutil.which("cc"):
-            self.skipTest("there is no C compiler cc")
-        wanted = {}
-        faults = (("fault", "Fault"), ("manifest_fault", "ManifestError"), ("upload_fault", "UploadError"))
-        for enum, kind in faults:
-            returned = self.enums[enum].values()
-            wanted[enum] = {at: name for at, name in names_of_rattle(kind).items() if at in returned}
-        wanted["number"] = {at: name.lower().replace("_", "-") for name, at in self.enums["number"].items()}
-        wanted["check"] = names_of_rattle("ImageError")
-        reasons = next(re.findall(r"Reason::(\w+)(?:\(.*\))? => (\d),", it) for it in sources() if "fn reason_number" in it)
-        wanted["reason"] = {int(at): re.sub(r"(?<!^)([A-Z])", r"-\1", name).lower() for name, at in reasons}
-        self.assertEqual(printed_names(), wanted)
 
 
 if __name__ == "__main__":

@@ -12,7 +12,8 @@ from support.builders import CLASS, VENDOR
 from support.compiled import needs_compiler
 from support.driven import Library
 from support.files import EXAMPLES, ROOT, read
-from support.libraries import TARGET, archive_for, manifest_archive_for, ran, shared_library
+from support.libraries import ran, shared_library
+from support.processors import HERE
 from support.program import CaseTest, short
 from test_random_manifests import drawn_text, listing_of
 
@@ -43,58 +44,52 @@ LIMIT = 120
 
 @needs_compiler
 class LibraryTest(CaseTest):
-    """The library as `bindings/build` builds it."""
+    """The libraries as `bindings/build` builds them, in programs in C."""
+
+    processor = HERE
 
     @classmethod
     def setUpClass(cls):
         cls.folder = tempfile.mkdtemp(prefix="bootswap-library-")
         cls.addClassCleanup(shutil.rmtree, cls.folder, ignore_errors=True)
-        cls.archive, cls.manifests = archive_for(TARGET), manifest_archive_for(TARGET)
-        cls.shared = shared_library(cls.folder)
+        cls.archive, cls.manifests = cls.processor.archive(), cls.processor.manifest_archive()
 
     def test_program_in_c(self):
         """It compiles without a warning, has fewer than 100 lines, and ends with the new image whichever write is cut."""
         program = f"{self.folder}/life"
-        faults, _ = ran(["cc", *STRICT, LIFE, self.archive, "-o", program])
+        faults = self.processor.compiled([*STRICT, LIFE, self.archive, "-o", program])
         lines = len(read(LIFE).splitlines())
         self.case("life.c compiles", faults + [f"{lines} lines"] * (lines >= 100))
         images = [f"{EXAMPLES}/images/{name}.img" for name in ("one", "patched")]
         for write in () if faults else (1, 5, 9, 13, 17):
-            faults, output = ran([program, *images, str(write)])
+            faults, output = self.processor.ran(program, *images, str(write))
             wanted = b"power failed in write %d\n" % write + ENDS
             self.case(f"life.c with a cut of write {write}", faults or [short(output)] * (output != wanted))
 
     def test_journals(self):
         """The writes that journals record make the same bytes on a part, whether the journal of a boot is long enough or not."""
         program = f"{self.folder}/journal"
-        faults, _ = ran(["cc", *STRICT, JOURNAL, self.archive, "-o", program])
+        faults = self.processor.compiled([*STRICT, JOURNAL, self.archive, "-o", program])
         self.case("journal.c compiles", faults)
         images = [f"{EXAMPLES}/images/{name}.img" for name in ("one", "patched")]
         for room, boots in () if faults else ((8192, 1), (2080, 1), (1000, 3), (600, 5)):
-            faults, output = ran([program, *images, str(room)])
+            faults, output = self.processor.ran(program, *images, str(room))
             wanted = b"%d boots\ntake 0 1.1.0+0\n" % boots
             self.case(f"journal.c with {room} bytes", faults or [short(output)] * (output != wanted))
 
     def test_null_pointers(self):
         """Null with a length of 0 passes no bytes, in each call as any other pointer does."""
         program = f"{self.folder}/nulls"
-        faults, _ = ran(["cc", *STRICT, NULLS, self.archive, "-o", program])
+        faults = self.processor.compiled([*STRICT, NULLS, self.archive, "-o", program])
         self.case("nulls.c compiles", faults)
         images = [f"{EXAMPLES}/images/{name}.img" for name in ("one", "patched")]
-        faults, output = ([], b"") if faults else ran([program, *images])
+        faults, output = ([], b"") if faults else self.processor.ran(program, *images)
         self.case("what the calls return", faults or [short(output)] * (output != RETURNED))
-
-    def test_header_in_cpp(self):
-        file = f"{self.folder}/header.cpp"
-        with open(file, "wb") as it:
-            it.write(b"#include <bootswap_manifest.h>")
-        faults, _ = ran(["cc", "-x", "c++", "-Wall", "-Wextra", "-Werror", "-I", f"{ROOT}/include", "-fsyntax-only", file])
-        self.case("the header compiles as C++", faults)
 
     def test_manifests(self):
         """tests/manifest.c reads a text as it stands in the examples, with both libraries and in any memory."""
         program = f"{self.folder}/manifest"
-        faults, _ = ran(["cc", *STRICT, "-Wconversion", *MANIFEST, self.manifests, self.archive, "-o", program])
+        faults = self.processor.compiled([*STRICT, "-Wconversion", *MANIFEST, self.manifests, self.archive, "-o", program])
         self.case("manifest.c compiles", faults)
         own = [VENDOR.replace("-", ""), CLASS.replace("-", "")]
         text = f"{EXAMPLES}/manifests/both.json"
@@ -107,8 +102,37 @@ class LibraryTest(CaseTest):
             ("an image", [*own, f"{EXAMPLES}/images/one.img", "13000"], b"refused 1 NotJson\n"),
             ("an image that the device lacks", [*own, f"{EXAMPLES}/manifests/third.json", "13000"], b"refused 6 NoComponent\n"),
         ):
-            faults, output = ran([program, *words])
+            faults, output = self.processor.ran(program, *words)
             self.case(f"manifest.c with {what}", faults or [short(output)] * (output != wanted))
+
+    def test_requests_no_memory(self):
+        """The library calls no allocator, in a boot as in any other call. That for manifests calls one of the program's own."""
+        for what, archive, wanted in (
+            ("the library requests no memory", self.archive, CALLED),
+            ("the library for manifests requests memory of the program", self.manifests, CALLED | ALLOCATOR),
+        ):
+            faults, output = ran([self.processor.nm, "--undefined-only", "--format=posix", archive])
+            called = {line.split()[0] for line in output.decode().splitlines() if line.split()[1:] == ["U"]}
+            self.case(what, faults + [f"what it calls: {it}" for it in sorted(called ^ wanted)])
+
+
+@needs_compiler
+class OtherLanguagesTest(CaseTest):
+    """The libraries in Python, their headers in C++, and what bindings/README.md shows of them."""
+
+    @classmethod
+    def setUpClass(cls):
+        cls.folder = tempfile.mkdtemp(prefix="bootswap-library-")
+        cls.addClassCleanup(shutil.rmtree, cls.folder, ignore_errors=True)
+        cls.archive, cls.manifests = HERE.archive(), HERE.manifest_archive()
+        cls.shared = shared_library(cls.folder)
+
+    def test_header_in_cpp(self):
+        file = f"{self.folder}/header.cpp"
+        with open(file, "wb") as it:
+            it.write(b"#include <bootswap_manifest.h>")
+        faults, _ = ran(["cc", "-x", "c++", "-Wall", "-Wextra", "-Werror", "-I", f"{ROOT}/include", "-fsyntax-only", file])
+        self.case("the header compiles as C++", faults)
 
     def test_random_manifests(self):
         """Ten thousand random texts are refused by their pieces, and each other one is read."""
@@ -125,16 +149,6 @@ class LibraryTest(CaseTest):
                 faults.append(f"{short(text)}: {got} {short(answer)}, and not {code}")
         faults += [] if min(counts[:8]) > 50 else [f"few of a kind: {counts}"]
         self.case("the texts of ten thousand manifests that are drawn", faults[:5])
-
-    def test_requests_no_memory(self):
-        """The library calls no allocator, in a boot as in any other call. That for manifests calls one of the program's own."""
-        for what, archive, wanted in (
-            ("the library requests no memory", self.archive, CALLED),
-            ("the library for manifests requests memory of the program", self.manifests, CALLED | ALLOCATOR),
-        ):
-            faults, output = ran(["nm", "--undefined-only", "--format=posix", archive])
-            called = {line.split()[0] for line in output.decode().splitlines() if line.split()[1:] == ["U"]}
-            self.case(what, faults + [f"what it calls: {it}" for it in sorted(called ^ wanted)])
 
     def test_python_names(self):
         tests = [sys.executable, "-B", f"{ROOT}/bindings/python/test_bootswap.py"]

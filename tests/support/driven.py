@@ -1,14 +1,14 @@
 """Devices over a flash driver: the calls of bindings/c/driver.h on a flash whose driver is in Python."""
 
 import ctypes
+import hashlib
 import importlib.util
-import os
+import mmap
 import sys
 from ctypes import CFUNCTYPE, POINTER, byref, c_char, c_int, c_size_t, c_uint8, c_uint32, c_void_p
 from unittest import mock
 
 from support.files import ROOT
-from support.libraries import ran
 
 DRIVER_FAILED, SMALL_JOURNAL, CUT = 32, 33, 5
 
@@ -25,24 +25,51 @@ UPLOAD_FAULTS = dict(enumerate(
 ))
 
 
-def shared_library(archive, folder):
-    """Links the library and the calls over a driver to one for Python, and returns its file and what is wrong."""
-    made = f"{folder}/libdriven.so"
-    words = ["cc", *STRICT, "-O1", "-fPIC", "-shared", *INCLUDE, "-o", made, f"{ROOT}/bindings/c/driver.c"]
-    faults, _ = ran([*words, "-Wl,--whole-archive", archive, "-Wl,--no-whole-archive"])
-    return made, faults
-
-
 class Library:
-    """The shared library, with the structs of bindings/python."""
+    """The calls over a driver and what they call, in this process, with the structs of bindings/python. `parts` are the files
+    of what they call: the library, or a stand-in for it."""
 
-    def __init__(self, made):
+    def __init__(self, processor, parts, folder):
         spec = importlib.util.spec_from_file_location("bootswap_driven", f"{ROOT}/bindings/python/bootswap.py")
-        self.names = importlib.util.module_from_spec(spec)
-        with mock.patch.dict(os.environ, BOOTSWAP_LIBRARY=made), mock.patch.dict(sys.modules, {spec.name: self.names}):
+        self.processor, self.names = processor, importlib.util.module_from_spec(spec)
+        with mock.patch.object(ctypes, "CDLL"), mock.patch.dict(sys.modules, {spec.name: self.names}):
             spec.loader.exec_module(self.names)
-        self.calls = ctypes.CDLL(made)
         self.driver, self.device = self.structs()
+        self.calls = self.linked(parts, folder)
+
+    def linked(self, parts, folder):
+        """Compiles and links everything, and returns the calls."""
+        made = f"{folder}/libdriven.so"
+        words = [*STRICT, "-O1", "-fPIC", "-shared", *INCLUDE, "-o", made, f"{ROOT}/bindings/c/driver.c"]
+        faults = self.processor.compiled([*words, "-Wl,--whole-archive", *parts, "-Wl,--no-whole-archive"])
+        if faults:
+            raise AssertionError(f"the calls over a driver compile: {faults[0]}")
+        return ctypes.CDLL(made)
+
+    def close(self):
+        """Ends what was started for the calls."""
+
+    def new(self, kind, *fields):
+        """An object of a type of `ctypes` whose address can be passed to a call."""
+        return kind(*fields)
+
+    def copy(self, given):
+        """Bytes whose address can be passed to a call."""
+        made = self.new(c_uint8 * max(len(given), 1))
+        ctypes.memmove(made, given, len(given))
+        return made
+
+    def at_page_end(self, length):
+        """Bytes at the end of a page that no page follows."""
+        pages, page = mmap.mmap(-1, 2 * mmap.PAGESIZE), mmap.PAGESIZE
+        first = ctypes.addressof(c_uint8.from_buffer(pages))
+        ctypes.CDLL(None).mprotect(c_void_p(first + page), c_size_t(page), 0)
+        return (c_uint8 * length).from_buffer(pages, page - length)
+
+    def driver_of(self, flash):
+        """The struct of a driver, whose three functions are those of an object."""
+        kinds = dict(self.driver._fields_)
+        return self.driver(*(kinds[name](getattr(flash, name)) for name in ("read", "program", "erase")), None)
 
     def structs(self):
         """The structs of bindings/c/driver.h."""
@@ -65,16 +92,16 @@ class Library:
         ]})
 
     def setup(self, sector, sectors, trial_boots=1):
-        made = self.names._Setup(sector, len(sectors), trial_boots=trial_boots)
-        made.sectors[: len(sectors)] = sectors
+        made = self.new(self.names._Setup, sector, len(sectors))
+        made.sectors[: len(sectors)], made.trial_boots = sectors, trial_boots
         return made
 
     def manifest(self, sequence, components):
         """The manifest of these components: for each the image, the bytes of its file, and whether it is permanent."""
-        made = self.names._Manifest(sequence, len(components))
+        made = self.new(self.names._Manifest, sequence, len(components))
         for row, (image, file, is_permanent) in zip(made.components, components):
             row.image, row.size, row.is_permanent = image, len(file), is_permanent
-            row.digest[:] = self.names.digest(file)
+            row.digest[:] = hashlib.sha256(file).digest()
         return made
 
 
@@ -144,17 +171,14 @@ class Driven:
 
     def __init__(self, library, setup, flash, room):
         self.library, self.setup, self.flash, self.room = library, setup, flash, room
-        kinds = dict(library.driver._fields_)
-        parts = [kinds[name](getattr(flash, name)) for name in ("read", "program", "erase")]
-        self.driver = library.driver(*parts, None)
-        self.mirror = (c_uint8 * len(flash.bytes))()
-        self.journal = (c_uint8 * (room + len(CANARY)))()
+        self.driver = library.driver_of(flash)
+        self.mirror = library.new(c_uint8 * len(flash.bytes))
+        self.journal = library.new(c_uint8 * (room + len(CANARY)))
         self.journal[room:] = CANARY
-        journal = ctypes.cast(self.journal, POINTER(c_uint8))
-        mirror = ctypes.cast(self.mirror, POINTER(c_uint8))
-        self.device = library.device(ctypes.pointer(setup), ctypes.pointer(self.driver), mirror, len(self.mirror))
-        self.device.journal, self.device.journal_room = journal, room
-        self.table, self.report = (ctypes.create_string_buffer(it) for it in (20480, 2048))
+        mirror, journal = (ctypes.cast(it, POINTER(c_uint8)) for it in (self.mirror, self.journal))
+        parts = ctypes.pointer(setup), ctypes.pointer(self.driver), mirror, len(self.mirror), journal, room
+        self.device = library.new(library.device, *parts)
+        self.table, self.report = (library.new(c_char * it) for it in (20480, 2048))
 
     def call(self, name, *words):
         """Makes a call, and returns its number."""
@@ -180,8 +204,7 @@ class Driven:
         return self.call("bootswap_device_accept", byref(manifest))
 
     def piece(self, image, file):
-        given = (c_uint8 * max(len(file), 1)).from_buffer_copy(file or b"\0")
-        return self.call("bootswap_device_piece", c_uint8(image), given, c_size_t(len(file)))
+        return self.call("bootswap_device_piece", c_uint8(image), self.library.copy(file), c_size_t(len(file)))
 
     def finish(self, image):
         return self.call("bootswap_device_finish", c_uint8(image))
@@ -201,7 +224,7 @@ class Driven:
 
     def versions(self):
         """The versions of the images at the front of the primary slots."""
-        found = self.library.names._Description()
+        found = self.library.new(self.library.names._Description)
         for image in range(self.setup.images):
             args = (byref(self.setup), self.mirror, c_size_t(len(self.mirror)), c_uint8(image), c_uint8(0), byref(found))
             if self.library.calls.bootswap_slot(*args) != 0:
