@@ -1,5 +1,5 @@
-//! Tests of uploads on a flash that has three sectors more than its map: the bytes after the map
-//! don't change, and a piece of a saved upload is refused if the flash isn't as the upload needs it.
+//! Tests of uploads on a flash that has three sectors more than its map. The bytes after the map
+//! don't change. A piece of a saved upload is refused if the upload doesn't match the flash.
 //!
 //! The map has 16 sectors of 512 bytes, for two images of two sectors. The secondary slots begin at
 //! the addresses 3072 and 4608, and no image runs.
