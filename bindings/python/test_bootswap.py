@@ -278,7 +278,9 @@ class Devices(unittest.TestCase):
         device.accept(1, [Component.of(0, file)])
         device.piece(0, file[:13])
         device.flash[device.place(0, 1) + 40] = 0
-        self.assertEqual(device.piece(0, file[13:]).fault, bootswap.Fault.NotBooted)
+        reply = device.piece(0, file[13:])
+        self.assertEqual((reply.fault, reply.detail), (Fault.Upload, UploadFault.NoSession))
+        self.assertEqual(device.finish(0).fault, Fault.NotBooted)
         device.flash[device.place(0, 1) + 40] = 0xFF
         self.assertFalse(device.is_booted)
 
