@@ -53,12 +53,13 @@ enum bootswap_number {
     BOOTSWAP_NO_IMAGE = 19,    /* there is no such image, or no such side of it */
     BOOTSWAP_TOO_MANY = 20,    /* more than 8 components, or more than 16 cuts */
     BOOTSWAP_NO_LOG = 21,      /* the flash has no log of a device */
-    /* For texts: */
+    /* For texts and images: */
     BOOTSWAP_NO_TABLE = 24,    /* the text is no table */
     BOOTSWAP_NO_REPORT = 25,   /* the text is no report */
     BOOTSWAP_INVALID_SET = 26, /* the running images of the table don't fit each other */
     BOOTSWAP_WRONG = 27,       /* the report isn't right for the table */
-    BOOTSWAP_NO_ROOM = 28      /* the text is longer than its buffer */
+    BOOTSWAP_NO_ROOM = 28,     /* the text or the image is longer than its buffer */
+    BOOTSWAP_BAD_IMAGE = 29    /* no image has the values */
 };
 
 /* Why a call is refused: the number of the reason. */
@@ -215,6 +216,22 @@ struct bootswap_description {
     uint8_t digest[32]; /* the SHA-256 of its header, body and protected area */
 };
 
+/* The values of an image that is made, besides its body. */
+struct bootswap_image_parts {
+    uint32_t load_address;           /* ih_load_addr */
+    uint16_t header_size;            /* ih_hdr_size: the length of the header in bytes, with the zero bytes after its
+                                        fields, at least 32 */
+    uint8_t has_counter;             /* not 0: the image has the security counter `counter` */
+    uint8_t unused;
+    uint32_t flags;                  /* ih_flags: of 0x1, 0x10 and 0x100 */
+    struct bootswap_version version; /* ih_ver */
+    uint32_t counter;
+    uint32_t needs_count;            /* 0 to 16 */
+    uint32_t groups_count;           /* 0 to 4 */
+    struct bootswap_need needs[BOOTSWAP_MAX_NEEDS]; /* its dependencies, in the order of its entries */
+    struct bootswap_group groups[BOOTSWAP_MAX_GROUPS];
+};
+
 /* The state of a device that persists across its boots, as the log of its flash has it. */
 struct bootswap_state {
     uint32_t kind;      /* 1 steady, 2 swap, 3 settle, 4 trial, 5 back, 6 back-settle: the phase of an upgrade */
@@ -364,6 +381,17 @@ uint32_t bootswap_state(const struct bootswap_setup *setup, const uint8_t *flash
 /* Describes the image that the bytes are. Returns 0, or the number of the first check that fails, 1 to 15. */
 uint32_t bootswap_describe(const uint8_t *bytes, size_t bytes_length, struct bootswap_description *description);
 
+/*
+ * Makes an image of a body and its values at the front of `image`, with the bytes that `bootswap make-image` writes for
+ * them. The bytes after it stay as they were. Returns 0, and in `length` the length of the image in bytes;
+ * BOOTSWAP_BAD_IMAGE if no image has these values, for example if a needed image has a number above 255: then `length`
+ * is 0; or BOOTSWAP_NO_ROOM, only if the image is longer than the buffer: then `length` is its length. `image` changes
+ * only if 0 is returned. An image has 40 bytes more than its header and body, and at most 476 more if it has a security
+ * counter, needs or groups.
+ */
+uint32_t bootswap_make_image(const struct bootswap_image_parts *parts, const uint8_t *body, size_t body_length,
+                             uint8_t *image, size_t image_room, uint64_t *length);
+
 /* The SHA-256 of bytes (FIPS 180-4). */
 void bootswap_digest(const uint8_t *bytes, size_t bytes_length, struct bootswap_sha256 *digest);
 
@@ -390,6 +418,7 @@ _Static_assert(sizeof(struct bootswap_cut) == 24, "a cut");
 _Static_assert(sizeof(struct bootswap_told) == 600, "the result of a call");
 _Static_assert(sizeof(struct bootswap_manifest) == 584, "a manifest");
 _Static_assert(sizeof(struct bootswap_description) == 464, "a description");
+_Static_assert(sizeof(struct bootswap_image_parts) == 432, "the values of an image");
 _Static_assert(sizeof(struct bootswap_state) == 52, "the state in a log");
 #endif
 

@@ -27,6 +27,7 @@ static inline const char *bootswap_number_name(uint32_t number) {
     case BOOTSWAP_INVALID_SET: return "invalid-set";
     case BOOTSWAP_WRONG: return "wrong";
     case BOOTSWAP_NO_ROOM: return "no-room";
+    case BOOTSWAP_BAD_IMAGE: return "bad-image";
     default: return "unknown";
     }
 }

@@ -21,11 +21,13 @@ struct run {
     struct bootswap_sha256 digest;
     struct bootswap_description description;
     struct bootswap_state state;
-    uint64_t lengths[4];
+    uint64_t lengths[6];
+    uint8_t image[128];
 };
 
 static const struct bootswap_setup setup = {.sector_size = SECTOR, .images = 1, .sectors = {2}, .trial_boots = 1};
 static const char table_text[] = "image 0 1.0.0+0 0 0\n";
+static const struct bootswap_image_parts parts = {.header_size = 32, .version = {.major = 1}};
 static uint8_t running[2 * SECTOR], new[2 * SECTOR];
 static struct bootswap_told told;
 
@@ -115,6 +117,8 @@ static void call_others(struct run *run, void *none) {
     add(run, bootswap_choose(table_text, sizeof table_text - 1, none, 0, &run->lengths[1]));
     add(run, bootswap_check(none, 0, none, 0, &run->lengths[2]));
     add(run, bootswap_check(table_text, sizeof table_text - 1, none, 0, &run->lengths[3]));
+    add(run, bootswap_make_image(&parts, none, 0, run->image, sizeof run->image, &run->lengths[4]));
+    add(run, bootswap_make_image(&parts, none, 0, none, 0, &run->lengths[5]));
 }
 
 /* Makes each call with this pointer for no bytes. */
@@ -137,7 +141,7 @@ int main(int count, char **words) {
     make(&with_bytes, bytes, length);
     make(&with_null, NULL, length);
     for (size_t i = 0; i < with_null.count; i++) printf("%u ", with_null.numbers[i]);
-    for (size_t i = 0; i < 4; i++) printf("%llu ", (unsigned long long)with_null.lengths[i]);
+    for (size_t i = 0; i < 6; i++) printf("%llu ", (unsigned long long)with_null.lengths[i]);
     printf("%02x%02x\n", with_null.digest.bytes[0], with_null.digest.bytes[1]);
     return memcmp(&with_null, &with_bytes, sizeof with_null) || memcmp(bytes, old, sizeof bytes);
 }

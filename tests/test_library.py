@@ -4,6 +4,7 @@ import os
 import random
 import re
 import shutil
+import struct
 import subprocess
 import sys
 import tempfile
@@ -14,22 +15,23 @@ from support.driven import Library
 from support.files import EXAMPLES, ROOT, read
 from support.libraries import ran, shared_library
 from support.processors import HERE
-from support.program import CaseTest, short
+from support.program import CaseTest, ProgramTest, short
 from test_random_manifests import drawn_text, listing_of
 
 LIFE = f"{ROOT}/bindings/c/life.c"
 JOURNAL = f"{ROOT}/tests/journal.c"
 NULLS = f"{ROOT}/tests/nulls.c"
 MANIFEST = [f"{ROOT}/tests/manifest.c", f"{ROOT}/bindings/c/manifest.c", "-I", f"{ROOT}/bindings/c"]
+MAKE_IMAGE = f"{ROOT}/tests/make_image.c"
 STRICT = ["-std=c11", "-Wall", "-Wextra", "-Werror", "-I", f"{ROOT}/include"]
 
 # What life.c prints, whichever write of the boot is cut, after the line that names the write.
 ENDS = b"permanent\ntake 0 1.1.0+0\n"
 
-# What nulls.c prints: the numbers that its calls return, four lengths or lines, and the begin of the SHA-256 of no bytes.
+# What nulls.c prints: the numbers that its calls return, six lengths or lines, and the begin of the SHA-256 of no bytes.
 RETURNED = (
     b"18 0 18 1 18 0 18 0 0 0 18 0 18 0 18 0 18 0 0 0 18 0 18 1 18 0 1 "
-    b"18 0 18 0 18 4 18 4 18 4 18 1 18 5 18 18 1 24 28 24 25 1 0 1 1 e3b0\n"
+    b"18 0 18 0 18 4 18 4 18 4 18 1 18 5 18 18 1 24 28 24 25 0 28 1 0 1 1 72 72 e3b0\n"
 )
 
 # What the library calls that it doesn't have itself. So it never allocates.
@@ -196,6 +198,97 @@ def listed(manifest, names):
         line = f"component {it.image} {it.size} {kind} {it.digest.hex()}"
         lines.append(line + (f" precursor {it.precursor.hex()}" if it.precursor else ""))
     return "".join(f"{line}\n" for line in lines).encode()
+
+
+# Images: what each is called, its body, and its values. Needs are (image, version), and groups are lists of these.
+V2 = (2, 0, 0, 0)
+IMAGES = [
+    ("the smallest", b"", {}),
+    ("with a counter of 0", b"ABCD", {"counter": 0}),
+    ("with every field of its header", b"*", {"version": (1, 2, 1027, 134678021), "load_address": 305419896, "flags": 273}),
+    ("with a filler", b"ABCD", {"version": (255, 255, 65535, 2**32 - 1), "header_size": 512, "flags": 16}),
+    ("with the longest header", b"ABCD", {"header_size": 65535, "counter": 2**32 - 1}),
+    ("of 65,537 bytes", 65537 * b"Z", {"needs": [(255, (0, 0, 0, 0)), (0, (255, 255, 65535, 2**32 - 1))]}),
+    ("with one group", b"ABCD", {"groups": [[(1, V2), (2, V2)]]}),
+    ("with all", b"ABCD", {"counter": 5, "needs": [(1, V2)], "groups": [[(2, (1, 0, 0, 0))], [(1, V2), (3, (0, 1, 2, 3))]]}),
+    ("with the most", b"ABCD", {"counter": 7, "needs": 16 * [(1, V2)], "groups": 4 * [4 * [(2, V2)]]}),
+]
+
+# Values that no image has.
+IMPOSSIBLE = [
+    ("a header of 31 bytes", {"header_size": 31}),
+    ("another flag", {"flags": 2}),
+    ("17 needs", {"needs_count": 17}),
+    ("5 groups", {"groups": 4 * [[(1, V2)]], "groups_count": 5}),
+    ("a group without alternatives", {"groups": [[(1, V2)], []]}),
+    ("a group of 5 alternatives", {"groups": [5 * [(1, V2)]]}),
+    ("a need of image 256", {"needs": [(1, V2), (256, V2)]}),
+    ("an alternative of image 256", {"groups": [[(1, V2)], [(2, V2), (256, V2)]]}),
+]
+
+
+def parts_of(version=(1, 0, 0, 0), load_address=0, header_size=32, flags=0, counter=None, needs=(), groups=(), **counts):
+    """Returns the bytes of a `struct bootswap_image_parts`. The counts are those of the lists, unless others are given."""
+    need = lambda it: struct.pack("<IBBHI", it[0], *it[1])
+    rows = b"".join(map(need, needs)).ljust(16 * 12, b"\x07")
+    sets = [struct.pack("<I", len(group)) + b"".join(map(need, group[:4])).ljust(4 * 12, b"\x07") for group in groups]
+    counts = [counts.get("needs_count", len(needs)), counts.get("groups_count", len(groups))]
+    front = struct.pack("<IHBBI", load_address, header_size, counter is not None, 7, flags) + struct.pack("<BBHI", *version)
+    return front + struct.pack("<III", counter or 0, *counts) + rows + b"".join(sets).ljust(4 * 52, b"\x07")
+
+
+def options_of(version=(1, 0, 0, 0), load_address=0, header_size=32, flags=0, counter=None, needs=(), groups=()):
+    """Returns the options of `make-image` for the same values."""
+    need = lambda it: "{} {}.{}.{}+{}".format(it[0], *it[1])
+    options = ["--version={}.{}.{}+{}".format(*version), f"--load-address={load_address}", f"--header-size={header_size}"]
+    options += [f"--flags={flags}"] + [f"--counter={counter}"] * (counter is not None)
+    options += [f"--needs={need(it)}" for it in needs]
+    return options + [f"--needs-one={' '.join(map(need, group))}" for group in groups]
+
+
+@needs_compiler
+class LibraryImageTest(ProgramTest):
+    """Images that C makes."""
+
+    def setUp(self):
+        archive = HERE.archive()
+        super().setUp()
+        self.maker = f"{self.folder}/make_image"
+        faults = HERE.compiled([*STRICT, MAKE_IMAGE, archive, "-o", self.maker])
+        self.case("make_image.c compiles", faults)
+
+    def made(self, body, room, **values):
+        """Returns what make_image.c prints: the number and the length, and the bytes of the buffer."""
+        self.file("parts", parts_of(**values))
+        faults, output = ran([self.maker, "parts", self.file("body", body), str(room)], cwd=self.folder)
+        line, _, image = output.partition(b"\n")
+        return faults or line, image
+
+    def test_same_images(self):
+        """C makes each image byte for byte as `make-image` does, in a buffer of its length or longer. In a shorter one it
+        writes nothing, and returns the length."""
+        for name, body, values in IMAGES:
+            body_file = self.file("body", body)
+            arguments = ["make-image", "made", body_file, "--force", *options_of(**values)]
+            self.expect(f"make-image: {name}", arguments, 0, b"done\n")
+            wanted = read(f"{self.folder}/made")
+            length = len(wanted)
+            for room, line, image in (
+                (length, b"0 %d" % length, wanted),
+                (length + 9, b"0 %d" % length, wanted),
+                (length - 1, b"28 %d" % length, (length - 1) * b"\xee"),
+                (0, b"28 %d" % length, b""),
+            ):
+                got = self.made(body, room, **values)
+                same = got == (line, image)
+                self.case(f"an image {name} in {room} bytes", [] if same else [f"{got[0]}: {short(got[1])}"])
+
+    def test_impossible_values(self):
+        """Values that no image has make none."""
+        for name, values in IMPOSSIBLE:
+            got = self.made(b"ABCD", 1000, **values)
+            same = got == (b"29 0", 1000 * b"\xee")
+            self.case(f"an image with {name}", [] if same else [f"{got[0]}: {short(got[1])}"])
 
 
 def fenced(text, language):

@@ -53,6 +53,7 @@ class Number(enum.IntEnum):
     INVALID_SET = 26
     WRONG = 27
     NO_ROOM = 28
+    BAD_IMAGE = 29
 
 
 class Fault(enum.IntEnum):
@@ -228,6 +229,12 @@ class _Description(ctypes.Structure):
     _fields_ += [("digest", c_uint8 * 32)]
 
 
+class _ImageParts(ctypes.Structure):
+    _fields_ = [("load_address", c_uint32), ("header_size", c_uint16), ("has_counter", c_uint8), ("unused", c_uint8)]
+    _fields_ += [("flags", c_uint32), ("version", _Version), ("counter", c_uint32), ("needs_count", c_uint32)]
+    _fields_ += [("groups_count", c_uint32), ("needs", _Need * 16), ("groups", _Group * 4)]
+
+
 class _State(ctypes.Structure):
     _fields_ = [(name, c_uint32) for name in ("kind", "set", "permanent", "left", "sequence")]
     _fields_ += [("floors", c_uint32 * MOST_IMAGES)]
@@ -254,6 +261,7 @@ def _load() -> ctypes.CDLL:
         "slot": [POINTER(_Setup), *flash, c_uint8, c_uint8, POINTER(_Description)],
         "state": [POINTER(_Setup), *flash, POINTER(_State)],
         "describe": [*flash, POINTER(_Description)],
+        "make_image": [POINTER(_ImageParts), *flash, *flash, POINTER(c_uint64)],
         "digest": [*flash, POINTER(_Sha256)],
         "choose": [*text, *text, POINTER(c_uint64)],
         "check": [*text, *text, POINTER(c_uint64)],

@@ -10,3 +10,4 @@ mod Asked
 mod Counting
 mod Recorded
 mod Lifecycle
+mod Parts

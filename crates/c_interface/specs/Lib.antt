@@ -11,6 +11,7 @@ pub mod Provisioning
 pub mod Recording
 pub mod Description
 pub mod Choosing
+pub mod Making
 pub mod Slots
 pub mod Lifecycle
 pub mod State

@@ -55,6 +55,10 @@ WRONG = 27
 abbrev pub NO_ROOM : ℕ
 NO_ROOM = 28
 
+-- What the call that makes an image returns if no image has its values.
+abbrev pub BAD_IMAGE : ℕ
+BAD_IMAGE = 29
+
 -- The largest number of cuts that a call takes.
 abbrev pub MOST_CUTS : ℕ
 MOST_CUTS = 16

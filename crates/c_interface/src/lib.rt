@@ -4,8 +4,9 @@
 //!   caller's bytes hold to what they hold then; a piece if the saved uploads match the flash.
 //! - Main calls: `bootswap_boot`, `bootswap_accept`, `bootswap_piece`, `bootswap_finish`,
 //!   `bootswap_withdraw`, `bootswap_confirm`, `bootswap_provision`, `bootswap_slot`,
-//!   `bootswap_state`, `bootswap_describe`, `bootswap_choose`, `bootswap_check`; and with a journal
-//!   `bootswap_journal_boot`, `bootswap_journal_accept`, ..
+//!   `bootswap_state`, `bootswap_describe`, `bootswap_choose`, `bootswap_check`,
+//!   `bootswap_make_image`; and with a journal `bootswap_journal_boot`,
+//!   `bootswap_journal_accept`, ..
 //! - Allocates: no.
 //! - Callers: programs in C, and of languages that call C. `include/bootswap.h` declares the calls.
 //!
@@ -14,7 +15,7 @@
 //! that it reports is on the caller's list. The bytes after the call are what exactly these writes
 //! make of the bytes before it, torn as the list says. A field of the result that doesn't apply to
 //! the returned number is 0. A text is left out only if it is longer than its buffer, or than
-//! 2^32 - 1 bytes.
+//! 2^32 - 1 bytes. An image is made only if it fits in its buffer.
 //!
 //! The state of a device between two calls is in the caller's memory too. The next call reads what
 //! the last one wrote there. Bytes that aren't a valid state, or whose uploads don't match the
@@ -37,6 +38,7 @@ mod description;
 mod dispatch;
 mod exports;
 mod journal_exports;
+mod making;
 mod numbers;
 mod provisioning;
 mod recording;

@@ -82,7 +82,7 @@ impl<'a> Sink for BufferSink<'a> {
 
     ghost use Rattle.std.specs.Prelude.{refl};
     ghost use Rattle.std.proofs.Common.{◌∙◌};
-    ghost use Rattle.c_interface.specs.Sinks.{PutsAfter, puts_both, puts_nothing};
+    ghost use Rattle.tlv.specs.Writing.{PutsAfter, puts_both, puts_nothing};
 
     ghost takes = { λ old text new. (new.buffer.ghost_name ≡ old.buffer.ghost_name)
         × PutsAfter old.length old.buffer.now text new.length new.buffer.now };

@@ -3,8 +3,9 @@
 //! - Promises: The image is intact and has exactly the given values; otherwise the first check that
 //!   fails is returned.
 //! - Main calls: `make_image`, `write_image`
-//! - Allocates: to make an image. `write_image` doesn't.
-//! - Callers: tools of a host. A device needs only the crate below, which reads images.
+//! - Allocates: `make_image`, for the image.
+//! - Callers: tools of a host, and the library for C. A device needs only the crate below, which
+//!   reads images.
 #![tactic(auto)]
 
 mod make;
