@@ -1,6 +1,7 @@
 pub mod Reaching
 mod ByTable
 mod Recorded
+mod Refused
 mod StepRows
 mod Writes
 mod ReadOnlyLaws

@@ -7,7 +7,7 @@ use Rattle.std.proofs.lemmas.Bool.{cases_Bool, cases_lt, false≢true}
 use Rattle.std.proofs.lemmas.List.{append_assoc, drop_at, drop-drop, length-append, length-map, length-replicate, length-take, take_at}
 use Rattle.flash_model.specs.declared.error.FlashError.{FlashError}
 use Rattle.flash_model.specs.declared.error.FlashError.TheVariants.{Cut, Off}
-use Rattle.flash_model.specs.Chip.{Chip, Fixed, SameOutside, reached}
+use Rattle.flash_model.specs.Chip.{Chip, Fixed, reached}
 use Rattle.flash_model.specs.Calls.{Programs}
 use Rattle.flash_model.specs.Torn.{replaced}
 use Rattle.flash_model.specs.Written.{AreWrites, Erase, IsWrite, IsWrittenBy, Program, Write, performed}
@@ -18,6 +18,7 @@ use Rattle.slice_flash.specs.declared.steps.Asked.{Asked}
 use Rattle.slice_flash.specs.declared.steps.Asked.TheVariants as asked
 use Rattle.slice_flash.specs.Asked.{length_of, room_of, step_of}
 use Rattle.slice_flash.specs.JournalFlash.{Recording, Records, recorded, refused}
+use Rattle.slice_flash.proofs.Refused.{ends_off, fails_program}
 use Rattle.slice_flash.proofs.Writes.{put_back}
 use Rattle.slice_flash.specs.Steps.{AreAccepted, IsAccepted, IsRecordedBy, Step, Programmed, Erased, after_steps, at_of, fixed_over, range_of, spelled, spelling}
 
@@ -164,44 +165,16 @@ done_programs step old inside on =
       ends = ends_well tt old.chip new (record { on = refl; cuts = refl }) (λ off. absurd (false≢true (sym off ∙ on)));
     }
 
-same_outside : (at n : ℕ) (old new : Chip) → new.bytes ≡ old.bytes → new.sector_size ≡ old.sector_size
-    → new.sectors ≡ old.sectors → new.fixed ≡ old.fixed → SameOutside at n old new
-same_outside at n old new bytes size sectors fixed = record {
-  sector_size = size;
-  sectors = sectors;
-  fixed = fixed;
-  size = ap (λ (l : List ℕ). length l) bytes;
-  before = λ k low. rw bytes refl;
-  after = λ k high. rw bytes refl;
-}
-
 refused_programs : (step : Step) (old : Recording) → old.chip.is_on ≡ true
     → writes_range step old (refused (length (spelled step)) old) (Err Cut)
 refused_programs step old on =
     let new : Chip = (refused (length (spelled step)) old).chip in
-    record {
-      outside = same_outside (at_of step) (length (range_of step)) old.chip new refl refl refl refl;
-      ok = tt;
-      on = tt;
-      erases = refl;
-      journal = omega (arith, entry_most step);
-      ends = ends_cut on refl refl;
-    }
+    fails_program (at_of step) (range_of step) Cut old.chip new refl
+    (omega (arith, entry_most step)) (ends_cut on refl refl)
 
 off_programs : (step : Step) (old : Recording) → old.chip.is_on ≡ false → writes_range step old old (Err Off)
-off_programs step old off = record {
-  outside = same_outside (at_of step) (length (range_of step)) old.chip old.chip refl refl refl refl;
-  ok = tt;
-  on = tt;
-  erases = refl;
-  journal = omega arith;
-  ends = record {
-    asleep = λ was. refl;
-    uncut = tt;
-    cut = λ is. cc;
-    off = λ is. off;
-  };
-}
+off_programs step old off =
+    fails_program (at_of step) (range_of step) Off old.chip old.chip refl (omega arith) (ends_off old.chip off)
 
 -- Whatever the journal has room for, the write is a write of a flash.
 pub programs_recorded : (result : Result Unit FlashError) (step : Step) (old new : Recording)

@@ -19,10 +19,7 @@ pub record Recording : Type 0 where
 
 -- The chip of the flash. No write is armed, so each cut is a fault.
 abbrev pub chip_of : {L : Type 0} → JournalFlash L → Chip
-chip_of flash = record {
-  sector_size = flash.sector_size;
-  sectors = flash.sectors;
-  bytes = flash.bytes.now;
+chip_of flash = record (new_chip flash.sector_size flash.sectors flash.bytes.now) {
   is_on = flash.is_on;
   cuts = flash.cuts.amount;
   erases = flash.erases.amount;

@@ -2,23 +2,16 @@
 use Rattle.std.specs.Prelude.{◌≡◌, ℕ, ◌+◌, ◌/◌, List, true, false, length, Result, Err}
 use Rattle.flash_model.specs.declared.error.FlashError.{FlashError}
 use Rattle.flash_model.specs.declared.error.FlashError.TheVariants.{Cut, Off}
-use Rattle.flash_model.specs.Chip.{Chip, unarmed}
+use Rattle.flash_model.specs.Chip.{Chip}
 use Rattle.flash_model.specs.Memory.{new_chip}
 use Rattle.slice_flash.specs.declared.read_only.ReadOnlyFlash.{ReadOnlyFlash}
 
 -- The chip of the flash. No write is armed or counted, so each cut is a fault.
 abbrev pub chip_of : {L : Type 0} → ReadOnlyFlash L → Chip
-chip_of flash = record {
-  sector_size = flash.sector_size;
-  sectors = flash.sectors;
-  bytes = flash.bytes.now;
+chip_of flash = record (new_chip flash.sector_size flash.sectors flash.bytes.now) {
   is_on = flash.is_on;
   cuts = flash.cuts.amount;
-  erases = 0;
-  writes = 0;
   faults = flash.cuts.amount;
-  journaled = 0;
-  fixed = record unarmed { first = flash.bytes.now };
 }
 
 -- The chip of a new flash over these bytes, in sectors of this size.

@@ -22,16 +22,11 @@ pub record Slice : Type 0 where
 -- The chip of the flash. The name of the borrow says that the flash is over the same bytes for as
 -- long as it lasts. Each cut has a row in the table, so there are no faults.
 abbrev pub chip_of : {L : Type 0} → SliceFlash L → Chip
-chip_of flash = record {
-  sector_size = flash.sector_size;
-  sectors = flash.sectors;
-  bytes = flash.bytes.now;
+chip_of flash = record (new_chip flash.sector_size flash.sectors flash.bytes.now) {
   is_on = flash.is_on;
   cuts = flash.cuts.amount;
   erases = flash.erases.amount;
   writes = flash.writes;
-  faults = 0;
-  journaled = 0;
   fixed = fixed_by flash.table.now flash.origin.first flash.bytes.ghost_name;
 }
 

@@ -1,10 +1,5 @@
+use Rattle.slice_flash.proofs.Refused.{can_program}
 use Rattle.slice_flash.proofs.read_only.ReadOnlyFlashFlash.TheImpl.Goals as goal
 
 pub program-asks : goal.program-asks
-program-asks g c = record {
-  inside = c.requires.inside;
-  erased = c.requires.erased;
-  place = c.requires.place;
-  units = c.requires.units;
-  some = c.requires.some;
-}
+program-asks g c = can_program _ _ _ c.requires.inside c.requires.erased c.requires.place c.requires.units c.requires.some
