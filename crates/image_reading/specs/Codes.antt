@@ -1,5 +1,5 @@
 -- The numbers and the names of the errors of an image and of a slot.
-use Rattle.std.specs.Prelude.{ℕ, List, codes}
+use Rattle.std.specs.Prelude.{ℕ, ◌-◌, List, [], ◌∷◌, codes, get_or}
 use Rattle.image_reading.specs.declared.error.ImageError.{ImageError}
 use Rattle.image_reading.specs.declared.error.ImageError.TheVariants as image_error
 use Rattle.image_reading.specs.declared.error.SlotError.{SlotError}
@@ -23,23 +23,17 @@ code_of image_error.TrailingBytes = 13
 code_of image_error.BadCounter = 14
 code_of image_error.TooManyGroups = 15
 
+-- The names of an image's errors, as programs print them, in the order of their numbers.
+abbrev pub names : List (List ℕ)
+names =
+    codes "Short" ∷ codes "BadMagic" ∷ codes "BadHeaderSize" ∷ codes "UnsupportedFlags"
+    ∷ codes "Truncated" ∷ codes "BadTlvMagic" ∷ codes "BadTlvSize" ∷ codes "NoDigest"
+    ∷ codes "TwoDigests" ∷ codes "BadDigest" ∷ codes "BadDependency" ∷ codes "TooManyDependencies"
+    ∷ codes "TrailingBytes" ∷ codes "BadCounter" ∷ codes "TooManyGroups" ∷ []
+
 -- The name of an image's error.
 abbrev pub name_of : ImageError → List ℕ
-name_of image_error.Short = codes "Short"
-name_of image_error.BadMagic = codes "BadMagic"
-name_of image_error.BadHeaderSize = codes "BadHeaderSize"
-name_of image_error.UnsupportedFlags = codes "UnsupportedFlags"
-name_of image_error.Truncated = codes "Truncated"
-name_of image_error.BadTlvMagic = codes "BadTlvMagic"
-name_of image_error.BadTlvSize = codes "BadTlvSize"
-name_of image_error.NoDigest = codes "NoDigest"
-name_of image_error.TwoDigests = codes "TwoDigests"
-name_of image_error.BadDigest = codes "BadDigest"
-name_of image_error.BadDependency = codes "BadDependency"
-name_of image_error.TooManyDependencies = codes "TooManyDependencies"
-name_of image_error.TrailingBytes = codes "TrailingBytes"
-name_of image_error.BadCounter = codes "BadCounter"
-name_of image_error.TooManyGroups = codes "TooManyGroups"
+name_of kind = get_or names (code_of kind - 1) []
 
 -- The number of a slot's error.
 abbrev pub slot_code_of : SlotError → ℕ

@@ -1,5 +1,5 @@
 -- The number and the name of each reason why a device refuses a call.
-use Rattle.std.specs.Prelude.{ℕ, List, codes}
+use Rattle.std.specs.Prelude.{ℕ, ◌-◌, List, [], ◌∷◌, codes, get_or}
 use Rattle.machine.specs.declared.error.Fault.{Fault}
 use Rattle.machine.specs.declared.error.Fault.TheVariants.{NotBooted, OnTrial, NotOnTrial, NotProvisioned}
 use Rattle.machine.specs.declared.error.Fault.TheVariants.{RunningDamaged, InvalidSet, Flash, NoMemory, Manifest}
@@ -18,15 +18,13 @@ code_of NoMemory = 8
 code_of (Manifest error) = 9
 code_of (Upload error) = 10
 
+-- The names of the kinds, as programs print them, in the order of their numbers.
+abbrev pub names : List (List ℕ)
+names =
+    codes "NotBooted" ∷ codes "OnTrial" ∷ codes "NotOnTrial" ∷ codes "NotProvisioned"
+    ∷ codes "RunningDamaged" ∷ codes "InvalidSet" ∷ codes "Flash" ∷ codes "NoMemory"
+    ∷ codes "Manifest" ∷ codes "Upload" ∷ []
+
 -- The name of a kind, as it is printed.
 abbrev pub name_of : Fault → List ℕ
-name_of NotBooted = codes "NotBooted"
-name_of OnTrial = codes "OnTrial"
-name_of NotOnTrial = codes "NotOnTrial"
-name_of NotProvisioned = codes "NotProvisioned"
-name_of (RunningDamaged image) = codes "RunningDamaged"
-name_of InvalidSet = codes "InvalidSet"
-name_of (Flash error) = codes "Flash"
-name_of NoMemory = codes "NoMemory"
-name_of (Manifest error) = codes "Manifest"
-name_of (Upload error) = codes "Upload"
+name_of kind = get_or names (code_of kind - 1) []

@@ -1,5 +1,5 @@
 -- The number and the name of each refusal.
-use Rattle.std.specs.Prelude.{ℕ, List, codes}
+use Rattle.std.specs.Prelude.{ℕ, ◌-◌, List, [], ◌∷◌, codes, get_or}
 use Rattle.manifest.specs.declared.error.ManifestError.{ManifestError}
 use Rattle.manifest.specs.declared.error.ManifestError.TheVariants.{NotJson, BadKey, BadValue, WrongVendor, WrongClass, NoComponent, RepeatedComponent, NoMemory}
 
@@ -14,13 +14,12 @@ code_of NoComponent = 6
 code_of RepeatedComponent = 7
 code_of NoMemory = 8
 
+-- The names of the kinds, as programs print them, in the order of their numbers.
+abbrev pub names : List (List ℕ)
+names =
+    codes "NotJson" ∷ codes "BadKey" ∷ codes "BadValue" ∷ codes "WrongVendor" ∷ codes "WrongClass"
+    ∷ codes "NoComponent" ∷ codes "RepeatedComponent" ∷ codes "NoMemory" ∷ []
+
 -- The name of a kind, as programs print it.
 abbrev pub name_of : ManifestError → List ℕ
-name_of NotJson = codes "NotJson"
-name_of BadKey = codes "BadKey"
-name_of BadValue = codes "BadValue"
-name_of WrongVendor = codes "WrongVendor"
-name_of WrongClass = codes "WrongClass"
-name_of NoComponent = codes "NoComponent"
-name_of RepeatedComponent = codes "RepeatedComponent"
-name_of NoMemory = codes "NoMemory"
+name_of kind = get_or names (code_of kind - 1) []

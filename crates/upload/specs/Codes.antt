@@ -1,5 +1,5 @@
 -- The number and the name of each reason why an upload is refused.
-use Rattle.std.specs.Prelude.{ℕ, List, codes}
+use Rattle.std.specs.Prelude.{ℕ, ◌-◌, List, [], ◌∷◌, codes, get_or}
 use Rattle.upload.specs.declared.error.UploadError.{UploadError}
 use Rattle.upload.specs.declared.error.UploadError.TheVariants.{OldSequence, TooBig, NoSession, TooMuch, SizeWrong, DigestWrong, NotAnImage, WrongPrecursor, NothingRequested, Flash, NoMemory}
 
@@ -17,16 +17,13 @@ code_of NothingRequested = 9
 code_of (Flash error) = 10
 code_of NoMemory = 11
 
+-- The names of the kinds, as programs print them, in the order of their numbers.
+abbrev pub names : List (List ℕ)
+names =
+    codes "OldSequence" ∷ codes "TooBig" ∷ codes "NoSession" ∷ codes "TooMuch" ∷ codes "SizeWrong"
+    ∷ codes "DigestWrong" ∷ codes "NotAnImage" ∷ codes "WrongPrecursor" ∷ codes "NothingRequested"
+    ∷ codes "Flash" ∷ codes "NoMemory" ∷ []
+
 -- The name of a kind, as it is printed.
 abbrev pub name_of : UploadError → List ℕ
-name_of OldSequence = codes "OldSequence"
-name_of TooBig = codes "TooBig"
-name_of NoSession = codes "NoSession"
-name_of TooMuch = codes "TooMuch"
-name_of SizeWrong = codes "SizeWrong"
-name_of DigestWrong = codes "DigestWrong"
-name_of (NotAnImage fault) = codes "NotAnImage"
-name_of WrongPrecursor = codes "WrongPrecursor"
-name_of NothingRequested = codes "NothingRequested"
-name_of (Flash error) = codes "Flash"
-name_of NoMemory = codes "NoMemory"
+name_of kind = get_or names (code_of kind - 1) []
