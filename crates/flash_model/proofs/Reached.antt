@@ -55,10 +55,19 @@ any_of_rows key value number (row ∷ rows) = ⊎_elim
     (λ (isnt : (key row == number) ≡ false). rw isnt (any_of_rows key value number rows))
     (cases_Bool (key row == number))
 
--- The number of a write is in the list of armed numbers exactly if the write leaves something.
-pub any_number : (number : ℕ) (armed : List Armed)
-    → list_any (λ n. n == number) (numbers_of armed) ≡ is_some (torn_for number armed)
-any_number number armed = any_of_rows (λ (write : Armed). write.at) (λ (write : Armed). write.torn) number armed
+-- A number for which no row is found doesn't count.
+pub reached_no_row : {X Y : Type 0} (key : X → ℕ) (value : X → Y) (rows : List X) (n : ℕ)
+    → option_map value (find (λ row. key row == suc n) rows) ≡ None
+    → reached (map key rows) (suc n) ≡ reached (map key rows) n
+reached_no_row key value rows n none =
+    reached_none (map key rows) n (any_of_rows key value (suc n) rows ∙ ap is_some none)
+
+-- A number for which a row is found counts.
+pub reached_row : {X Y : Type 0} (key : X → ℕ) (value : X → Y) (rows : List X) (n : ℕ) (found : Y)
+    → option_map value (find (λ row. key row == suc n) rows) ≡ Some found
+    → reached (map key rows) (suc n) ≡ reached (map key rows) n + 1
+reached_row key value rows n found some =
+    reached_one (map key rows) n (any_of_rows key value (suc n) rows ∙ ap is_some some)
 
 -- A write that isn't armed adds nothing to the count.
 pub reached_unarmed : (armed : List Armed) (writes next : ℕ) → writes < 2 ^ 64 → next ≡ one_more writes
@@ -66,7 +75,7 @@ pub reached_unarmed : (armed : List Armed) (writes next : ℕ) → writes < 2 ^ 
 reached_unarmed armed writes next below is none = ⊎_elim
     (λ (counts : writes + 1 < 2 ^ 64).
     let same : next ≡ suc writes = omega (arith, is) in
-    rw same (reached_none (numbers_of armed) writes (any_number (suc writes) armed ∙ ap is_some (rw same at none))))
+    rw same (reached_no_row (λ (write : Armed). write.at) (λ (write : Armed). write.torn) armed writes (rw same at none)))
     (λ (stopped : 2 ^ 64 ≤ writes + 1). ap (λ n. reached (numbers_of armed) n) (omega (arith, is)))
     (cases_lt (writes + 1) (2 ^ 64))
 
@@ -78,7 +87,7 @@ pub reached_armed : (armed : List Armed) (writes next : ℕ) (left : Torn) → n
 reached_armed armed writes next left is past some = ⊎_elim
     (λ (counts : writes + 1 < 2 ^ 64 - 1).
     let same : next ≡ suc writes = omega (arith, is) in
-    rw same (reached_one (numbers_of armed) writes (any_number (suc writes) armed ∙ ap is_some (rw same at some))))
+    rw same (reached_row (λ (write : Armed). write.at) (λ (write : Armed). write.torn) armed writes left (rw same at some)))
     (λ (stopped : 2 ^ 64 - 1 ≤ writes + 1).
     absurd (none-some left (sym (past (omega (arith, is))) ∙ some)))
     (cases_lt (writes + 1) (2 ^ 64 - 1))

@@ -1,7 +1,7 @@
 -- Lemmas about `IsWrittenBy`: one more write keeps it, and so does arming a write.
 use Rattle.std.proofs.Common.{◌≡◌, ℕ, ◌+◌, ◌-◌, ◌^◌, ◌<◌, ◌≤◌, ◌==◌, ◌*◌, Bool, true, false, List, [], ◌∷◌, ◌++◌, length, min, replicate, slice_range}
 use Rattle.std.proofs.Common.{Option, Some, None, refl, sym, ◌∙◌, ap, subst, arith, ⊎_elim}
-use Rattle.std.specs.Prelude.{if◌then◌else◌, map}
+use Rattle.std.specs.Prelude.{find, if◌then◌else◌, map, option_map}
 use Rattle.std.specs.List.{All, list_any}
 use Rattle.std.specs.Option.{is_some}
 use Rattle.std.proofs.Math.Logic.{∥∥₁_map}
@@ -12,11 +12,11 @@ use Rattle.flash_model.specs.declared.torn.Torn.TheVariants.{Keep, Done, Half, B
 use Rattle.flash_model.specs.Chip.{Chip, Fixed, size_of}
 use Rattle.flash_model.specs.Calls.{CanProgram}
 use Rattle.flash_model.specs.Memory.{armed_with, one_more}
-use Rattle.flash_model.specs.Torn.{cutting_of, left_at, left_by, left_of, replaced, torn_bytes, torn_for}
+use Rattle.flash_model.specs.Torn.{Cutting, cutting_of, left_at, left_by, left_of, replaced, torn_bytes, torn_for}
 use Rattle.flash_model.specs.Written.{AreWrites, Erase, IsWrite, IsWrittenBy, Program, Write, leaves, performed}
 use Rattle.flash_model.proofs.Frame.{product_le}
 use Rattle.flash_model.proofs.MemoryLaws.{none_behind}
-use Rattle.flash_model.proofs.Reached.{any_number}
+use Rattle.flash_model.proofs.Reached.{any_of_rows}
 
 -- The fact after one more write that a driver accepts. `range` is what the write left. It is the
 -- same for each number that the count of writes can stand for.
@@ -59,6 +59,33 @@ leaves_done fixed k old done isnt = ⊎_elim
     (λ (past : 2 ^ 64 ≤ k). leaves_behind fixed k old done past)
     (cases_lt k (2 ^ 64))
 
+-- Rows that say what an interrupted write leaves, and say it as their cuttings do.
+left_of_rows : {X Y : Type 0} (key : X → ℕ) (value : X → Y) (left : Option Y → List ℕ → List ℕ → List ℕ)
+    (cutting : X → Cutting) (k : ℕ) (old done : List ℕ) → ((row : X) → (cutting row).number ≡ key row)
+    → left None old done ≡ done → ((row : X) → left_by (cutting row) old done ≡ left (Some (value row)) old done)
+    → (rows : List X)
+    → left_at (map cutting rows) k old done ≡ left (option_map value (find (λ row. key row == k) rows)) old done
+left_of_rows key value left cutting k old done same none some [] = sym none
+left_of_rows key value left cutting k old done same none some (row ∷ rows) = ⊎_elim
+    (λ (is : (key row == k) ≡ true). rw (same row, is) (some row))
+    (λ (isnt : (key row == k) ≡ false).
+    rw (same row, isnt) (left_of_rows key value left cutting k old done same none some rows))
+    (cases_Bool (key row == k))
+
+-- A write leaves what the first row for its number says.
+pub leaves_of_rows : {X Y : Type 0} (key : X → ℕ) (value : X → Y) (left : Option Y → List ℕ → List ℕ → List ℕ)
+    (cutting : X → Cutting) (rows : List X) (fixed : Fixed) (k : ℕ) (old done : List ℕ)
+    → fixed.numbers ≡ map key rows → fixed.cuttings ≡ map cutting rows → ((row : X) → (cutting row).number ≡ key row)
+    → left None old done ≡ done → ((row : X) → left_by (cutting row) old done ≡ left (Some (value row)) old done)
+    → k < 2 ^ 64 → (found : Option Y) → option_map value (find (λ row. key row == k) rows) ≡ found
+    → leaves fixed k old done ≡ left found old done
+leaves_of_rows key value left cutting rows fixed k old done numbers cuttings same none some below None is =
+    leaves_done fixed k old done (rw numbers (any_of_rows key value k rows ∙ ap is_some is)) ∙ sym none
+leaves_of_rows key value left cutting rows fixed k old done numbers cuttings same none some below (Some found) is =
+    leaves_torn fixed k old done below (rw numbers (any_of_rows key value k rows ∙ ap is_some is))
+    ∙ rw cuttings (left_of_rows key value left cutting k old done same none some rows)
+    ∙ ap (λ (f : Option _). left f old done) is
+
 -- An armed write leaves what its `Torn` says.
 cutting_leaves : (write : Armed) (old done : List ℕ) (torn : Torn) → write.torn ≡ torn
     → left_by (cutting_of write) old done ≡ torn_bytes torn old done
@@ -67,22 +94,13 @@ cutting_leaves write old done Done is = rw is refl
 cutting_leaves write old done Half is = rw is refl
 cutting_leaves write old done (Bytes pattern) is = rw is refl
 
-left_armed : (armed : List Armed) (k : ℕ) (old done : List ℕ)
-    → left_at (map cutting_of armed) k old done ≡ left_of (torn_for k armed) old done
-left_armed [] k old done = refl
-left_armed (write ∷ armed) k old done = ⊎_elim
-    (λ (is : (write.at == k) ≡ true). rw is (cutting_leaves write old done write.torn refl))
-    (λ (isnt : (write.at == k) ≡ false). rw isnt (left_armed armed k old done))
-    (cases_Bool (write.at == k))
-
 -- A write leaves what `torn_for` says of its number.
 leaves_at : (armed : List Armed) (fixed : Fixed) (k : ℕ) (old done : List ℕ) (torn : Option Torn) → k < 2 ^ 64
     → torn_for k armed ≡ torn → leaves (armed_with armed fixed) k old done ≡ left_of torn old done
-leaves_at armed fixed k old done None below is =
-    leaves_done (armed_with armed fixed) k old done (any_number k armed ∙ ap is_some is)
-leaves_at armed fixed k old done (Some torn) below is =
-    leaves_torn (armed_with armed fixed) k old done below (any_number k armed ∙ ap is_some is)
-    ∙ left_armed armed k old done ∙ ap (λ (t : Option Torn). left_of t old done) is
+leaves_at armed fixed k old done torn below is =
+    leaves_of_rows (λ (write : Armed). write.at) (λ (write : Armed). write.torn) left_of cutting_of armed
+    (armed_with armed fixed) k old done refl refl (λ write. refl) refl
+    (λ write. cutting_leaves write old done write.torn refl) below torn is
 
 -- On a flash in memory, a write leaves what `torn_for` says of the number under which it is
 -- counted.

@@ -11,22 +11,6 @@ use Rattle.flash_model.specs.Chip.{Chip, unarmed}
 pub use Rattle.flash_model.specs.Chip.{armed_with}
 use Rattle.flash_model.specs.Torn.{replaced, torn_at, torn_for}
 
--- The chip of a flash in memory. Its armed writes have the order in which they were armed. Each cut
--- is one of them, so there are no faults.
-abbrev pub chip_of : {L : Type 0} → MemFlash L → Chip
-chip_of flash = record {
-  sector_size = flash.sector_size;
-  sectors = flash.sectors;
-  bytes = flash.bytes.items;
-  is_on = flash.is_on;
-  cuts = flash.cuts.amount;
-  erases = flash.erases.amount;
-  writes = flash.writes;
-  faults = 0;
-  journaled = 0;
-  fixed = armed_with flash.armed.items (record unarmed { first = flash.origin.first });
-}
-
 -- The chip of a new flash with these bytes. It has power, its counts are 0, and no write is armed.
 abbrev pub new_chip : ℕ → ℕ → List ℕ → Chip
 new_chip size count all = record {
@@ -40,6 +24,17 @@ new_chip size count all = record {
   faults = 0;
   journaled = 0;
   fixed = record unarmed { first = all };
+}
+
+-- The chip of a flash in memory. Its armed writes have the order in which they were armed. Each cut
+-- is one of them, so there are no faults.
+abbrev pub chip_of : {L : Type 0} → MemFlash L → Chip
+chip_of flash = record (new_chip flash.sector_size flash.sectors flash.bytes.items) {
+  is_on = flash.is_on;
+  cuts = flash.cuts.amount;
+  erases = flash.erases.amount;
+  writes = flash.writes;
+  fixed = armed_with flash.armed.items (record unarmed { first = flash.origin.first });
 }
 
 -- The chip with exactly these armed writes.

@@ -1,14 +1,14 @@
 -- Lemmas about `IsWrittenBy` of a flash over borrowed bytes: one more write keeps it.
-use Rattle.std.proofs.Common.{◌≡◌, ℕ, ◌+◌, ◌-◌, ◌^◌, ◌<◌, ◌≤◌, ◌==◌, true, false, List, [], ◌∷◌, map, length, min, slice_range}
+use Rattle.std.proofs.Common.{◌≡◌, ℕ, ◌+◌, ◌-◌, ◌^◌, ◌<◌, ◌≤◌, ◌==◌, true, List, length, min, slice_range}
 use Rattle.std.proofs.Common.{Option, Some, None, refl, sym, ◌∙◌, ap, arith, ⊎_elim}
 use Rattle.std.specs.List.{list_any}
 use Rattle.std.specs.Option.{is_some}
-use Rattle.std.proofs.lemmas.Bool.{cases_Bool, cases_lt, le-ltb, lt-ltb}
+use Rattle.std.proofs.lemmas.Bool.{cases_lt, le-ltb, lt-ltb}
 use Rattle.std.proofs.lemmas.Option.{none-some}
 use Rattle.flash_model.specs.Memory.{one_more}
-use Rattle.flash_model.specs.Torn.{left_at, left_by, replaced}
+use Rattle.flash_model.specs.Torn.{left_by, replaced}
 use Rattle.flash_model.specs.Written.{IsWrite, IsWrittenBy, leaves}
-use Rattle.flash_model.proofs.WrittenLaws.{leaves_behind, leaves_done, leaves_torn, written_more}
+use Rattle.flash_model.proofs.WrittenLaws.{leaves_behind, leaves_of_rows, written_more}
 use Rattle.slice_flash.specs.declared.table.ArmedCut.{ArmedCut}
 use Rattle.slice_flash.specs.declared.table.Left.{Left}
 use Rattle.slice_flash.specs.declared.table.Left.TheVariants.{Keep, Done, Bytes}
@@ -22,22 +22,13 @@ cutting_leaves cut old done Keep is = rw is refl
 cutting_leaves cut old done Done is = rw is refl
 cutting_leaves cut old done (Bytes pattern) is = rw is refl
 
-left_in : (table : List ArmedCut) (k : ℕ) (old done : List ℕ)
-    → left_at (map cutting_of table) k old done ≡ left_of (left_for k table) old done
-left_in [] k old done = refl
-left_in (cut ∷ table) k old done = ⊎_elim
-    (λ (is : (cut.write == k) ≡ true). rw is (cutting_leaves cut old done cut.left refl))
-    (λ (isnt : (cut.write == k) ≡ false). rw isnt (left_in table k old done))
-    (cases_Bool (cut.write == k))
-
 -- A write leaves what the table says of its number.
 leaves_at : (table : List ArmedCut) (first : List ℕ) (name k : ℕ) (old done : List ℕ) (left : Option Left) → k < 2 ^ 64
     → left_for k table ≡ left → leaves (fixed_by table first name) k old done ≡ left_of left old done
-leaves_at table first name k old done None below is =
-    leaves_done (fixed_by table first name) k old done (any_number k table ∙ ap is_some is)
-leaves_at table first name k old done (Some left) below is =
-    leaves_torn (fixed_by table first name) k old done below (any_number k table ∙ ap is_some is)
-    ∙ left_in table k old done ∙ ap (λ (l : Option Left). left_of l old done) is
+leaves_at table first name k old done left below is =
+    leaves_of_rows (λ (cut : ArmedCut). cut.write) (λ (cut : ArmedCut). cut.left) left_of cutting_of table
+    (fixed_by table first name) k old done refl refl (λ cut. refl) refl
+    (λ cut. cutting_leaves cut old done cut.left refl) below left is
 
 -- A write leaves what the table says of the next number after the count of writes.
 leaves_by_table : (table : List ArmedCut) (first : List ℕ) (name writes : ℕ) (left : Option Left) (old done : List ℕ)
