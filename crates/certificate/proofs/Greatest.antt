@@ -77,6 +77,14 @@ module _ (table : Table) (other : ℕ → Bool) (valid : IsValid table other) wh
       IsSomeAnd-at (intact_entry image.request) (P image) entry is.has_entry
       (IsSomeAnd-at (image_at table i) _ image is.has_image meets)
 
+  -- The request of a member lists something of which this holds.
+  unmet_at : {A : Type 0} (items : Entry → List A) (item : A) (unmet : Bool) (i : ℕ) (image : Image) (entry : Entry)
+      → IsMember table other i image entry
+      → RequestMeets table i (λ im e. Contains (items e) item × IsTrue unmet)
+      → Contains (items entry) item × IsTrue unmet
+  unmet_at items item unmet i image entry is holds =
+      requested_at i image entry is (λ (im : Image) (e : Entry). Contains (items e) item × IsTrue unmet) holds
+
   -- If no member is refused before, no reason to refuse a member holds.
   no_reason : (before : List Refusal) (unrefused : (j : ℕ) → other j ≡ true → is_refused before j ≡ false) (i : ℕ)
       (member : other i ≡ true) (image : Image) (entry : Entry) → IsMember table other i image entry
@@ -103,17 +111,11 @@ module _ (table : Table) (other : ℕ → Bool) (valid : IsValid table other) wh
       none-some present (sym missing ∙ ap (image_at table) (sym (eqb-true _ j dependency.passes)) ∙ has_image)
   no_reason before unrefused i member image entry is (Needs j minimum) holds =
       let dependency : Dependency = record { image = j; minimum = minimum } in
-      let (contained, out_of_reach) =
-      requested_at i image entry is
-      (λ (im : Image) (e : Entry). Contains e.dependencies.items dependency
-      × IsTrue (is_out_of_reach table before i dependency)) holds in
+      let (contained, out_of_reach) = unmet_at (λ (e : Entry). e.dependencies.items) dependency _ i image entry is holds in
       within_reach before unrefused i member dependency
       (passes_where_contained _ entry.dependencies.items dependency is.met contained) out_of_reach
   no_reason before unrefused i member image entry is (NeedsOne group) holds =
-      let (contained, out_of_reach) =
-      requested_at i image entry is
-      (λ (im : Image) (e : Entry). Contains e.groups.items group
-      × IsTrue (is_group_out_of_reach table before i group)) holds in
+      let (contained, out_of_reach) = unmet_at (λ (e : Entry). e.groups.items) group _ i image entry is holds in
       group_within_reach before unrefused i member group
       (passes_where_contained _ entry.groups.items group is.groups_met contained) out_of_reach
 

@@ -67,20 +67,33 @@ report_lines-image report next number image e =
     ∙ ap (λ (ls : List ReportLine). ls ++ reported_line (length report.images.items) image ∷ [])
     (sym (append-nil (reported_lines 0 report.images.items))))
 
+-- A line that was added: an image, or a refusal.
+abbrev IsAdded : Report → ReportLine → Report → Type 0
+IsAdded report said next =
+    ((number : ℕ) × (image : ReportedImage) × (with_reported_image report number image ≡ Some next)
+    × (said ≡ reported_line number image))
+    ⊎ ((refusal : Refusal) × (with_refusal report refusal ≡ Some next) × (said ≡ refuse_line refusal))
+
+is_added : (report next : Report) (said : ReportLine) → with_report_line report said ≡ Some next
+    → IsAdded report said next
+unfolding with_report_line
+is_added report next (line.Run number version) e = inl (number, record { is_taken = false; version = version }, e, refl)
+is_added report next (line.Take number version) e = inl (number, record { is_taken = true; version = version }, e, refl)
+is_added report next (line.Refuse refusal) e = inr (refusal, e, refl)
+
 -- One more line that is added is one more line of the report.
 pub report_lines-grow : (report next : Report) (said : ReportLine) → with_report_line report said ≡ Some next
     → report_lines next ≡ report_lines report ++ said ∷ []
-unfolding with_report_line
-report_lines-grow report next (line.Run number version) e =
-    report_lines-image report next number (record { is_taken = false; version = version }) e
-report_lines-grow report next (line.Take number version) e =
-    report_lines-image report next number (record { is_taken = true; version = version }) e
-report_lines-grow report next (line.Refuse refusal) e =
-    let g = with_refusal-some report next refusal e in
-    rw (← g.2) (ap (λ (ls : List ReportLine). reported_lines 0 report.images.items ++ ls)
-    (map-append refuse_line report.refusals.items (refusal ∷ []))
-    ∙ sym (append_assoc (reported_lines 0 report.images.items) (map refuse_line report.refusals.items)
-    (line.Refuse refusal ∷ [])))
+report_lines-grow report next said e =
+    elim (is_added report next said e) [
+      | inl (number, image, added, is) ↦ rw is (report_lines-image report next number image added)
+      | inr (refusal, added, is) ↦
+          let g = with_refusal-some report next refusal added in
+          rw (is, ← g.2) (ap (λ (ls : List ReportLine). reported_lines 0 report.images.items ++ ls)
+          (map-append refuse_line report.refusals.items (refusal ∷ []))
+          ∙ sym (append_assoc (reported_lines 0 report.images.items) (map refuse_line report.refusals.items)
+          (line.Refuse refusal ∷ [])))
+    ]
 
 -- ---- the limits of a report
 
@@ -105,22 +118,16 @@ IsShort-image report next number image e short =
 
 IsShort-with_report_line : (report next : Report) (said : ReportLine) → with_report_line report said ≡ Some next
     → IsShort report → IsShort next
-unfolding with_report_line
-IsShort-with_report_line report next (line.Run number version) e short =
-    IsShort-image report next number (record { is_taken = false; version = version }) e short
-IsShort-with_report_line report next (line.Take number version) e short =
-    IsShort-image report next number (record { is_taken = true; version = version }) e short
-IsShort-with_report_line report next (line.Refuse refusal) e short =
-    let g = with_refusal-some report next refusal e in
-    rw (← g.2) (record {
-      images = short.images;
-      refusals = omega (
-        arith,
-        g.1,
-        length-append report.refusals.items
-            (refusal ∷ []),
-      );
-    })
+IsShort-with_report_line report next said e short =
+    elim (is_added report next said e) [
+      | inl (number, image, added, is) ↦ IsShort-image report next number image added short
+      | inr (refusal, added, is) ↦
+          let g = with_refusal-some report next refusal added in
+          rw (← g.2) (record {
+            images = short.images;
+            refusals = omega (arith, g.1, length-append report.refusals.items (refusal ∷ []));
+          })
+    ]
 
 -- A report that was read keeps the limits.
 pub IsShort-run : (line_of : List ℕ → Option ReportLine) (report final : Report) (texts : List (List ℕ))
@@ -203,14 +210,13 @@ HasImage-image report next number image e =
 
 HasImage-with_report_line : (report next : Report) (said : ReportLine) → with_report_line report said ≡ Some next
     → 1 ≤ length next.images.items
-unfolding with_report_line
-HasImage-with_report_line report next (line.Run number version) e =
-    HasImage-image report next number (record { is_taken = false; version = version }) e
-HasImage-with_report_line report next (line.Take number version) e =
-    HasImage-image report next number (record { is_taken = true; version = version }) e
-HasImage-with_report_line report next (line.Refuse refusal) e =
-    let g = with_refusal-some report next refusal e in
-    rw (← g.2) (omega (arith, g.0))
+HasImage-with_report_line report next said e =
+    elim (is_added report next said e) [
+      | inl (number, image, added, is) ↦ HasImage-image report next number image added
+      | inr (refusal, added, is) ↦
+          let g = with_refusal-some report next refusal added in
+          rw (← g.2) (omega (arith, g.0))
+    ]
 
 -- A report that was read from at least one line has an image.
 pub has_image_after : (line_of : List ℕ → Option ReportLine) (report final : Report) (texts : List (List ℕ))
