@@ -11,7 +11,7 @@ use Rattle.flash_model.specs.declared.error.FlashError.TheVariants.{Cut}
 use Rattle.flash_model.specs.declared.torn.Armed.{Armed}
 use Rattle.flash_model.specs.declared.torn.Torn.{Torn}
 use Rattle.flash_model.specs.Chip.{Chip, unarmed}
-use Rattle.flash_model.specs.Memory.{Writes, armed_with, new_chip, next_torn, one_more, torn}
+use Rattle.flash_model.specs.Memory.{Writes, armed_with, new_chip, next_torn, one_more, torn, with_counts}
 use Rattle.flash_model.specs.Torn.{torn_for}
 
 -- If all armed numbers are below a limit, no number from the limit on is armed.
@@ -49,13 +49,10 @@ torn_for_next armed writes next below is = ⊎_elim
 
 -- The chip of a flash in memory, by its parts.
 abbrev memory : ℕ → ℕ → Bool → List Armed → List ℕ → List ℕ → ℕ → ℕ → ℕ → Chip
-memory size sectors on armed first bytes cuts erases writes = record (new_chip size sectors bytes) {
-  is_on = on;
-  cuts = cuts;
-  erases = erases;
-  writes = writes;
-  fixed = armed_with armed (record unarmed { first = first });
-}
+memory size sectors on armed first bytes cuts erases writes =
+    record (with_counts on cuts erases writes (new_chip size sectors bytes)) {
+      fixed = armed_with armed (record unarmed { first = first });
+    }
 
 -- Two such chips are the same if their parts are.
 pub same_memory : (size sectors : ℕ) (on : Bool) (armed : List Armed) (first bytes bytes' : List ℕ)

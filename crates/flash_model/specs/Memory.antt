@@ -1,5 +1,5 @@
 -- A flash in memory: what a contract sees of it, and what each of its writes leaves.
-use Rattle.std.specs.Prelude.{◌≡◌, ℕ, ◌+◌, ◌-◌, ◌*◌, ◌^◌, ◌<◌, ◌≤◌, true, false, min}
+use Rattle.std.specs.Prelude.{◌≡◌, ℕ, ◌+◌, ◌-◌, ◌*◌, ◌^◌, ◌<◌, ◌≤◌, Bool, true, false, min}
 use Rattle.std.specs.Prelude.{List, [], ◌++◌, ◌∷◌, replicate}
 use Rattle.std.specs.Prelude.{Option, Some, None, Result, IsOk, IsErrOf, OnErr, OnOk}
 use Rattle.flash_model.specs.declared.error.FlashError.{FlashError}
@@ -26,16 +26,22 @@ new_chip size count all = record {
   fixed = record unarmed { first = all };
 }
 
+-- The chip with or without power, and with these counts of cuts, completed erases and writes.
+abbrev pub with_counts : Bool → ℕ → ℕ → ℕ → Chip → Chip
+with_counts on cuts erases writes chip = record chip {
+  is_on = on;
+  cuts = cuts;
+  erases = erases;
+  writes = writes;
+}
+
 -- The chip of a flash in memory. Its armed writes have the order in which they were armed. Each cut
 -- is one of them, so there are no faults.
 abbrev pub chip_of : {L : Type 0} → MemFlash L → Chip
-chip_of flash = record (new_chip flash.sector_size flash.sectors flash.bytes.items) {
-  is_on = flash.is_on;
-  cuts = flash.cuts.amount;
-  erases = flash.erases.amount;
-  writes = flash.writes;
-  fixed = armed_with flash.armed.items (record unarmed { first = flash.origin.first });
-}
+chip_of flash = record (with_counts flash.is_on flash.cuts.amount flash.erases.amount flash.writes
+    (new_chip flash.sector_size flash.sectors flash.bytes.items)) {
+      fixed = armed_with flash.armed.items (record unarmed { first = flash.origin.first });
+    }
 
 -- The chip with exactly these armed writes.
 abbrev pub with_armed : Chip → List Armed → Chip

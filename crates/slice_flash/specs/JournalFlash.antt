@@ -5,7 +5,7 @@ use Rattle.std.specs.Borrow.{MutBor}
 use Rattle.flash_model.specs.declared.error.FlashError.{FlashError}
 use Rattle.flash_model.specs.declared.error.FlashError.TheVariants.{Cut, Off}
 use Rattle.flash_model.specs.Chip.{Chip}
-use Rattle.flash_model.specs.Memory.{new_chip}
+use Rattle.flash_model.specs.Memory.{new_chip, with_counts}
 use Rattle.flash_model.specs.Torn.{replaced}
 use Rattle.slice_flash.specs.Steps.{IsRecordedBy, IsTooShort, Step, at_of, fixed_over, range_of, spelled}
 use Rattle.slice_flash.specs.declared.journal.JournalFlash.{JournalFlash}
@@ -19,16 +19,13 @@ pub record Recording : Type 0 where
 
 -- The chip of the flash. No write is armed, so each cut is a fault.
 abbrev pub chip_of : {L : Type 0} → JournalFlash L → Chip
-chip_of flash = record (new_chip flash.sector_size flash.sectors flash.bytes.now) {
-  is_on = flash.is_on;
-  cuts = flash.cuts.amount;
-  erases = flash.erases.amount;
-  writes = flash.writes;
-  faults = flash.cuts.amount;
-  journaled = flash.used + flash.refused.amount;
-  fixed = fixed_over flash.origin.first flash.bytes.ghost_name flash.journal_origin.first
-      flash.journal.ghost_name;
-}
+chip_of flash = record (with_counts flash.is_on flash.cuts.amount flash.erases.amount flash.writes
+    (new_chip flash.sector_size flash.sectors flash.bytes.now)) {
+      faults = flash.cuts.amount;
+      journaled = flash.used + flash.refused.amount;
+      fixed = fixed_over flash.origin.first flash.bytes.ghost_name flash.journal_origin.first
+          flash.journal.ghost_name;
+    }
 
 -- The chip of the flash, with the journal.
 abbrev pub recording_of : {L : Type 0} → JournalFlash L → Recording

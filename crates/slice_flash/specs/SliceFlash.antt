@@ -6,7 +6,7 @@ use Rattle.flash_model.specs.declared.error.FlashError.{FlashError}
 use Rattle.flash_model.specs.declared.error.FlashError.TheVariants.{Cut, Off}
 use Rattle.flash_model.specs.Calls.{Programs}
 use Rattle.flash_model.specs.Chip.{Chip}
-use Rattle.flash_model.specs.Memory.{new_chip, one_more}
+use Rattle.flash_model.specs.Memory.{new_chip, one_more, with_counts}
 use Rattle.flash_model.specs.Torn.{replaced, with_pattern}
 use Rattle.flash_model.specs.Written.{IsWrite}
 use Rattle.slice_flash.specs.Rows.{fixed_by, left_after, torn_bytes}
@@ -22,13 +22,10 @@ pub record Slice : Type 0 where
 -- The chip of the flash. The name of the borrow says that the flash is over the same bytes for as
 -- long as it lasts. Each cut has a row in the table, so there are no faults.
 abbrev pub chip_of : {L : Type 0} → SliceFlash L → Chip
-chip_of flash = record (new_chip flash.sector_size flash.sectors flash.bytes.now) {
-  is_on = flash.is_on;
-  cuts = flash.cuts.amount;
-  erases = flash.erases.amount;
-  writes = flash.writes;
-  fixed = fixed_by flash.table.now flash.origin.first flash.bytes.ghost_name;
-}
+chip_of flash = record (with_counts flash.is_on flash.cuts.amount flash.erases.amount flash.writes
+    (new_chip flash.sector_size flash.sectors flash.bytes.now)) {
+      fixed = fixed_by flash.table.now flash.origin.first flash.bytes.ghost_name;
+    }
 
 -- The chip of the flash, with the table.
 abbrev pub slice_of : {L : Type 0} → SliceFlash L → Slice

@@ -1,5 +1,4 @@
 use Rattle.std.proofs.Common.{rules, sym, subst}
-use Rattle.image_reading.specs.Slot.{slot_bytes}
 use Rattle.machine.specs.Boots.{IsEntryOf}
 use Rattle.machine.proofs.Rows.{read_some}
 use Rattle.decision.proofs.Described.{described_front, described_held, fault_front, fault_held}
@@ -7,24 +6,22 @@ use Rattle.decision.proofs.device_table.read_slot.Goals as goal
 
 pub returns-in-Some : goal.returns-in-Some
 returns-in-Some g c =
-    let slot = slot_bytes c.args.map.now (g.F.Flash.chip c.args.flash.now) c.args.image c.args.side in
     let begins = rw c.in-Some.is at c.in_ok-description.ensures.found in
     record {
       same = search rules;
       ok = λ held front.
           subst (λ entry. IsEntryOf held entry) (sym c.entry_of.ensures)
-          (read_some slot c.in-Some.description held (described_front slot c.in-Some.description begins) front);
-      front = described_held slot c.in-Some.description begins;
+          (read_some _ c.in-Some.description held (described_front _ c.in-Some.description begins) front);
+      front = described_held _ c.in-Some.description begins;
       ends = search rules;
     }
 
 pub returns-in-None : goal.returns-in-None
 returns-in-None g c =
-    let slot = slot_bytes c.args.map.now (g.F.Flash.chip c.args.flash.now) c.args.image c.args.side in
     let failed = rw c.in-None.is at c.in_ok-description.ensures.found in
     record {
       same = search rules;
-      ok = λ held front. fault_front slot failed.0 held failed.1 front;
-      front = fault_held slot failed.0 failed.1;
+      ok = λ held front. fault_front _ failed.0 held failed.1 front;
+      front = fault_held _ failed.0 failed.1;
       ends = search rules;
     }
