@@ -13,7 +13,7 @@ use Rattle.common.proofs.Options.{cases_option, option_map-Some}
 use Rattle.common.proofs.Words.{on_word}
 use Rattle.common.specs.declared.event.Event.TheVariants as event
 use Rattle.script.specs.declared.line.Line.{Line}
-use Rattle.script.specs.LineReading.{accept_of, cut_line_of, event_at, hex_of, image_event, line_at, name_of, part_of, piece_of, piece_with, said_of, torn_of, word_of}
+use Rattle.script.specs.LineReading.{accept_of, cut_line_of, event_at, first_word, hex_of, image_event, line_at, name_of, part_of, piece_of, piece_with, said_of, torn_of, two_words, word_of}
 use Rattle.script.specs.LineText.{AreDigits, FitsEvent, FitsPart, FitsTorn, IsLineText, IsName, event_text, line_text, piece_text, torn_text}
 use Rattle.script.specs.Said.{PartWords, Said, SaidEvent, SaidTorn, file_of, said}
 use Rattle.script.specs.Said.{Cut, Done, Event, Hex, Keep}
@@ -163,20 +163,37 @@ said_of-text text found (fits, is) = ap said_of is ∙ said_of-line found (fits,
 
 -- ---- a line that is read has that text
 
+first_word-spelled : {A : Type 0} (read : List ℕ → Option A) (text : List ℕ) (found : A × List ℕ)
+    → first_word read text ≡ Some found
+    → (word : List ℕ) × (read word ≡ Some found.0) × (text ≡ word ␣ found.1)
+first_word-spelled read text found is =
+    option_and_then_some _ (read (cut 32 text).0) found is (λ first is_first after_first.
+    option_and_then_some _ (cut 32 text).1 found after_first (λ rest is_rest made.
+    subst (λ (f : _ × List ℕ). (word : List ℕ) × (read word ≡ Some f.0) × (text ≡ word ␣ f.1))
+    (same_Some (first, rest) found made) ((cut 32 text).0, is_first, cut-parts 32 text rest is_rest)))
+
+two_words-spelled : {A B : Type 0} (read : List ℕ → Option A) (read_rest : List ℕ → Option B) (text : List ℕ)
+    (found : A × B) → two_words read read_rest text ≡ Some found
+    → (word : List ℕ) × (rest : List ℕ) × (read word ≡ Some found.0) × (read_rest rest ≡ Some found.1)
+    × (text ≡ word ␣ rest)
+two_words-spelled read read_rest text found is =
+    option_and_then_some _ (first_word read text) found is (λ words is_words after_words.
+    option_and_then_some _ (read_rest words.1) found after_words (λ last is_last made.
+    let (word, is_word, parts) = first_word-spelled read text words is_words in
+    subst (λ (f : _ × _). (word : List ℕ) × (rest : List ℕ) × (read word ≡ Some f.0) × (read_rest rest ≡ Some f.1)
+    × (text ≡ word ␣ rest)) (same_Some (words.0, last) found made) (word, words.1, is_word, is_last, parts)))
+
 part_of-spelled : (text : List ℕ) (part : PartWords) → part_of text ≡ Some part
     → FitsPart (Some part) × (text ≡ part.from ␣ part.count)
 unfolding part_of
 part_of-spelled text part read =
-    option_and_then_some _ (word_of (cut 32 text).0) part read (λ from is_from after_from.
-    option_and_then_some _ (cut 32 text).1 part after_from (λ rest is_rest from_count.
-    option_and_then_some _ (word_of rest) part from_count (λ count is_count made.
-    let from_found = word_of-spelled (cut 32 text).0 from is_from in
-    let count_found = word_of-spelled rest count is_count in
-    let whole : text ≡ from ␣ count =
-    rw from_found.1 at (cut-parts 32 text rest is_rest) ∙ ap (λ t. from ␣ t) count_found.1 in
+    option_and_then_some _ (two_words word_of word_of text) part read (λ words is_words made.
+    let (word, rest, is_from, is_count, parts) = two_words-spelled word_of word_of text words is_words in
+    let from_found = word_of-spelled word words.0 is_from in
+    let count_found = word_of-spelled rest words.1 is_count in
     subst (λ (p : PartWords). FitsPart (Some p) × (text ≡ p.from ␣ p.count))
-    (same_Some (record { from = from; count = count }) part made)
-    ((from_found.0, count_found.0), whole))))
+    (same_Some (record { from = words.0; count = words.1 }) part made)
+    ((from_found.0, count_found.0), parts ∙ ap (λ t. t ␣ rest) from_found.1 ∙ ap (λ t. words.0 ␣ t) count_found.1))
 
 hex_of-spelled : (digits : List ℕ) (torn : SaidTorn) → hex_of digits ≡ Some torn
     → FitsTorn torn × (codes "hex:" ++ digits ≡ torn_text torn)
@@ -215,21 +232,20 @@ cut_line_of-spelled : (fields : List ℕ) (found : Said) → cut_line_of fields 
     → IsLineText (codes "cut" ␣ fields) found
 unfolding cut_line_of
 cut_line_of-spelled fields found read =
-    option_and_then_some _ (number_of (cut 32 fields).0) found read (λ write is_write after_write.
-    option_and_then_some _ (cut 32 fields).1 found after_write (λ rest is_rest from_torn.
-    option_and_then_some _ (torn_of rest) found from_torn (λ torn is_torn made.
-    let write_found = number_of-spelled (cut 32 fields).0 write is_write in
-    let torn_found = torn_of-spelled rest torn is_torn in
-    let whole : fields ≡ decimal write ␣ torn_text torn =
-    rw write_found.0 at (cut-parts 32 fields rest is_rest) ∙ ap (λ t. decimal write ␣ t) torn_found.1 in
-    elim (cases_Bool (eqb write 0)) [
+    option_and_then_some _ (two_words number_of torn_of fields) found read (λ words is_words made.
+    let (word, rest, is_write, is_torn, parts) = two_words-spelled number_of torn_of fields words is_words in
+    let write_found = number_of-spelled word words.0 is_write in
+    let torn_found = torn_of-spelled rest words.1 is_torn in
+    let whole : fields ≡ decimal words.0 ␣ torn_text words.1 =
+    parts ∙ ap (λ t. t ␣ rest) write_found.0 ∙ ap (λ t. decimal words.0 ␣ t) torn_found.1 in
+    elim (cases_Bool (eqb words.0 0)) [
       | inl zero ↦ absurd (none-some found (rw zero at made))
       | inr some ↦
-          let counted : 1 ≤ write = omega (arith, eqb-false write 0 some) in
+          let counted : 1 ≤ words.0 = omega (arith, eqb-false words.0 0 some) in
           subst (λ (s : Said). IsLineText (codes "cut" ␣ fields) s)
-          (same_Some (Cut write torn) found (rw some at made))
+          (same_Some (Cut words.0 words.1) found (rw some at made))
           ((counted, write_found.1, torn_found.0), ap (λ t. codes "cut" ␣ t) whole)
-    ])))
+    ])
 
 -- A text is that of an event, which fits.
 abbrev SaysEvent : List ℕ → SaidEvent → Type 0
@@ -269,12 +285,12 @@ piece_of-spelled : (fields : List ℕ) (happened : SaidEvent) → piece_of field
     → SaysEvent (codes "piece" ␣ fields) happened
 unfolding piece_of
 piece_of-spelled fields happened read =
-    option_and_then_some _ (number_below (2 ^ 8) (cut 32 fields).0) happened read (λ image is_image after_image.
-    option_and_then_some _ (cut 32 fields).1 happened after_image (λ rest is_rest from_file.
-    option_and_then_some _ (name_of (cut 32 rest).0) happened from_file (λ file is_file from_part.
-    let image_found = number_below-spelled (2 ^ 8) (cut 32 fields).0 image is_image in
-    let whole : fields ≡ decimal image ␣ rest = rw image_found.0 at (cut-parts 32 fields rest is_rest) in
-    rw whole (piece_with-spelled image file rest happened image_found.1 is_file from_part))))
+    option_and_then_some _ (first_word (number_below (2 ^ 8)) fields) happened read (λ image is_image from_file.
+    option_and_then_some _ (name_of (cut 32 image.1).0) happened from_file (λ file is_file from_part.
+    let (word, is_word, parts) = first_word-spelled (number_below (2 ^ 8)) fields image is_image in
+    let image_found = number_below-spelled (2 ^ 8) word image.0 is_word in
+    let whole : fields ≡ decimal image.0 ␣ image.1 = parts ∙ ap (λ t. t ␣ image.1) image_found.0 in
+    rw whole (piece_with-spelled image.0 file image.1 happened image_found.1 is_file from_part)))
 
 image_event-spelled : (word : List ℕ) (image : ℕ) (happened : SaidEvent) → image < 2 ^ 8
     → image_event word image ≡ Some happened → SaysEvent (word ␣ decimal image) happened

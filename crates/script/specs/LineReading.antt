@@ -26,14 +26,27 @@ name_of text = do
   word ← word_of text
   if is_utf8 word then Some word else None
 
+-- The first word of a text, by this reading of it, and the text after the word.
+abbrev pub first_word : {A : Type 0} → (List ℕ → Option A) → List ℕ → Option (A × List ℕ)
+first_word read text = do
+  let words = cut 32 text
+  first ← read words.0
+  rest ← words.1
+  Some (first, rest)
+
+-- The first word of a text, and the text after it, by these readings of them.
+abbrev pub two_words : {A B : Type 0} → (List ℕ → Option A) → (List ℕ → Option B) → List ℕ
+    → Option (A × B)
+two_words read read_rest text = do
+  words ← first_word read text
+  rest ← read_rest words.1
+  Some (words.0, rest)
+
 -- The words FROM and COUNT.
 unfoldable pub part_of : List ℕ → Option PartWords
 part_of text = do
-  let words = cut 32 text
-  from ← word_of words.0
-  rest ← words.1
-  count ← word_of rest
-  Some (record { from = from; count = count })
+  words ← two_words word_of word_of text
+  Some (record { from = words.0; count = words.1 })
 
 -- The digits after `hex:`.
 unfoldable pub hex_of : List ℕ → Option SaidTorn
@@ -54,11 +67,8 @@ torn_of word =
 -- The fields after `cut`: the number of a write, and what it leaves.
 unfoldable pub cut_line_of : List ℕ → Option Said
 cut_line_of fields = do
-  let words = cut 32 fields
-  write ← number_of words.0
-  rest ← words.1
-  torn ← torn_of rest
-  if write == 0 then None else Some (Cut write torn)
+  words ← two_words number_of torn_of fields
+  if words.0 == 0 then None else Some (Cut words.0 words.1)
 
 -- The field after `accept`: the name of a file, which is taken complete.
 unfoldable pub accept_of : List ℕ → Option SaidEvent
@@ -74,12 +84,10 @@ piece_with image name (Some rest) =
 -- The fields after `piece`: the number of an image, the name of a file, and the part of it.
 unfoldable pub piece_of : List ℕ → Option SaidEvent
 piece_of fields = do
-  let words = cut 32 fields
-  image ← number_below (2 ^ 8) words.0
-  rest ← words.1
-  let words = cut 32 rest
+  image ← first_word (number_below (2 ^ 8)) fields
+  let words = cut 32 image.1
   name ← name_of words.0
-  piece_with image name words.1
+  piece_with image.0 name words.1
 
 -- The event of an image that a word names.
 abbrev pub image_event : List ℕ → ℕ → Option SaidEvent
