@@ -3,11 +3,10 @@ use Rattle.std.specs.Prelude.{◌≡◌, ℕ, List, Result, IfOk}
 use Rattle.flash_model.specs.Chip.{Chip, Ends}
 use Rattle.flash_model.specs.declared.error.FlashError.{FlashError}
 use Rattle.sector_map.specs.declared.layout.SectorMap.{SectorMap}
-use Rattle.upload.specs.Device.{DeviceState}
 use Rattle.upload.specs.View.{view}
-use Rattle.machine.specs.Reading.{CanRead, HasImages, IsFinding}
+use Rattle.machine.specs.Reading.{HasImages, IsFinding}
 use Rattle.machine.specs.declared.finding.Finding.{Finding}
-use Rattle.decision.specs.Found.{HasTable, IsFindingAt}
+use Rattle.decision.specs.Found.{HasTable, IsFindingAt, IsReadBy}
 
 -- A call returns the decision of a device with these floors. The slots of the mask's images are
 -- swapped.
@@ -16,8 +15,7 @@ pub record FindsDecision (map : SectorMap) (mask : ℕ) (floors : List ℕ) (old
   -- The flash doesn't change.
   pub same : new ≡ old
   -- The result is the decision of the state that the flash holds.
-  pub ok : IfOk result (λ finding. (s : DeviceState) → CanRead (view map old) s mask floors
-      → IsFinding s finding)
+  pub ok : IfOk result (IsReadBy IsFinding map old mask floors)
   -- Only images of the map are taken.
   pub whole : IfOk result (HasImages map.images)
   -- The table of a decision has a row for each image.

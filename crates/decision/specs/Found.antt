@@ -1,11 +1,15 @@
 -- What a boot finds on a flash that may have damaged images.
 use Rattle.std.specs.Prelude.{◌≡◌, ◌⊎◌, ℕ, ◌<◌, Bool, true, false, List, length, Option, Some, None}
+use Rattle.flash_model.specs.Chip.{Chip}
+use Rattle.sector_map.specs.declared.layout.SectorMap.{SectorMap}
 use Rattle.sector_map.specs.declared.layout.Side.TheVariants.{Primary, Secondary}
 use Rattle.sector_map.specs.Part.{is_member}
 use Rattle.certificate.specs.declared.table.Entry.{Entry}
 use Rattle.certificate.specs.declared.table.Image.{Image}
-use Rattle.upload.specs.View.{View}
+use Rattle.upload.specs.Device.{DeviceState}
+use Rattle.upload.specs.View.{View, view}
 use Rattle.upload.specs.Steady.{IsFront}
+use Rattle.machine.specs.Reading.{CanRead}
 use Rattle.machine.specs.declared.finding.Finding.{Finding}
 use Rattle.machine.specs.declared.finding.Finding.TheVariants.{Decided, Damaged, Invalid}
 use Rattle.machine.specs.declared.finding.Reading.{Reading}
@@ -16,6 +20,13 @@ abbrev pub HasTable : ℕ → Finding → Type 0
 HasTable n (Decided table report) = length table.images.items ≡ n
 HasTable n (Damaged i) = Unit {0}
 HasTable n Invalid = Unit {0}
+
+-- What is found on a flash is this of the state that the flash holds. The slots of the mask's images
+-- are swapped.
+abbrev pub IsReadBy : {A : Type 0} → (DeviceState → A → Type 0) → SectorMap → Chip → ℕ → List ℕ
+    → A → Type 0
+IsReadBy Is map chip mask floors found =
+    (s : DeviceState) → CanRead (view map chip) s mask floors → Is s found
 
 -- ---- what can't be read on a flash
 

@@ -14,9 +14,9 @@ use Rattle.upload.specs.Device.{DeviceState, Wanted}
 use Rattle.upload.specs.Steady.{IsFront, IsRequested}
 use Rattle.upload.specs.View.{view}
 use Rattle.machine.specs.Boots.{IsRequestOf}
-use Rattle.machine.specs.Reading.{CanRead, CanReadAt, HasRows, IsReadOf, IsReading, IsRowRead}
+use Rattle.machine.specs.Reading.{CanReadAt, HasRows, IsReadOf, IsReading, IsRowRead}
 use Rattle.machine.specs.declared.finding.Reading.{Reading}
-use Rattle.decision.specs.Found.{IsEntryAt, IsReadingAt, IsRowAt}
+use Rattle.decision.specs.Found.{IsEntryAt, IsReadBy, IsReadingAt, IsRowAt}
 
 -- A call reads what a decision uses of the image at the start of a slot.
 pub record ReadsSlot (map : SectorMap) (image : ℕ) (side : Side) (old new : Chip)
@@ -54,8 +54,7 @@ pub record ReadsTable (map : SectorMap) (mask : ℕ) (floors : List ℕ) (old ne
   -- The flash doesn't change.
   pub same : new ≡ old
   -- The result is the table of the state that the flash holds, or its lowest damaged image.
-  pub ok : IfOk result (λ reading. (s : DeviceState) → CanRead (view map old) s mask floors
-      → IsReading s reading)
+  pub ok : IfOk result (IsReadBy IsReading map old mask floors)
   -- The table has a row for each image.
   pub whole : IfOk result (HasRows map.images)
   -- On any flash: the result is a table exactly if all rows can be read.
