@@ -1,11 +1,11 @@
 -- What `slots` finds on the flash of a device.
-use Rattle.std.specs.Prelude.{◌≡◌, ◌≢◌, ℕ, List, Option, Some, None, if◌then◌else◌}
+use Rattle.std.specs.Prelude.{◌≡◌, ◌≢◌, ◌<◌, ℕ, true, List, Option, Some, None, if◌then◌else◌}
 use Rattle.std.specs.List.{AllZip, range_with_len}
 use Rattle.flash_model.specs.Chip.{Chip, IsErased}
 use Rattle.sector_map.specs.declared.layout.SectorMap.{SectorMap}
 use Rattle.sector_map.specs.declared.layout.Side.{Side}
 use Rattle.sector_map.specs.declared.layout.Side.TheVariants.{Primary, Secondary}
-use Rattle.sector_map.specs.Map.{length_of, start_of}
+use Rattle.sector_map.specs.Map.{IsLaidOut, length_of, start_of}
 use Rattle.sector_map.specs.Part.{Slot, is_member}
 use Rattle.image_reading.specs.Fault.{IsFrontFault}
 use Rattle.image_reading.specs.Image.{BeginsIntact}
@@ -17,15 +17,20 @@ use Rattle.swap_scratch.specs.declared.progress.Progress.{Progress}
 use Rattle.set_log.specs.declared.state.RecordKind.{RecordKind}
 use Rattle.set_log.specs.declared.state.RecordKind.TheVariants.{Steady, Swap, Settle, Trial, Back, BackSettle}
 use Rattle.set_log.specs.declared.state.State.{State}
-use Rattle.upload.specs.Device.{DeviceState}
 use Rattle.upload.specs.View.{view}
-use Rattle.machine.specs.Reading.{CanRead, IsFinding}
+use Rattle.machine.specs.Reading.{IsFinding}
 use Rattle.machine.specs.declared.finding.Finding.{Finding}
-use Rattle.decision.specs.Found.{IsFindingAt}
+use Rattle.decision.specs.Found.{IsFindingAt, IsReadBy}
 use Rattle.inspecting.specs.declared.slots_found.ImageSlots.{ImageSlots}
 use Rattle.inspecting.specs.declared.slots_found.SlotContent.{SlotContent}
 use Rattle.inspecting.specs.declared.slots_found.SlotContent.TheVariants.{Damaged, Erased, Intact}
 use Rattle.inspecting.specs.declared.slots_found.SlotsFound.{SlotsFound}
+
+-- A map is laid out on a flash with power, and has this image.
+pub record CanLook (map : SectorMap) (image : ℕ) (chip : Chip) : Type 0 where
+  pub laid_out : IsLaidOut map chip
+  pub there : image < map.images
+  pub on : chip.is_on ≡ true
 
 -- All bytes of a slot are erased.
 abbrev pub IsErasedSlot : SectorMap → Chip → ℕ → Side → Type 0
@@ -86,7 +91,7 @@ AreSlotsUpTo map chip state n all =
 -- device holds: the decision over its table, or the lowest running image that can't be read.
 pub record IsNextDecision (map : SectorMap) (chip : Chip) (floors : List ℕ) (finding : Finding)
     : Type 0 where
-  pub of : (s : DeviceState) → CanRead (view map chip) s 0 floors → IsFinding s finding
+  pub of : IsReadBy IsFinding map chip 0 floors finding
   pub front : IsFindingAt (view map chip) 0 finding
 
 -- The decision of the next boot is found exactly if the log says that the device is at rest. Else

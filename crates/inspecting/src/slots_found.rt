@@ -3,7 +3,7 @@ ghost use Rattle.std.specs.Prelude.{◌<◌, ◌≡◌, ◌↔◌, IsTrue, true}
 ghost use Rattle.flash_model.specs.Chip.{Chip};
 ghost use Rattle.sector_map.specs.Map.{IsLaidOut};
 ghost use Rattle.trailer.specs.Standing.{standing_of};
-ghost use Rattle.inspecting.specs.SlotsFound.{AreFound, AreSlotsOf, AreSlotsUpTo, IsContent};
+ghost use Rattle.inspecting.specs.SlotsFound.{AreFound, AreSlotsOf, AreSlotsUpTo, CanLook, IsContent};
 ghost use Rattle.inspecting.specs.SlotsFound.{IsDecisionOf, IsErasedSlot, counting_side, moved_in};
 ghost use Rattle.inspecting.specs.SlotsFound.{progress_of, progress_on};
 
@@ -87,9 +87,7 @@ fn find_images<F: Flash>(
 
 /// Finds the slots of an image.
 fn find_image<F: Flash>(flash: &mut F, map: &SectorMap, state: &State, image: u8) -> ImageSlots
-    requires laid_out { IsLaidOut map.now (F.chip flash.old) }
-    requires there { image < map.now.images }
-    requires on { (F.chip flash.old).is_on ≡ true }
+    requires { CanLook map.now image (F.chip flash.old) }
     ensures same { F.chip flash.new ≡ F.chip flash.old }
     ensures found { AreSlotsOf map.now (F.chip flash.old) state.now image result }
 {
@@ -108,9 +106,7 @@ fn find_image<F: Flash>(flash: &mut F, map: &SectorMap, state: &State, image: u8
 
 /// Finds what a slot begins with.
 fn slot_content<F: Flash>(flash: &mut F, map: &SectorMap, image: u8, side: Side) -> SlotContent
-    requires laid_out { IsLaidOut map.now (F.chip flash.old) }
-    requires there { image < map.now.images }
-    requires on { (F.chip flash.old).is_on ≡ true }
+    requires { CanLook map.now image (F.chip flash.old) }
     ensures same { F.chip flash.new ≡ F.chip flash.old }
     ensures content { IsContent map.now (F.chip flash.old) image side result }
 {
@@ -129,9 +125,7 @@ fn slot_content<F: Flash>(flash: &mut F, map: &SectorMap, image: u8, side: Side)
 
 /// Whether the complete slot is erased.
 fn is_slot_erased<F: Flash>(flash: &mut F, map: &SectorMap, image: u8, side: Side) -> bool
-    requires laid_out { IsLaidOut map.now (F.chip flash.old) }
-    requires there { image < map.now.images }
-    requires on { (F.chip flash.old).is_on ≡ true }
+    requires { CanLook map.now image (F.chip flash.old) }
     ensures same { F.chip flash.new ≡ F.chip flash.old }
     ensures erased { IsTrue result ↔ IsErasedSlot map.now (F.chip flash.old) image side }
 {
@@ -143,9 +137,7 @@ fn is_slot_erased<F: Flash>(flash: &mut F, map: &SectorMap, image: u8, side: Sid
 
 /// The kind of the pending request for an image, if there is one.
 fn request_on<F: Flash>(flash: &mut F, map: &SectorMap, image: u8) -> Option<Kind>
-    requires laid_out { IsLaidOut map.now (F.chip flash.old) }
-    requires there { image < map.now.images }
-    requires on { (F.chip flash.old).is_on ≡ true }
+    requires { CanLook map.now image (F.chip flash.old) }
     ensures same { F.chip flash.new ≡ F.chip flash.old }
     ensures request { result ≡ standing_of map.now (F.chip flash.old) image }
 {
@@ -157,9 +149,7 @@ fn request_on<F: Flash>(flash: &mut F, map: &SectorMap, image: u8) -> Option<Kin
 
 /// The progress of an image's swap, if the log says that one is under way.
 fn moved_on<F: Flash>(flash: &mut F, map: &SectorMap, state: &State, image: u8) -> Option<Progress>
-    requires laid_out { IsLaidOut map.now (F.chip flash.old) }
-    requires there { image < map.now.images }
-    requires on { (F.chip flash.old).is_on ≡ true }
+    requires { CanLook map.now image (F.chip flash.old) }
     ensures same { F.chip flash.new ≡ F.chip flash.old }
     ensures moved { result ≡ moved_in map.now (F.chip flash.old) state.now image }
 {
@@ -186,9 +176,7 @@ fn counting_side(kind: RecordKind) -> Option<Side>
 
 /// The progress of an image's swap, as the trailer of this side counts it.
 fn progress_on<F: Flash>(flash: &mut F, map: &SectorMap, image: u8, side: Side) -> Progress
-    requires laid_out { IsLaidOut map.now (F.chip flash.old) }
-    requires there { image < map.now.images }
-    requires on { (F.chip flash.old).is_on ≡ true }
+    requires { CanLook map.now image (F.chip flash.old) }
     ensures same { F.chip flash.new ≡ F.chip flash.old }
     ensures progress { result ≡ progress_of map.now (F.chip flash.old) side image }
 {

@@ -47,8 +47,10 @@ pub struct ScenarioEnd {
 }
 
 /// The notes on a run in progress.
-#[derive(Default, Drop)]
+#[derive(Drop)]
 pub struct Notes {
+    /// How often the device boots at most after an interrupted event.
+    pub most_boots: usize,
     /// The number of events so far.
     pub events: usize,
     /// The outcome of the first power cut, if there was one.
@@ -58,6 +60,17 @@ pub struct Notes {
 }
 
 impl Notes {
+    /// The notes on a run that begins, whose device boots at most this often after an interrupted
+    /// event.
+    pub fn new(most_boots: usize) -> Self {
+        Notes {
+            most_boots,
+            events: 0,
+            cut: None,
+            is_refused: false,
+        }
+    }
+
     /// Notes the outcome of a boot of the script, or of one after a power cut.
     pub fn note_boot(&mut self, reply: &Reply) {
         self.is_refused |= boot_outcome(reply) == BootOutcome::Refused;

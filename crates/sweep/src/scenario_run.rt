@@ -72,20 +72,19 @@ fn run_all_events<L: Ledger>(
     ensures runs { IfOk result (λ _. RunsEvents device.old.setup device.old.here device.new.here
         (all_of scenario.now)) }
 {
-    let mut notes = Notes::default();
-    run_events(alloc, device, scenario.events, most, &mut notes)?;
-    run_events(alloc, device, scenario.between, most, &mut notes)?;
-    run_events(alloc, device, scenario.more, most, &mut notes)?;
+    let mut notes = Notes::new(most);
+    run_events(alloc, device, scenario.events, &mut notes)?;
+    run_events(alloc, device, scenario.between, &mut notes)?;
+    run_events(alloc, device, scenario.more, &mut notes)?;
     Ok(notes)
 }
 
 /// Passes events in order to a device whose flash has power. After each interrupted event the
-/// device boots until a boot isn't interrupted, at most `most` times.
+/// device boots until a boot isn't interrupted, at most as often as `notes` say.
 fn run_events<L: Ledger>(
     alloc: Global,
     device: &mut Device<MemFlash<L>>,
     events: &[Event<Vec<u8>>],
-    most: usize,
     notes: &mut Notes,
 ) -> Result<(), AllocError>
     requires { device.old.here.flash.is_on ≡ true }
@@ -96,7 +95,7 @@ fn run_events<L: Ledger>(
 {
     for event in events {
         let event = event.as_deref();
-        run_event(alloc, device, &event, most, notes)?;
+        run_event(alloc, device, &event, notes)?;
     }
     Ok(())
 }
@@ -106,7 +105,6 @@ fn run_event<L: Ledger>(
     alloc: Global,
     device: &mut Device<MemFlash<L>>,
     event: &Event<&[u8]>,
-    most: usize,
     notes: &mut Notes,
 ) -> Result<(), AllocError>
     requires { device.old.here.flash.is_on ≡ true }
@@ -117,7 +115,7 @@ fn run_event<L: Ledger>(
     let reply = reply_to(alloc, device, event);
     if let Reply::Cut = reply {
         let writes = device.flash().writes();
-        let reply = boot_again(alloc, device, most);
+        let reply = boot_again(alloc, device, notes.most_boots);
         let writes = device.flash().writes().saturating_sub(writes);
         notes.note_cut(&reply, writes);
         notes.note_boot(&reply);

@@ -54,12 +54,11 @@ fn cut_in_memory<L: Ledger>(rt: &(impl Abort + AllocGlobal), blank: Blank) -> Re
 fn cut_in_bytes<L: Ledger>(
     rt: &impl Abort,
     blank: Blank,
-    bytes: &mut [u8],
+    bytes: &mut [u8; 1024],
 ) -> Result<(), FlashError>
     requires name { blank.name ≡ L.name }
     requires parts { blank.parts ≡ L.parts }
     requires two { L.parts ≡ 2 }
-    requires whole { length bytes.old ≡ 1024 }
 {
     // example: slice_flash::SliceFlash::new
     // `bytes` are two sectors of 512 bytes. Power fails in the second write, which leaves only
@@ -83,13 +82,12 @@ fn cut_in_these_bytes(rt: &impl Abort, bytes: &mut [u8; 1024]) -> Result<(), Fla
 fn record_in_bytes<L: Ledger>(
     rt: &impl Abort,
     blank: Blank,
-    bytes: &mut [u8],
-    journal: &mut [u8],
+    bytes: &mut [u8; 1024],
+    journal: &mut [u8; 32],
 ) -> Result<(), FlashError>
     requires name { blank.name ≡ L.name }
     requires parts { blank.parts ≡ L.parts }
     requires three { L.parts ≡ 3 }
-    requires whole { length bytes.old ≡ 1024 }
 {
     // example: slice_flash::JournalFlash::new
     // `bytes` are two sectors of 512 bytes, and `journal` has 32 bytes.

@@ -4,11 +4,11 @@ ghost use Rattle.std.specs.Prelude.{◌≡◌};
 
 use flash_model::{Flash, FlashError, Result, is_erased};
 
-pub const DONE: Result<()> = Ok(());
+const DONE: Result<()> = Ok(());
 
-pub const CUT: Result<()> = Err(FlashError::Cut);
+const CUT: Result<()> = Err(FlashError::Cut);
 
-pub const OFF: Result<()> = Err(FlashError::Off);
+const OFF: Result<()> = Err(FlashError::Off);
 
 /// A call on the flash.
 #[derive(Clone, Copy)]
@@ -21,6 +21,34 @@ pub enum Call {
 
 /// A call and its expected result.
 pub type Answered = (Call, Result<()>);
+
+/// Erases of the sector in the name: done, cut, and refused because the flash is off.
+pub const CUT_0: Answered = (Call::Erase(0), CUT);
+
+pub const CUT_1: Answered = (Call::Erase(1), CUT);
+
+pub const CUT_2: Answered = (Call::Erase(2), CUT);
+
+pub const CUT_3: Answered = (Call::Erase(3), CUT);
+
+pub const DONE_1: Answered = (Call::Erase(1), DONE);
+
+pub const DONE_2: Answered = (Call::Erase(2), DONE);
+
+pub const OFF_0: Answered = (Call::Erase(0), OFF);
+
+pub const OFF_1: Answered = (Call::Erase(1), OFF);
+
+pub const OFF_2: Answered = (Call::Erase(2), OFF);
+
+pub const OFF_3: Answered = (Call::Erase(3), OFF);
+
+/// The program, done and cut, and the restart.
+pub const PROGRAM_CUT: Answered = (Call::Program, CUT);
+
+pub const PROGRAM_DONE: Answered = (Call::Program, DONE);
+
+pub const RESTART: Answered = (Call::Restart, DONE);
 
 const SIXTEEN: [u8; 16] = [1, 2, 3, 4, 5, 6, 7, 8, 9, 10, 11, 12, 13, 14, 15, 16];
 

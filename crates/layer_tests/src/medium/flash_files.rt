@@ -3,7 +3,8 @@
 ghost use Rattle.std.specs.Prelude.{◌≡◌, ◌+◌, ◌≤◌, Some};
 
 use crate::medium::calls::{
-    Answered, CUT, Call, DONE, ERASED_1, ERASED_12, OFF, OLD, PROGRAMMED_12, are_answered, words_of,
+    Answered, CUT_0, CUT_1, DONE_1, DONE_2, ERASED_1, ERASED_12, OFF_0, OFF_1, OLD, PROGRAM_CUT,
+    PROGRAMMED_12, RESTART, are_answered, words_of,
 };
 use flash_model::{MemFlash, Torn};
 use inputs::{FileFlash, FlashFile};
@@ -96,14 +97,7 @@ const STORIES: [Story; 2] = [
     (
         0,
         3,
-        &[
-            (Call::Erase(1), DONE),
-            (Call::Erase(2), DONE),
-            (Call::Program, CUT),
-            (Call::Erase(0), OFF),
-            (Call::Restart, DONE),
-            (Call::Erase(0), CUT),
-        ],
+        &[DONE_1, DONE_2, PROGRAM_CUT, OFF_0, RESTART, CUT_0],
         PROGRAMMED_12,
         ERASED_12,
         [3, 8, 16],
@@ -111,12 +105,7 @@ const STORIES: [Story; 2] = [
     (
         1,
         1,
-        &[
-            (Call::Erase(1), CUT),
-            (Call::Erase(1), OFF),
-            (Call::Restart, DONE),
-            (Call::Erase(0), CUT),
-        ],
+        &[CUT_1, OFF_1, RESTART, CUT_0],
         ERASED_1,
         OLD,
         [1, 8, 8],

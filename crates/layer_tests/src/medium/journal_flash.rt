@@ -3,7 +3,8 @@
 ghost use Rattle.std.specs.Prelude.{◌≡◌, length};
 
 use crate::medium::calls::{
-    Answered, CUT, Call, DONE, ERASED_2, ERASED_12, OFF, OLD, PROGRAMMED_12, are_answered, words_of,
+    Answered, CUT_0, CUT_1, CUT_2, DONE_1, DONE_2, ERASED_2, ERASED_12, OFF_0, OFF_1, OLD,
+    PROGRAM_CUT, PROGRAM_DONE, PROGRAMMED_12, RESTART, are_answered, words_of,
 };
 use slice_flash::JournalFlash;
 use std::marker::Brand;
@@ -39,52 +40,17 @@ const WRITES: [u8; 52] = [
 
 /// Journals that are long enough to the byte, too short by one byte, and empty.
 const PLAYED: [Played; 6] = [
+    (&[DONE_2, DONE_1, PROGRAM_DONE], 52, 52, PROGRAMMED_12),
     (
-        &[
-            (Call::Erase(2), DONE),
-            (Call::Erase(1), DONE),
-            (Call::Program, DONE),
-        ],
-        52,
-        52,
-        PROGRAMMED_12,
-    ),
-    (
-        &[
-            (Call::Erase(2), DONE),
-            (Call::Erase(1), DONE),
-            (Call::Program, DONE),
-            (Call::Erase(0), CUT),
-            (Call::Erase(0), OFF),
-        ],
+        &[DONE_2, DONE_1, PROGRAM_DONE, CUT_0, OFF_0],
         63,
         52,
         PROGRAMMED_12,
     ),
-    (
-        &[
-            (Call::Erase(2), DONE),
-            (Call::Erase(1), DONE),
-            (Call::Program, CUT),
-            (Call::Erase(1), OFF),
-        ],
-        51,
-        24,
-        ERASED_12,
-    ),
-    (
-        &[
-            (Call::Erase(2), DONE),
-            (Call::Erase(1), CUT),
-            (Call::Restart, DONE),
-            (Call::Erase(1), CUT),
-        ],
-        23,
-        12,
-        ERASED_2,
-    ),
-    (&[(Call::Erase(2), CUT)], 11, 0, OLD),
-    (&[(Call::Erase(2), CUT)], 0, 0, OLD),
+    (&[DONE_2, DONE_1, PROGRAM_CUT, OFF_1], 51, 24, ERASED_12),
+    (&[DONE_2, CUT_1, RESTART, CUT_1], 23, 12, ERASED_2),
+    (&[CUT_2], 11, 0, OLD),
+    (&[CUT_2], 0, 0, OLD),
 ];
 
 /// Whether the calls of a row have their expected results and leave the expected bytes and journal.

@@ -3,8 +3,9 @@
 ghost use Rattle.std.specs.Prelude.{◌≡◌, ◌+◌, ◌<◌, ◌≤◌, ◌⊎◌, ℕ, length, slice_index, IsTrue};
 
 use crate::medium::calls::{
-    Answered, CUT, Call, DONE, ERASED, ERASED_1, ERASED_2, ERASED_12, OFF, OLD, PROGRAMMED,
-    PROGRAMMED_12, TORN_1, TORN_PROGRAM, are_answered, words_of,
+    Answered, CUT_0, CUT_1, CUT_2, DONE_1, DONE_2, ERASED, ERASED_1, ERASED_2, ERASED_12, OFF_0,
+    OFF_2, OLD, PROGRAM_CUT, PROGRAM_DONE, PROGRAMMED, PROGRAMMED_12, RESTART, TORN_1,
+    TORN_PROGRAM, are_answered, words_of,
 };
 use flash_model::{FLAG, is_erased, set_unit};
 use slice_flash::{ArmedCut, Left, SliceFlash};
@@ -52,9 +53,9 @@ type Played = (
     [u64; 4],
 );
 
-const PROGRAM: &[Answered] = &[(Call::Program, CUT)];
+const PROGRAM: &[Answered] = &[PROGRAM_CUT];
 
-const ERASE: &[Answered] = &[(Call::Erase(1), CUT)];
+const ERASE: &[Answered] = &[CUT_1];
 
 const TORN: Left<'static> = Left::Bytes(&[0x5a, 0xa5, 0x00]);
 
@@ -74,31 +75,19 @@ const PLAYED: [Played; 11] = [
     (
         0x07,
         &[(0, Left::Keep), (4, Left::Keep)],
-        &[
-            (Call::Erase(2), DONE),
-            (Call::Erase(1), DONE),
-            (Call::Program, DONE),
-        ],
+        &[DONE_2, DONE_1, PROGRAM_DONE],
         PROGRAMMED_12,
     ),
     (
         0x07,
         &[(1, Left::Keep), (2, Left::Done)],
-        &[
-            (Call::Erase(0), CUT),
-            (Call::Erase(0), OFF),
-            (Call::Erase(2), OFF),
-            (Call::Restart, DONE),
-            (Call::Erase(2), CUT),
-            (Call::Restart, DONE),
-            (Call::Erase(1), DONE),
-        ],
+        &[CUT_0, OFF_0, OFF_2, RESTART, CUT_2, RESTART, DONE_1],
         ERASED_12,
     ),
     (
         0x07,
         &[(2, Left::Bytes(&[0])), (1, Left::Done), (1, Left::Keep)],
-        &[(Call::Erase(2), CUT)],
+        &[CUT_2],
         ERASED_2,
     ),
 ];

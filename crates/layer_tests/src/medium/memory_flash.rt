@@ -3,7 +3,8 @@
 ghost use Rattle.std.specs.Prelude.{◌≡◌};
 
 use crate::medium::calls::{
-    Answered, CUT, Call, DONE, ERASED, ERASED_12, OFF, OLD, TORN_1, are_answered, words_of,
+    Answered, CUT_0, CUT_1, DONE_1, DONE_2, ERASED, ERASED_12, OFF_0, OLD, PROGRAM_CUT, RESTART,
+    TORN_1, are_answered, words_of,
 };
 use flash_model::{MemFlash, Torn, is_erased};
 use std::alloc::{AllocError, Global};
@@ -61,36 +62,17 @@ const STORIES: [Story; 4] = [
         0x07,
         &[],
         &[(1, &[0x5a, 0xa5, 0x00])],
-        &[(Call::Erase(1), CUT)],
+        &[CUT_1],
         TORN_1,
         [1, 0],
     ),
-    (
-        0xff,
-        &[],
-        &[(1, &[])],
-        &[(Call::Program, CUT)],
-        ERASED,
-        [1, 0],
-    ),
+    (0xff, &[], &[(1, &[])], &[PROGRAM_CUT], ERASED, [1, 0]),
+    (0x07, &[], &[(1, &[])], &[CUT_1], OLD, [1, 0]),
     (
         0x07,
-        &[],
-        &[(1, &[])],
-        &[(Call::Erase(1), CUT)],
-        OLD,
-        [1, 0],
-    ),
-    (
-        0x07,
-        &[(Call::Erase(1), DONE)],
+        &[DONE_1],
         &[(2, &[]), (2, &[0]), (0, &[0]), (1, &[0])],
-        &[
-            (Call::Erase(0), CUT),
-            (Call::Erase(0), OFF),
-            (Call::Restart, DONE),
-            (Call::Erase(2), DONE),
-        ],
+        &[CUT_0, OFF_0, RESTART, DONE_2],
         ERASED_12,
         [3, 2],
     ),
@@ -104,30 +86,28 @@ fn cuts_leave_what_was_armed_and_are_counted(rt: HostRuntime) -> Result<(), Allo
     Ok(())
 }
 
-/// Whether `len` bytes from address 8 on are erased. Of 264 bytes only the one at `set` isn't
-/// erased.
-fn is_erased_up_to<L: Ledger>(
-    alloc: Global,
-    blank: Blank,
-    set: u8,
-    len: u8,
-) -> Result<bool, AllocError>
+/// The byte of 264 that isn't erased, how many bytes from address 8 on are looked at, and whether
+/// these are erased.
+type Range = (u8, u8, bool);
+
+/// Whether a range is found to be erased or not, as its row says.
+fn is_found<L: Ledger>(alloc: Global, blank: Blank, range: Range) -> Result<bool, AllocError>
     requires name { blank.name ≡ L.name }
     requires parts { blank.parts ≡ L.parts }
     requires two { L.parts ≡ 2 }
 {
+    let (set, len, wanted) = range;
     let mut bytes = vec![in alloc; 0xff; 264]?;
     bytes[usize::from(set)] = 0xfe;
     let mut flash = MemFlash::<L>::from_bytes(alloc, blank, 8, bytes);
-    Ok(is_erased(&mut flash, 8, u32::from(len)) == Ok(true))
+    Ok(is_erased(&mut flash, 8, u32::from(len)) == Ok(wanted))
 }
 
-fn answer_over_pieces(alloc: Global, set: u8, len: u8) -> Result<bool, AllocError> {
-    is_erased_up_to::<Brand>(alloc, Blank::new(2), set, len)
+fn is_found_in_memory(alloc: Global, range: Range) -> Result<bool, AllocError> {
+    is_found::<Brand>(alloc, Blank::new(2), range)
 }
 
-/// The byte that isn't erased, how many are looked at, and the answer.
-const RANGES: [(u8, u8, bool); 14] = [
+const RANGES: [Range; 14] = [
     (7, 255, true),
     (8, 0, true),
     (71, 63, true),
@@ -147,8 +127,8 @@ const RANGES: [(u8, u8, bool); 14] = [
 #[test]
 fn each_byte_of_a_range_is_looked_at(rt: HostRuntime) -> Result<(), AllocError> {
     let mut are_right = true;
-    for (set, len, wanted) in RANGES {
-        are_right = answer_over_pieces(rt.alloc(), set, len)? == wanted && are_right;
+    for range in RANGES {
+        are_right = is_found_in_memory(rt.alloc(), range)? && are_right;
     }
     assert!(rt; are_right);
     Ok(())

@@ -2,7 +2,7 @@
 
 ghost use Rattle.std.specs.Prelude.{◌≡◌, length};
 
-use crate::medium::calls::{Answered, CUT, Call, DONE, OFF, are_answered};
+use crate::medium::calls::{Answered, CUT_3, OFF_1, OFF_3, PROGRAM_CUT, RESTART, are_answered};
 use slice_flash::ReadOnlyFlash;
 use std::marker::Brand;
 use std::sync::ledger::{Blank, Ledger};
@@ -26,13 +26,13 @@ fn are_refused(bytes: &[u8; 32], calls: &[Answered]) -> bool {
 fn bytes_that_are_only_read_take_no_write(rt: HostRuntime) {
     // A program is only made over erased bytes, so the second one shows that the first left them.
     let calls = [
-        (Call::Program, CUT),
-        (Call::Erase(1), OFF),
-        (Call::Restart, DONE),
-        (Call::Program, CUT),
-        (Call::Restart, DONE),
-        (Call::Erase(3), CUT),
-        (Call::Erase(3), OFF),
+        PROGRAM_CUT,
+        OFF_1,
+        RESTART,
+        PROGRAM_CUT,
+        RESTART,
+        CUT_3,
+        OFF_3,
     ];
     assert!(rt; are_refused(&[0xff; 32], &calls));
 }

@@ -13,3 +13,11 @@ loop-image-preserved g c =
           (AreSlotsUpTo-more c.args.map.now _ c.args.state.now c.loop-image.image c.loop-image.images.items
           c.find_image.result c.loop-image.invariant.found found);
     }
+
+-- The image is one of the map's.
+pub find_image-requires : goal.find_image-requires
+find_image-requires g c = record {
+  laid_out = rw c.loop-image.invariant.same c.requires.laid_out;
+  there = search rules;
+  on = rw c.loop-image.invariant.same c.requires.on;
+}
