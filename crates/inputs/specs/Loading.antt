@@ -142,10 +142,15 @@ pub record ComesBuffered (buffered : List BufferedInput) (used after : ℕ) (fil
   pub content : bytes ≡ item.bytes.items
   pub one_more : after ≡ used + 1
 
+-- The next buffered input, if there is one, isn't of the named file.
+abbrev pub IsNextOther : List BufferedInput → ℕ → SaidFile → Type 0
+IsNextOther buffered used file = (item : BufferedInput) → slice_get buffered used ≡ Some item
+    → said_file item.file ≢ file
+
 -- The next buffered input, if there is one, isn't of the named file, and none is used.
 pub record LeavesBuffered (buffered : List BufferedInput) (used after : ℕ) (file : SaidFile)
     : Type 0 where
-  pub other : (item : BufferedInput) → slice_get buffered used ≡ Some item → said_file item.file ≢ file
+  pub other : IsNextOther buffered used file
   pub none : after ≡ used
 
 -- How a line with these bytes of a file uses the buffered inputs.

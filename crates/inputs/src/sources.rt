@@ -1,11 +1,11 @@
 //! Loads the events of a script's lines, with the bytes of the files that the lines name.
-ghost use Rattle.std.specs.Prelude.{◌≡◌, ◌≢◌, ◌≤◌, IfErr, IfOk, IfSome, Some, codes, IsTrue, false, length};
+ghost use Rattle.std.specs.Prelude.{◌≡◌, ◌≢◌, ◌≤◌, IfErr, IfNone, IfOk, IfSome, Some, codes, IsTrue, false, length, slice_get};
 ghost use Rattle.std.specs.Option.{option_map};
 ghost use Rattle.common.specs.Event.{event_map};
 ghost use Rattle.host.specs.Input.{IsKnownAs, IsKnownPart};
 ghost use Rattle.host.specs.Status.{status_of_refusal};
 ghost use Rattle.script.specs.Said.{file_of, part_words, said_file};
-ghost use Rattle.inputs.specs.Loading.{EventTakesNext, Loads, ReadsNow, TakesNext, came_of};
+ghost use Rattle.inputs.specs.Loading.{EventTakesNext, IsNextOther, Loads, ReadsNow, TakesNext, came_of};
 ghost use Rattle.inputs.specs.Script.{Comes, IsPieceOf, ReadsFile};
 
 use crate::checking::BufferedInput;
@@ -79,12 +79,9 @@ impl<H: Host> Sources<'_, '_, '_, H> {
             TakesNext self.now.buffered.now used.old used.new (said_file file.entry) bytes.items) }
         ensures refused { IfErr result (λ refusal. status_of_refusal refusal ≡ 1) }
     {
-        let Some(input) = self.buffered.get(*used) else {
+        let Some(input) = self.next_for(*used, file) else {
             return piece_of(self.alloc, self.host, number, file);
         };
-        if !is_same_text(input.file, file) {
-            return piece_of(self.alloc, self.host, number, file);
-        }
         let Some(next) = used.checked_add(1) else {
             return Err(Refusal::NoMemory);
         };
@@ -92,6 +89,26 @@ impl<H: Host> Sources<'_, '_, '_, H> {
         match Vec::from_slice(self.alloc, &input.bytes) {
             Ok(bytes) => Ok(bytes),
             Err(_) => Err(Refusal::NoMemory),
+        }
+    }
+
+    /// Returns the next buffered input if it is of the line that names this file. `used` is the
+    /// number of buffered inputs that were used.
+    fn next_for(&self, used: usize, file: FileText<'_>) -> Option<&BufferedInput<'_>>
+        ensures next { IfSome result (λ input.
+            slice_get self.now.buffered.now used ≡ Some input.now) }
+        ensures same { IfSome result (λ input.
+            said_file input.now.file ≡ said_file file.entry) }
+        ensures other { IfNone result (IsNextOther self.now.buffered.now used
+            (said_file file.entry)) }
+    {
+        let Some(input) = self.buffered.get(used) else {
+            return None;
+        };
+        if is_same_text(input.file, file) {
+            Some(input)
+        } else {
+            None
         }
     }
 }
