@@ -8,6 +8,7 @@ ghost use Rattle.image_reading.specs.declared.error.SlotError.{SlotError};
 use common::limits::{MOST_DEPENDENCIES, MOST_GROUPS};
 use flash_model::FlashError;
 use image_header::HeaderError;
+use std::fmt;
 use thiserror::Error;
 
 /// The first failed check of bytes that aren't an intact image. The numbers are 1 to 15, in this
@@ -15,51 +16,64 @@ use thiserror::Error;
 #[derive(Clone, Copy, Debug, PartialEq, Eq, Error)]
 pub enum ImageError {
     /// The input has fewer than 32 bytes.
-    #[error("fewer than 32 bytes")]
     Short,
     /// The magic number isn't 0x96f3b83d.
-    #[error("another magic number than 0x96f3b83d")]
     BadMagic,
     /// The header's length is less than 32.
-    #[error("a header length below 32")]
     BadHeaderSize,
     /// A flag is set that isn't accepted.
-    #[error("a flag that isn't accepted")]
     UnsupportedFlags,
     /// The bytes end before the image does.
-    #[error("the bytes end before the image does")]
     Truncated,
     /// An area of entries begins with another magic number.
-    #[error("an area of entries with another magic number")]
     BadTlvMagic,
     /// The length of an area isn't the header's, is less than 4, or isn't filled by its entries.
-    #[error("an area of entries with a wrong length")]
     BadTlvSize,
     /// There is no digest entry.
-    #[error("no digest entry")]
     NoDigest,
     /// There are two or more digest entries.
-    #[error("two digest entries or more")]
     TwoDigests,
     /// The digest entry isn't the SHA-256 of header, body and protected area.
-    #[error("a digest entry that isn't the image's SHA-256")]
     BadDigest,
     /// A dependency isn't 12 bytes long, or its three bytes after the image number aren't zero. Or
     /// a group isn't 12, 24, 36 or 48 bytes long, or the three bytes of an alternative aren't zero.
-    #[error("a dependency or group entry of a wrong length, or without its three zero bytes")]
     BadDependency,
     /// There are more than [`MOST_DEPENDENCIES`] dependencies.
-    #[error("more than {most} dependencies", most = MOST_DEPENDENCIES)]
     TooManyDependencies,
     /// Bytes follow the image.
-    #[error("bytes after the image")]
     TrailingBytes,
     /// A security counter isn't 4 bytes long, or there are two or more.
-    #[error("two security counters, or one that isn't 4 bytes long")]
     BadCounter,
     /// There are more than [`MOST_GROUPS`] groups.
-    #[error("more than {most} groups", most = MOST_GROUPS)]
     TooManyGroups,
+}
+
+impl fmt::Display for ImageError {
+    fn fmt<W: fmt::Write>(&self, f: &mut fmt::Formatter<W>) -> fmt::Result {
+        let text = match self {
+            ImageError::Short => "fewer than 32 bytes",
+            ImageError::BadMagic => "another magic number than 0x96f3b83d",
+            ImageError::BadHeaderSize => "a header length below 32",
+            ImageError::UnsupportedFlags => "a flag that isn't accepted",
+            ImageError::Truncated => "the bytes end before the image does",
+            ImageError::BadTlvMagic => "an area of entries with another magic number",
+            ImageError::BadTlvSize => "an area of entries with a wrong length",
+            ImageError::NoDigest => "no digest entry",
+            ImageError::TwoDigests => "two digest entries or more",
+            ImageError::BadDigest => "a digest entry that isn't the image's SHA-256",
+            ImageError::BadDependency =>
+                "a dependency or group entry of a wrong length, or without its three zero bytes",
+            ImageError::TooManyDependencies => {
+                return write!(f, "more than {MOST_DEPENDENCIES} dependencies");
+            }
+            ImageError::TrailingBytes => "bytes after the image",
+            ImageError::BadCounter => "two security counters, or one that isn't 4 bytes long",
+            ImageError::TooManyGroups => {
+                return write!(f, "more than {MOST_GROUPS} groups");
+            }
+        };
+        f.write_str(text)
+    }
 }
 
 impl ImageError {
