@@ -2,10 +2,11 @@
 
 ghost use Rattle.std.specs.Prelude.{◌≡◌, ◌≤◌, ◌++◌, drop, length};
 ghost use Rattle.byteorder.specs.Endian.{little_bytes};
-ghost use Rattle.image_header.specs.Header.{header_bytes};
+ghost use Rattle.image_header.specs.Header.{header_bytes, version_bytes};
 
 use crate::header::{HEADER_LENGTH, Header, MAGIC};
 use byteorder::{ByteOrder, LittleEndian};
+use version_order::Version;
 
 /// Writes a number of one byte, as [`ByteOrder::write_u16`] writes one of two bytes.
 fn write_u8(buffer: &mut [u8], n: u8)
@@ -13,6 +14,18 @@ fn write_u8(buffer: &mut [u8], n: u8)
     ensures { buffer.new ≡ little_bytes 1 n ++ drop 1 buffer.old }
 {
     buffer[0] = n;
+}
+
+/// Returns the 8 bytes of a version (MCUboot: `struct image_version`).
+fn version_bytes(version: Version) -> [u8; 8]
+    ensures { result ≡ version_bytes version }
+{
+    let mut bytes = [0; 8];
+    write_u8(&mut bytes[0..1], version.major);
+    write_u8(&mut bytes[1..2], version.minor);
+    LittleEndian::write_u16(&mut bytes[2..4], version.revision);
+    LittleEndian::write_u32(&mut bytes[4..8], version.build);
+    bytes
 }
 
 impl Header {
@@ -28,10 +41,7 @@ impl Header {
         LittleEndian::write_u16(&mut bytes[10..12], self.protected_size);
         LittleEndian::write_u32(&mut bytes[12..16], self.body_size);
         LittleEndian::write_u32(&mut bytes[16..20], self.flags);
-        write_u8(&mut bytes[20..21], self.version.major);
-        write_u8(&mut bytes[21..22], self.version.minor);
-        LittleEndian::write_u16(&mut bytes[22..24], self.version.revision);
-        LittleEndian::write_u32(&mut bytes[24..28], self.version.build);
+        bytes[20..28].copy_from_slice(&version_bytes(self.version));
         LittleEndian::write_u32(&mut bytes[28..32], self.pad);
         bytes
     }

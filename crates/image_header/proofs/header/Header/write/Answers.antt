@@ -1,7 +1,7 @@
 -- Each field is written over its complete part, so the concatenated parts are the header's bytes.
-use Rattle.std.proofs.Common.{◌≡◌}
+use Rattle.std.proofs.Common.{◌≡◌, ◌∙◌}
 use Rattle.byteorder.specs.Endian.{little_bytes}
-use Rattle.image_header.specs.Header.{header_magic}
+use Rattle.image_header.specs.Header.{header_magic, version_bytes}
 use Rattle.image_header.proofs.Fields.{drop-take_same}
 use Rattle.image_header.proofs.header.Header.write.Goals as goal
 
@@ -18,12 +18,7 @@ returns c =
     let body_size : c.write_u32-3.new.buf ≡ little_bytes 4 header.body_size =
     rw drop-take_same at c.write_u32-3.ensures in
     let flags : c.write_u32-4.new.buf ≡ little_bytes 4 header.flags = rw drop-take_same at c.write_u32-4.ensures in
-    let major : c.write_u8.new.buffer ≡ little_bytes 1 header.version.major = rw drop-take_same at c.write_u8.ensures in
-    let minor : c.write_u8-2.new.buffer ≡ little_bytes 1 header.version.minor =
-    rw drop-take_same at c.write_u8-2.ensures in
-    let revision : c.write_u16-3.new.buf ≡ little_bytes 2 header.version.revision =
-    rw drop-take_same at c.write_u16-3.ensures in
-    let build : c.write_u32-5.new.buf ≡ little_bytes 4 header.version.build =
-    rw drop-take_same at c.write_u32-5.ensures in
-    let pad : c.write_u32-6.new.buf ≡ little_bytes 4 header.pad = rw drop-take_same at c.write_u32-6.ensures in
-    rw (magic, load_address, header_size, protected_size, body_size, flags, major, minor, revision, build, pad)
+    let version : c.copy_from_slice.new.self ≡ version_bytes header.version =
+    c.copy_from_slice.ensures.after ∙ c.version_bytes.ensures in
+    let pad : c.write_u32-5.new.buf ≡ little_bytes 4 header.pad = rw drop-take_same at c.write_u32-5.ensures in
+    rw (magic, load_address, header_size, protected_size, body_size, flags, version, pad)
