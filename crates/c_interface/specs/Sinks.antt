@@ -1,4 +1,5 @@
--- A text that is counted, or written to the front of a buffer, piece by piece (`tlv` says how it is written).
+-- A text that is counted, or written to the front of a buffer, piece by piece. `tlv` says how a
+-- piece is written.
 use Rattle.std.proofs.Common.{◌≡◌, ℕ, ◌+◌, ◌-◌, ◌^◌, ◌<◌, ◌≤◌, min, List, [], ◌++◌, length, arith, length-append}
 
 -- A text of this length fits in a buffer of this size, and its length fits in 32 bits.

@@ -4,7 +4,7 @@ use crate::error::Fault;
 use certificate::{Report, Table};
 
 /// A device's reply to an event.
-#[derive(Clone, Debug, Drop, PartialEq, Eq)]
+#[derive(Drop, PartialEq, Eq)]
 pub enum Reply {
     /// The event is done.
     Done,
