@@ -14,6 +14,9 @@
  * Each call except bootswap_piece reads the slots of the open uploads and checks that the uploads match the flash. A
  * piece reads only the range of its slot that it writes, so an upload in many pieces costs little more than in one.
  *
+ * The library calls memcpy, memmove and memset. It uses the processor's vector registers and unaligned accesses, which
+ * a bare machine has to allow.
+ *
  * The flash is memory: a driver in C can't be called. The calls named `bootswap_journal_` record each write in a journal,
  * so that their caller can make the same writes on a part. `docs/PORTING.md` says how a device with its own flash runs
  * bootswap.
@@ -238,7 +241,7 @@ struct bootswap_state {
     uint32_t set;       /* bit i for image i: the images of the upgrade */
     uint32_t permanent; /* 1 if the set stays without a trial */
     uint32_t left;      /* in a trial: the number of further boots that it lasts, 0 to 6 */
-    uint32_t sequence;  /* the sequence number of the last accepted manifest */
+    uint32_t sequence;  /* the sequence number of the last accepted manifest. The next may have the same. */
     uint32_t floors[BOOTSWAP_MAX_IMAGES]; /* the lowest security counter that each image may have */
 };
 
@@ -264,7 +267,7 @@ uint32_t bootswap_provision(const struct bootswap_setup *setup, uint8_t *flash, 
  * Boots. Returns BOOTSWAP_BOOTED, BOOTSWAP_REVERTED or BOOTSWAP_TRIAL_AGAIN, and the device is booted;
  * BOOTSWAP_REFUSED; or BOOTSWAP_CUT: then the next boot continues. A boot that decides writes the texts of its table
  * and its report to the front of the two buffers, without a 0 after them. A text is left out only if it is longer than
- * its buffer.
+ * its buffer. BOOTSWAP_REVERTED and BOOTSWAP_TRIAL_AGAIN have no texts.
  */
 uint32_t bootswap_boot(const struct bootswap_setup *setup, uint8_t *flash, size_t flash_length,
                        struct bootswap_kept *kept, const struct bootswap_cut *cuts, size_t cuts_count, char *table,

@@ -62,8 +62,9 @@ enum bootswap_device_number {
  *   status unit that counts it (20);
  * - or the trailers of a set of 8 images after a swap back (92 each), and a record (120).
  *
- * With this journal and sectors of less than 832 bytes, a boot erases some sectors more often than
- * it has to. Twice BOOTSWAP_STEP_ROOM avoids that.
+ * A boot that fills its journal may make three erases more than docs/PROOFS.md ("A boot's wear is
+ * bounded") says, and two more for each image of the set. With this journal and sectors of less
+ * than 832 bytes it may also add one for each step. Twice BOOTSWAP_STEP_ROOM avoids that.
  *
  * The other calls need at most:
  * - accept: 120, and for each component 44, and 12 for each sector of its image's slot
