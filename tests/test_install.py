@@ -1,4 +1,4 @@
-"""What `tools/install` puts on a system, how programs find it there, and what `tools/uninstall` takes away."""
+"""What `tools/install` installs, and `tools/uninstall` removes."""
 
 import os
 import re
@@ -18,7 +18,8 @@ from installing import LIST, major, version
 
 # The places of an installation, but for the examples and Python's folder.
 PLACES = {
-    *("bin/bootswap", "include/bootswap.h", "include/bootswap_names.h", "lib/libbootswap.a", "lib/libbootswap.so"),
+    *("bin/bootswap", "lib/libbootswap.a", "lib/libbootswap_manifest.a", "lib/libbootswap.so"),
+    *(f"include/bootswap{it}.h" for it in ("", "_manifest", "_names")),
     *(f"lib/libbootswap.so.{major()}", f"lib/libbootswap.so.{version()}", "lib/pkgconfig/bootswap.pc"),
     *(f"lib/cmake/bootswap/bootswap-config{it}.cmake" for it in ("", "-version")),
     *("share/doc/bootswap/LICENSE", "share/doc/bootswap/CHANGELOG.md", LIST),

@@ -1,14 +1,14 @@
-"""The packages that `tools/package` makes, and that a system without the toolchain can use them."""
+"""The packages that `tools/package` makes."""
 
 import os
 import shutil
 import subprocess
 import unittest
 
-from support.built_clone import BuiltCloneTest
+from support.built_clone import LIBRARIES, BuiltCloneTest
 from support.compiled import needs_compiler
 from support.files import ROOT, read
-from support.libraries import ARM_TARGET, archive_for, ran
+from support.libraries import ARM_TARGET, archive_for, manifest_archive_for, ran
 from support.program import short
 
 from installing import major, version
@@ -24,7 +24,8 @@ ARCHIVES = (f"bootswap-{version()}-x86_64-linux.tar.xz", f"libbootswap-{version(
 FILES = {
     "bootswap": {"bin/bootswap", f"lib/x86_64-linux-gnu/libbootswap.so.{major()}"},
     "libbootswap-dev": {
-        *("include/bootswap.h", "include/bootswap_names.h", "lib/x86_64-linux-gnu/libbootswap.a"),
+        *("include/bootswap.h", "include/bootswap_manifest.h", "lib/x86_64-linux-gnu/libbootswap.a"),
+        "lib/x86_64-linux-gnu/libbootswap_manifest.a",
         *("lib/x86_64-linux-gnu/libbootswap.so", "lib/x86_64-linux-gnu/pkgconfig/bootswap.pc"),
         "lib/x86_64-linux-gnu/cmake/bootswap/bootswap-config.cmake",
     },
@@ -75,12 +76,13 @@ class PackageTest(BuiltCloneTest):
     @classmethod
     def setUpClass(cls):
         super().setUpClass()
-        cls.arm = archive_for(ARM_TARGET)
+        cls.arm = archive_for(ARM_TARGET), manifest_archive_for(ARM_TARGET)
 
     def setUp(self):
         super().setUp()
         os.mkdir(f"{self.clone}/out/{ARM_TARGET}")
-        shutil.copy(self.arm, f"{self.clone}/out/{ARM_TARGET}/libbootswap.a")
+        for archive, name in zip(self.arm, LIBRARIES):
+            shutil.copy(archive, f"{self.clone}/out/{ARM_TARGET}/{name}")
         self.made = f"{self.clone}/out/packages"
         self.environment = {**os.environ, "SOURCE_COMMIT": COMMIT, "SOURCE_DATE_EPOCH": SECONDS}
 
@@ -124,7 +126,7 @@ class PackageTest(BuiltCloneTest):
             self.case(f"{name} is unpacked", faults)
         here, arm = (f"{self.folder}/{it.removesuffix('.tar.xz')}" for it in ARCHIVES)
         self.printed_by("the program runs", [f"{here}/bin/bootswap", "--version"], f"bootswap {version()}\n".encode())
-        self.case("the library for ARM", [] if read(f"{arm}/lib/libbootswap.a") == read(self.arm) else ["it differs"])
+        self.case("the library for ARM", [] if read(f"{arm}/lib/libbootswap.a") == read(self.arm[0]) else ["it differs"])
         self.case("its header", [] if os.path.exists(f"{arm}/include/bootswap.h") else ["there is none"])
 
     @unittest.skipUnless(shutil.which("lintian"), "there is no lintian")

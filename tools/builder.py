@@ -313,17 +313,17 @@ def locked():
         os.close(held)
 
 
-def library_crates(target=TARGET):
+def library_crates(target=TARGET, name=LIBRARY):
     """Returns the crates of a static library for a target, lowest first."""
-    crates = crates_of(LIBRARY)
+    crates = crates_of(name)
     if target != TARGET:
         crates[-1].aim(target)
     return crates
 
 
-def static_library(target=TARGET):
+def static_library(target=TARGET, name=LIBRARY):
     """Proves and builds a static library for a target, if that isn't done yet, and returns its file."""
-    crates, toolchain = library_crates(target), asked_of_rt("version")
+    crates, toolchain = library_crates(target, name), asked_of_rt("version")
     if not crates[-1].is_built(toolchain):
         build(crates, toolchain)
     return crates[-1].made

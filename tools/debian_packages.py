@@ -98,17 +98,17 @@ class Package(NamedTuple):
 
 
 def debian_packages(folder, made, seconds, built):
-    """Makes the packages in a folder from the program, the static and the shared library, and returns their names."""
+    """Makes the packages in a folder from the program, the static libraries and the shared one, and returns their names."""
     return [debian_package(it, folder, f"{made}/{it.name}", seconds) for it in packages(*built)]
 
 
-def packages(program, archive, shared):
+def packages(program, archives, shared):
     """Returns the packages and what is in them."""
     same = f"bootswap (= {version()})"
     left_out = ("share/doc/bootswap/LICENSE", "share/doc/bootswap/CHANGELOG.md")
     of_program = [it for it in program_items(program) if it.place not in left_out]
     of_program += shared_items(LIBRARIES, shared)
-    of_library, of_python = library_items(f"/{PREFIX}", LIBRARIES, archive), python_items("lib/python3/dist-packages")
+    of_library, of_python = library_items(f"/{PREFIX}", LIBRARIES, archives), python_items("lib/python3/dist-packages")
     return [
         Package("bootswap", "devel", [libc_of(program, shared)], of_program),
         Package("libbootswap-dev", "libdevel", [same], moved(of_library, "libbootswap-dev")),

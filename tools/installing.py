@@ -93,10 +93,10 @@ def share(archives, shared):
     return subprocess.run([*words, "-Wl,--whole-archive", *archives, "-Wl,--no-whole-archive"]).returncode == 0
 
 
-def items(prefix, python, program, archive, shared):
-    """Returns the files of an installation below a prefix: the program, the library as a static and a shared one, the
-    module of Python in its folder, and what belongs to them."""
-    library = [*shared_items("lib", shared), *library_items(prefix, "lib", archive)]
+def items(prefix, python, program, archives, shared):
+    """Returns the files of an installation below a prefix: the program, the static libraries and the shared one, the module
+    of Python in its folder, and what belongs to them."""
+    library = [*shared_items("lib", shared), *library_items(prefix, "lib", archives)]
     return [*program_items(program), *library, *python_items(python)]
 
 
@@ -116,13 +116,13 @@ def shared_items(libraries, shared):
     return [Item(f"{libraries}/{full}", shared), Item(f"{libraries}/libbootswap.so.{major()}", link=full)]
 
 
-def library_items(prefix, libraries, archive):
+def library_items(prefix, libraries, archives):
     """Returns the files that one needs to compile and link a C program, with the folder of libraries below a prefix."""
     to_prefix = "/".join(".." for _ in libraries.split("/"))
     names = {"prefix": prefix, "libraries": libraries, "to_prefix": to_prefix, "version": version(), "major": major()}
     return [
         *(Item(f"include/{it}", f"{ROOT}/include/{it}") for it in sorted(os.listdir(f"{ROOT}/include"))),
-        Item(f"{libraries}/libbootswap.a", archive),
+        *(Item(f"{libraries}/{os.path.basename(it)}", it) for it in archives),
         Item(f"{libraries}/libbootswap.so", link=f"libbootswap.so.{version()}"),
         Item(f"{libraries}/pkgconfig/bootswap.pc", text=PKG_CONFIG.format(**names)),
         Item(f"{libraries}/cmake/bootswap/bootswap-config.cmake", text=CMAKE.format(**names)),
@@ -233,3 +233,8 @@ def given_folders(words, about):
         parser.error("--prefix has to begin with /")
     given.prefix = os.path.normpath(given.prefix)
     return given
+
+
+def built_libraries(folder="", how="bindings/build"):
+    """Returns the static libraries that were built in a folder of out/, or says how to build them."""
+    return [built(f"{folder}{it}", how) for it in ("libbootswap.a", "libbootswap_manifest.a")]

@@ -5,7 +5,7 @@ import shutil
 import subprocess
 
 from support.files import ROOT
-from support.libraries import TARGET, archive_for, ran
+from support.libraries import TARGET, archive_for, manifest_archive_for, ran
 from support.program import ProgramTest, short
 
 from installing import share
@@ -13,13 +13,16 @@ from installing import share
 # What the tools need of a clone beside out/.
 NEEDED = ("bindings", "examples", "include", "tools")
 
+# The names of the static libraries.
+LIBRARIES = ("libbootswap.a", "libbootswap_manifest.a")
+
 
 class BuiltCloneTest(ProgramTest):
     """A test of the tools in a clone that has the built program and the libraries in out/."""
 
     @classmethod
     def setUpClass(cls):
-        cls.archive = archive_for(TARGET)
+        cls.archives = archive_for(TARGET), manifest_archive_for(TARGET)
 
     def setUp(self):
         super().setUp()
@@ -30,8 +33,9 @@ class BuiltCloneTest(ProgramTest):
             shutil.copy(f"{ROOT}/{name}", self.clone)
         os.mkdir(f"{self.clone}/out")
         shutil.copy(self.program, f"{self.clone}/out/bootswap")
-        shutil.copy(self.archive, f"{self.clone}/out/libbootswap.a")
-        self.assertTrue(share(self.archive, f"{self.clone}/out/libbootswap.so"))
+        for archive, name in zip(self.archives, LIBRARIES):
+            shutil.copy(archive, f"{self.clone}/out/{name}")
+        self.assertTrue(share(self.archives, f"{self.clone}/out/libbootswap.so"))
 
     def run_tool(self, name, *words, **how):
         """Runs a tool of the clone, and returns its status and what it says."""
