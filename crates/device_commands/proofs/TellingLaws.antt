@@ -36,13 +36,6 @@ use Rattle.device_commands.specs.Telling.{BreaksEvent, BreaksText, PlaysRun, Pla
 use Rattle.inputs.specs.Loading.{LoadsAll}
 use Rattle.inputs.proofs.ScriptLaws.{AreTaken, LoadsFirst-none, LoadsFirst-taken}
 
--- A device replied this to this event.
-pub replied : (setup : Setup) (old new : DeviceView) (came : Event (List ℕ)) (event : DeviceEvent) (reply : Reply)
-    → came_by event ≡ came → StepsTo setup old new event reply → IsCutAsDue old.flash reply new.flash
-    → RepliesTo setup old new came
-replied setup old new came event reply comes steps due =
-    record { event = event; reply = reply; comes = comes; steps = steps; due = due }
-
 -- The last reply gives the answer of a run.
 answer_of-push : (replies : List Reply) (reply : Reply) → answer_of (replies ++ reply ∷ []) ≡ answer_after (Some reply)
 answer_of-push replies reply =
