@@ -1,5 +1,5 @@
 -- Laws of a call on a device in bytes, from the old bytes to the new ones.
-use Rattle.std.proofs.Common.{◌≡◌, ℕ, ◌-◌, ◌*◌, ◌/◌, ◌<◌, ◌≤◌, Bool, true, false, List, [], length, slice_index_or, Option, Some, None, Result, refl, sym, ◌∙◌, ap, subst, arith, ⊎_elim}
+use Rattle.std.proofs.Common.{◌≡◌, ℕ, ◌*◌, ◌/◌, ◌<◌, ◌≤◌, Bool, true, false, List, [], length, slice_index_or, Option, Some, None, refl, sym, ◌∙◌, ap, subst, arith, ⊎_elim}
 use Rattle.std.proofs.Math.Nat.{div-mul-le_self, le-div_iff_mul-le, mod-eq-sub-div-mul, mul-div_cancel}
 use Rattle.std.proofs.lemmas.Bool.{cases_Bool, true≢false}
 use Rattle.std.proofs.lemmas.Option.{none-some}
@@ -21,10 +21,8 @@ use Rattle.machine.specs.Holding.{DeviceView, Holds}
 use Rattle.machine.specs.Intake as device
 use Rattle.machine.specs.Passing.{StepsTo}
 use Rattle.machine.specs.Steps.{DeviceEvent}
-use Rattle.machine.specs.declared.error.Fault.{Fault}
 use Rattle.machine.specs.declared.reply.Reply.{Reply}
 use Rattle.boot_core.specs.Answers.{reply_of_boot, reply_of_result}
-use Rattle.boot_core.specs.Booting.{EndsUploadsAndBoots}
 use Rattle.boot_core.specs.Device.{StaysHeld, made, seen}
 use Rattle.c_interface.specs.declared.dispatch.DeviceCall.{DeviceCall}
 use Rattle.c_interface.specs.declared.dispatch.DeviceCall.TheVariants.{Accept, Piece, Finish, Withdraw, Confirm, Boot}
@@ -378,14 +376,6 @@ pub makes : (map : SectorMap) (identity : Identity) (boots : ℕ) (call given : 
 makes map identity boots call given old new reply is on all =
     subst (λ k. MakesCall map identity boots k old new reply) (sym is)
     (call_made map identity boots old new reply on given all)
-
--- a boot
-pub makes_boot : (map : SectorMap) (identity : Identity) (boots : ℕ) (call : DeviceCall) (old new : DeviceView)
-    (reply : Reply) (result : Result Reply Fault) → 1 ≤ boots → call ≡ Boot → reply ≡ reply_of_boot result
-    → old.flash.is_on ≡ true → EndsUploadsAndBoots map (boots - 1) old new result
-    → MakesCall map identity boots call old new reply
-makes_boot map identity boots call old new reply result some is same on all =
-    makes map identity boots call Boot old new reply is on (boots - 1, omega (arith, some), result, same, all)
 
 -- a flash over borrowed bytes that was just made
 pub borrowed_flash : (map : SectorMap) (bytes : List ℕ) (chip : Chip) (fixed : Fixed) → IsMap map → HasRoom map bytes

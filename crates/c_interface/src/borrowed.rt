@@ -31,13 +31,6 @@ struct VolatileState {
     is_booted: bool,
 }
 
-/// How a call ended: the device's reply, and the number of writes that it began.
-#[derive(Drop)]
-pub(crate) struct CallOutcome {
-    pub(crate) reply: Reply,
-    pub(crate) writes: u64,
-}
-
 /// The saved uploads, if the saved state is a booted device. They may not match the flash.
 fn saved_uploads(saved: &SavedState) -> Option<Uploads>
     ensures some { IfSome result (λ uploads. IsSavedWith saved.now uploads.sessions) }
@@ -117,40 +110,41 @@ fn save(state: &VolatileState) -> SavedState
     }
 }
 
-/// Restores the state of the device over a flash with power, makes the call, and saves the state.
+/// Restores the state of the device over a flash with power, makes the call, writes the reply, and
+/// saves the state.
 pub(crate) fn resume_and_run<F: Flash>(
     flash: &mut F,
     checked: &CheckedSetup,
     saved: &mut SavedState,
     call: &DeviceCall<'_>,
-) -> Reply
+    reply: &mut Reply,
+)
     requires laid_out { IsLaidOut checked.now.map (F.chip flash.old) }
     requires on { (F.chip flash.old).is_on ≡ true }
     requires images { checked.now.identity.images ≡ checked.now.map.images }
     requires trial { IsTrial checked.now.boots }
     ensures fixed { (F.chip flash.new).fixed ≡ (F.chip flash.old).fixed }
-    ensures cuts { (F.chip flash.new).cuts ≡ (F.chip flash.old).cuts + cut_of result }
-    ensures dark { cut_of result ≡ 1 → (F.chip flash.new).is_on ≡ false }
+    ensures cuts { (F.chip flash.new).cuts ≡ (F.chip flash.old).cuts + cut_of reply.new }
+    ensures dark { cut_of reply.new ≡ 1 → (F.chip flash.new).is_on ≡ false }
     ensures laid { IsLaidOut checked.now.map (F.chip flash.new) }
     ensures journal { IsJournaled checked.now.map call.now (F.chip flash.old) (F.chip flash.new) }
     ensures steps { StepsBetween checked.now call.now (F.chip flash.old).bytes saved.old
-        (F.chip flash.new).bytes saved.new result (F.chip flash.old) (F.chip flash.new) }
+        (F.chip flash.new).bytes saved.new reply.new (F.chip flash.old) (F.chip flash.new) }
 {
     let mut state = restore(flash, &checked.map, saved, call);
-    let reply = dispatch(
+    dispatch(
         flash,
-        &checked.map,
-        &checked.identity,
+        checked,
         &mut state.uploads,
         &mut state.is_booted,
-        checked.boots,
         call,
+        reply,
     );
     *saved = save(&state);
-    reply
 }
 
-/// Runs a call on the flash of these bytes. The writes in the table are cut.
+/// Runs a call on the flash of these bytes, writes the reply, and returns the number of writes that
+/// the call began. The writes in the table are cut.
 fn run_over_bytes<L: Ledger>(
     blank: Blank,
     checked: &CheckedSetup,
@@ -158,7 +152,8 @@ fn run_over_bytes<L: Ledger>(
     table: &[ArmedCut<'_>],
     saved: &mut SavedState,
     call: &DeviceCall<'_>,
-) -> CallOutcome
+    reply: &mut Reply,
+) -> u64
     requires name { blank.name ≡ L.name }
     requires parts { blank.parts ≡ L.parts }
     requires two { L.parts ≡ 2 }
@@ -166,15 +161,15 @@ fn run_over_bytes<L: Ledger>(
     requires images { checked.now.identity.images ≡ checked.now.map.images }
     requires trial { IsTrial checked.now.boots }
     ensures { StepsOn checked.now (fixed_by table.now [] 0) call.now bytes.old saved.old bytes.new
-        saved.new result.reply result.writes }
+        saved.new reply.new result }
 {
     let mut flash = SliceFlash::<L>::new(blank, bytes, checked.map.sector_size, table);
-    let reply = resume_and_run(&mut flash, checked, saved, call);
-    let writes = flash.writes();
-    CallOutcome { reply, writes }
+    resume_and_run(&mut flash, checked, saved, call, reply);
+    flash.writes()
 }
 
-/// Checks the setup and the number of cuts, then makes a call on the device in these bytes.
+/// Checks the setup and the number of cuts, makes a call on the device in these bytes, writes the
+/// reply, and returns the number of writes that the call began.
 ///
 /// # Errors
 /// The number to return. Nothing has changed then.
@@ -184,9 +179,10 @@ pub(crate) fn call_device(
     saved: &mut SavedState,
     cuts: &[CutRow],
     call: &DeviceCall<'_>,
-) -> Result<CallOutcome, u32>
-    ensures outcome { IfOk result (λ outcome. CallsOn setup.now cuts.now call.now bytes.old
-        saved.old bytes.new saved.new outcome.reply outcome.writes) }
+    reply: &mut Reply,
+) -> Result<u64, u32>
+    ensures outcome { IfOk result (λ writes. CallsOn setup.now cuts.now call.now bytes.old
+        saved.old bytes.new saved.new reply.new writes) }
     ensures refused { IfErr result (λ number. IsRefusedBefore setup.now cuts.now bytes.old number
         × (bytes.new ≡ bytes.old) × (saved.new ≡ saved.old)) }
 {
@@ -199,5 +195,5 @@ pub(crate) fn call_device(
     }
     let table = table_of(cuts);
     let rows = &table[..cuts.len()];
-    Ok(run_over_bytes::<Brand>(Blank::new(2), &checked, bytes, rows, saved, call))
+    Ok(run_over_bytes::<Brand>(Blank::new(2), &checked, bytes, rows, saved, call, reply))
 }

@@ -1,20 +1,23 @@
 //! The calls of a device, and the function of `boot_core` that carries each out.
 
 ghost use Rattle.std.specs.Prelude.{◌≡◌, false, true};
+ghost use Rattle.boot_core.specs.Answers.{reply_of_result};
+ghost use Rattle.boot_core.specs.Booting.{EndsUploadsAndBoots};
 ghost use Rattle.boot_core.specs.Device.{seen};
 ghost use Rattle.sector_map.specs.Map.{IsLaidOut};
 ghost use Rattle.upload.specs.Sessions.{AllOpenAt};
 ghost use Rattle.upload.specs.View.{view};
-ghost use Rattle.c_interface.specs.Calls.{MakesCall};
+ghost use Rattle.c_interface.specs.Calls.{HasBootResult, MakesCall};
 ghost use Rattle.c_interface.specs.SavedState.{is_piece};
 ghost use Rattle.c_interface.specs.Setup.{IsTrial};
 
+use crate::setup::CheckedSetup;
 use boot_core::apart::{
-    accept_manifest, answer, boot_device, confirm_on, finish, piece, reply_of, withdraw,
+    accept_manifest, boot_device, confirm_on, finish, piece, reply_of, withdraw,
 };
 use flash_model::Flash;
-use machine::Reply;
-use manifest::{Identity, Manifest};
+use machine::{Fault, Reply};
+use manifest::Manifest;
 use sector_map::SectorMap;
 use upload::Uploads;
 
@@ -42,39 +45,78 @@ pub(crate) fn is_piece(call: &DeviceCall<'_>) -> bool
     matches!(call, DeviceCall::Piece(..))
 }
 
-/// Passes a call to the function of `boot_core` that carries it out. The flash has power.
-pub(crate) fn dispatch<F: Flash>(
+/// Writes the reply for the result of a call that isn't a boot. A reply has 8 kB. The temporary one
+/// takes stack only here, after the call, because this function isn't inlined.
+#[inline(never)]
+pub(crate) fn put_answer(reply: &mut Reply, given: Result<(), Fault>)
+    ensures { reply.new ≡ reply_of_result given }
+{
+    match given {
+        Ok(()) => *reply = Reply::Done,
+        Err(fault) => *reply = reply_of(fault),
+    }
+}
+
+/// Boots the device, and writes the reply.
+#[inline(never)]
+fn boot_into<F: Flash>(
     flash: &mut F,
     map: &SectorMap,
-    identity: &Identity,
     uploads: &mut Uploads,
     is_booted: &mut bool,
     boots: u8,
-    call: &DeviceCall<'_>,
-) -> Reply
+    reply: &mut Reply,
+)
     requires laid_out { IsLaidOut map.now (F.chip flash.old) }
-    requires images { identity.now.images ≡ map.now.images }
-    requires opens { is_piece call.now ≡ false
-        → AllOpenAt (view map.now (F.chip flash.old)) uploads.old.sessions }
     requires trial { IsTrial boots }
-    requires on { (F.chip flash.old).is_on ≡ true }
-    ensures { MakesCall map.now identity.now boots call.now
+    ensures { HasBootResult reply.new boots (λ left. EndsUploadsAndBoots map.now left
         (seen (F.chip flash.old) uploads.old.sessions is_booted.old)
-        (seen (F.chip flash.new) uploads.new.sessions is_booted.new) result }
+        (seen (F.chip flash.new) uploads.new.sessions is_booted.new)) }
 {
+    match boot_device(flash, map, uploads, is_booted, boots - 1) {
+        Ok(booted) => *reply = booted,
+        Err(fault) => put_answer(reply, Err(fault)),
+    }
+}
+
+/// Passes a call to the function of `boot_core` that carries it out, and writes the reply. The flash
+/// has power.
+pub(crate) fn dispatch<F: Flash>(
+    flash: &mut F,
+    checked: &CheckedSetup,
+    uploads: &mut Uploads,
+    is_booted: &mut bool,
+    call: &DeviceCall<'_>,
+    reply: &mut Reply,
+)
+    requires laid_out { IsLaidOut checked.now.map (F.chip flash.old) }
+    requires images { checked.now.identity.images ≡ checked.now.map.images }
+    requires opens { is_piece call.now ≡ false
+        → AllOpenAt (view checked.now.map (F.chip flash.old)) uploads.old.sessions }
+    requires trial { IsTrial checked.now.boots }
+    requires on { (F.chip flash.old).is_on ≡ true }
+    ensures { MakesCall checked.now.map checked.now.identity checked.now.boots call.now
+        (seen (F.chip flash.old) uploads.old.sessions is_booted.old)
+        (seen (F.chip flash.new) uploads.new.sessions is_booted.new) reply.new }
+{
+    let map = &checked.map;
     match call {
-        DeviceCall::Accept(manifest) => answer(accept_manifest(
-            flash, map, identity, uploads, is_booted, manifest,
-        )),
+        DeviceCall::Accept(manifest) => put_answer(
+            reply,
+            accept_manifest(flash, map, &checked.identity, uploads, is_booted, manifest),
+        ),
         DeviceCall::Piece(image, more) => {
-            answer(piece(flash, map, uploads, is_booted, *image, more))
+            put_answer(reply, piece(flash, map, uploads, is_booted, *image, more));
         }
-        DeviceCall::Finish(image) => answer(finish(flash, map, uploads, is_booted, *image)),
-        DeviceCall::Withdraw(image) => answer(withdraw(flash, map, uploads, is_booted, *image)),
-        DeviceCall::Confirm(image) => answer(confirm_on(flash, map, uploads, is_booted, *image)),
-        DeviceCall::Boot => match boot_device(flash, map, uploads, is_booted, boots - 1) {
-            Ok(reply) => reply,
-            Err(fault) => reply_of(fault),
-        },
+        DeviceCall::Finish(image) => {
+            put_answer(reply, finish(flash, map, uploads, is_booted, *image));
+        }
+        DeviceCall::Withdraw(image) => {
+            put_answer(reply, withdraw(flash, map, uploads, is_booted, *image));
+        }
+        DeviceCall::Confirm(image) => {
+            put_answer(reply, confirm_on(flash, map, uploads, is_booted, *image));
+        }
+        DeviceCall::Boot => boot_into(flash, map, uploads, is_booted, checked.boots, reply),
     }
 }

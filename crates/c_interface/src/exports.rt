@@ -5,7 +5,7 @@ ghost use Rattle.c_interface.specs.Lifecycle.{IsBoot};
 ghost use Rattle.c_interface.specs.SavedState.{IsNotBooted};
 ghost use Rattle.c_interface.specs.declared.dispatch.DeviceCall.TheVariants as call;
 
-use crate::borrowed::{CallOutcome, call_device};
+use crate::borrowed::call_device;
 use crate::call_result::{CallResult, NO_RESULT, number_of, result_of};
 use crate::cuts::CutRow;
 use crate::dispatch::DeviceCall;
@@ -13,6 +13,7 @@ use crate::numbers::TOO_MANY;
 use crate::saved_state::{NOT_BOOTED, SavedState};
 use crate::setup::Setup;
 use crate::texts::{NO_TEXTS, put_texts};
+use machine::Reply;
 use manifest::{ManifestRow, manifest_in};
 
 /// Makes a call on the device of a setup, reports its outcome, and returns the number of its reply.
@@ -27,9 +28,9 @@ fn call_and_report(
     ensures { Answers setup.now cuts.now asked.now flash.old saved.old flash.new saved.new
         call_result.new no_more result }
 {
-    match call_device(setup, flash, saved, cuts, asked) {
-        Ok(outcome) => {
-            let CallOutcome { reply, writes } = outcome;
+    let mut reply = Reply::Done;
+    match call_device(setup, flash, saved, cuts, asked, &mut reply) {
+        Ok(writes) => {
             *call_result = result_of(&reply, writes, NO_TEXTS);
             number_of(&reply)
         }
@@ -60,9 +61,9 @@ pub extern "C" fn bootswap_boot(
         call_result.new (HasTexts call_result.new.table_length call_result.new.report_length
         table.old table.new report.old report.new) result }
 {
-    match call_device(setup, flash, saved, cuts, &DeviceCall::Boot) {
-        Ok(outcome) => {
-            let CallOutcome { reply, writes } = outcome;
+    let mut reply = Reply::Done;
+    match call_device(setup, flash, saved, cuts, &DeviceCall::Boot, &mut reply) {
+        Ok(writes) => {
             let lengths = put_texts(&reply, table, report);
             *call_result = result_of(&reply, writes, lengths);
             number_of(&reply)

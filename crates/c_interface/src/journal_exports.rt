@@ -11,10 +11,11 @@ ghost use Rattle.c_interface.specs.declared.dispatch.DeviceCall.TheVariants as c
 use crate::call_result::{CallResult, NO_RESULT, number_of, recorded_result_of};
 use crate::dispatch::DeviceCall;
 use crate::numbers::TOO_MANY;
-use crate::recording::{RecordedOutcome, record_device, record_provision};
+use crate::recording::{RecordedWrites, record_device, record_provision};
 use crate::saved_state::SavedState;
 use crate::setup::Setup;
 use crate::texts::{NO_TEXTS, put_texts};
+use machine::Reply;
 use manifest::{ManifestRow, manifest_in};
 
 /// Makes a call on the device of a setup, records its writes, reports its outcome, and returns the
@@ -30,13 +31,10 @@ fn record_and_report(
     ensures { AnswersRecorded setup.now asked.now flash.old saved.old flash.new saved.new
         journal.old journal.new call_result.new no_more result }
 {
-    match record_device(setup, flash, journal, saved, asked) {
+    let mut reply = Reply::Done;
+    match record_device(setup, flash, journal, saved, asked, &mut reply) {
         Ok(outcome) => {
-            let RecordedOutcome {
-                reply,
-                writes,
-                used,
-            } = outcome;
+            let RecordedWrites { writes, used } = outcome;
             *call_result = recorded_result_of(&reply, writes, used, NO_TEXTS);
             number_of(&reply)
         }
@@ -63,13 +61,10 @@ pub extern "C" fn bootswap_journal_provision(
     ensures all { AnswersProvisionRecorded setup.now flash.old flash.new journal.old journal.new
         call_result.new result }
 {
-    match record_provision(setup, flash, journal) {
+    let mut reply = Reply::Done;
+    match record_provision(setup, flash, journal, &mut reply) {
         Ok(outcome) => {
-            let RecordedOutcome {
-                reply,
-                writes,
-                used,
-            } = outcome;
+            let RecordedWrites { writes, used } = outcome;
             *call_result = recorded_result_of(&reply, writes, used, NO_TEXTS);
             number_of(&reply)
         }
@@ -100,13 +95,10 @@ pub extern "C" fn bootswap_journal_boot(
         journal.old journal.new call_result.new (HasTexts call_result.new.table_length
         call_result.new.report_length table.old table.new report.old report.new) result }
 {
-    match record_device(setup, flash, journal, saved, &DeviceCall::Boot) {
+    let mut reply = Reply::Done;
+    match record_device(setup, flash, journal, saved, &DeviceCall::Boot, &mut reply) {
         Ok(outcome) => {
-            let RecordedOutcome {
-                reply,
-                writes,
-                used,
-            } = outcome;
+            let RecordedWrites { writes, used } = outcome;
             let lengths = put_texts(&reply, table, report);
             *call_result = recorded_result_of(&reply, writes, used, lengths);
             number_of(&reply)

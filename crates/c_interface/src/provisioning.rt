@@ -9,10 +9,10 @@ ghost use Rattle.c_interface.specs.Setup.{HasRoom};
 
 use crate::call_result::{CallResult, NO_RESULT, number_of, result_of};
 use crate::cuts::{CutRow, MOST_CUTS, table_of};
+use crate::dispatch::put_answer;
 use crate::numbers::TOO_MANY;
 use crate::setup::{Setup, check_setup};
 use crate::texts::NO_TEXTS;
-use boot_core::apart::answer;
 use boot_core::provision;
 use machine::Reply;
 use sector_map::SectorMap;
@@ -20,24 +20,24 @@ use slice_flash::{ArmedCut, SliceFlash};
 use std::marker::Brand;
 use std::sync::ledger::{Blank, Ledger};
 
-/// Provisions bytes as the flash of a device of this map, and counts the writes that it began.
+/// Provisions bytes as the flash of a device of this map, writes the reply, and returns the number
+/// of writes that it began.
 fn provision_on<L: Ledger>(
     blank: Blank,
     map: &SectorMap,
     bytes: &mut [u8],
     table: &[ArmedCut<'_>],
-    writes: &mut u64,
-) -> Reply
+    reply: &mut Reply,
+) -> u64
     requires name { blank.name ≡ L.name }
     requires parts { blank.parts ≡ L.parts }
     requires two { L.parts ≡ 2 }
     requires room { HasRoom map.now bytes.old }
-    ensures { ProvisionsOn map.now (fixed_by table.now [] 0) bytes.old bytes.new result writes.new }
+    ensures { ProvisionsOn map.now (fixed_by table.now [] 0) bytes.old bytes.new reply.new result }
 {
     let mut flash = SliceFlash::<L>::new(blank, bytes, map.sector_size, table);
-    let reply = answer(provision(&mut flash, map));
-    *writes = flash.writes();
-    reply
+    put_answer(reply, provision(&mut flash, map));
+    flash.writes()
 }
 
 /// Provisions bytes as the flash of a device. The images at the front of the primary slots run,
@@ -69,9 +69,9 @@ pub extern "C" fn bootswap_provision(
         return TOO_MANY;
     }
     let table = table_of(cuts);
-    let mut writes = 0;
+    let mut reply = Reply::Done;
     let rows = &table[..cuts.len()];
-    let reply = provision_on::<Brand>(Blank::new(2), &checked.map, flash, rows, &mut writes);
+    let writes = provision_on::<Brand>(Blank::new(2), &checked.map, flash, rows, &mut reply);
     *call_result = result_of(&reply, writes, NO_TEXTS);
     number_of(&reply)
 }

@@ -6,10 +6,9 @@ ghost use Rattle.c_interface.specs.Recording.{StepsRecorded};
 ghost use Rattle.c_interface.specs.Setup.{HasRoom, IsRefusedSetup, IsTrial};
 
 use crate::borrowed::resume_and_run;
-use crate::dispatch::DeviceCall;
+use crate::dispatch::{DeviceCall, put_answer};
 use crate::saved_state::SavedState;
 use crate::setup::{CheckedSetup, Setup, check_setup};
-use boot_core::apart::answer;
 use boot_core::provision;
 use machine::Reply;
 use sector_map::SectorMap;
@@ -17,16 +16,15 @@ use slice_flash::JournalFlash;
 use std::marker::Brand;
 use std::sync::ledger::{Blank, Ledger};
 
-/// How a call with a journal ended: the device's reply, the number of writes that it made, and the
-/// number of the journal's bytes that record them.
+/// The number of writes that a call with a journal made, and the number of the journal's bytes that
+/// record them.
 #[derive(Drop)]
-pub(crate) struct RecordedOutcome {
-    pub(crate) reply: Reply,
+pub(crate) struct RecordedWrites {
     pub(crate) writes: u64,
     pub(crate) used: u64,
 }
 
-/// Runs a call on the flash of these bytes, and records its writes.
+/// Runs a call on the flash of these bytes, records its writes, and writes the reply.
 fn run_recorded<L: Ledger>(
     blank: Blank,
     checked: &CheckedSetup,
@@ -34,7 +32,8 @@ fn run_recorded<L: Ledger>(
     journal: &mut [u8],
     saved: &mut SavedState,
     call: &DeviceCall<'_>,
-) -> RecordedOutcome
+    reply: &mut Reply,
+) -> RecordedWrites
     requires name { blank.name ≡ L.name }
     requires parts { blank.parts ≡ L.parts }
     requires three { L.parts ≡ 3 }
@@ -42,20 +41,17 @@ fn run_recorded<L: Ledger>(
     requires images { checked.now.identity.images ≡ checked.now.map.images }
     requires trial { IsTrial checked.now.boots }
     ensures { StepsRecorded checked.now call.now bytes.old saved.old bytes.new saved.new journal.old
-        journal.new result.reply result.writes result.used }
+        journal.new reply.new result.writes result.used }
 {
     let mut flash = JournalFlash::<L>::new(blank, bytes, checked.map.sector_size, journal);
-    let reply = resume_and_run(&mut flash, checked, saved, call);
+    resume_and_run(&mut flash, checked, saved, call, reply);
     let writes = flash.writes();
     let used = flash.used() as u64;
-    RecordedOutcome {
-        reply,
-        writes,
-        used,
-    }
+    RecordedWrites { writes, used }
 }
 
-/// Checks the setup, then makes a call on the device in these bytes, and records its writes.
+/// Checks the setup, makes a call on the device in these bytes, records its writes, and writes the
+/// reply.
 ///
 /// # Errors
 /// The number to return. Nothing has changed then.
@@ -65,9 +61,10 @@ pub(crate) fn record_device(
     journal: &mut [u8],
     saved: &mut SavedState,
     call: &DeviceCall<'_>,
-) -> Result<RecordedOutcome, u32>
+    reply: &mut Reply,
+) -> Result<RecordedWrites, u32>
     ensures outcome { IfOk result (λ outcome. RecordsOn setup.now call.now bytes.old saved.old
-        bytes.new saved.new journal.old journal.new outcome.reply outcome.writes outcome.used) }
+        bytes.new saved.new journal.old journal.new reply.new outcome.writes outcome.used) }
     ensures refused { IfErr result (λ number. IsRefusedSetup setup.now bytes.old number
         × (bytes.new ≡ bytes.old) × (saved.new ≡ saved.old) × (journal.new ≡ journal.old)) }
 {
@@ -79,37 +76,35 @@ pub(crate) fn record_device(
             journal,
             saved,
             call,
+            reply,
         )),
         Err(number) => Err(number),
     }
 }
 
-/// Provisions bytes as the flash of a device of this map, and records the writes.
+/// Provisions bytes as the flash of a device of this map, records the writes, and writes the reply.
 fn provision_recorded<L: Ledger>(
     blank: Blank,
     map: &SectorMap,
     bytes: &mut [u8],
     journal: &mut [u8],
-) -> RecordedOutcome
+    reply: &mut Reply,
+) -> RecordedWrites
     requires name { blank.name ≡ L.name }
     requires parts { blank.parts ≡ L.parts }
     requires three { L.parts ≡ 3 }
     requires room { HasRoom map.now bytes.old }
-    ensures { ProvisionsRecorded map.now bytes.old bytes.new journal.old journal.new result.reply
+    ensures { ProvisionsRecorded map.now bytes.old bytes.new journal.old journal.new reply.new
         result.writes result.used }
 {
     let mut flash = JournalFlash::<L>::new(blank, bytes, map.sector_size, journal);
-    let reply = answer(provision(&mut flash, map));
+    put_answer(reply, provision(&mut flash, map));
     let writes = flash.writes();
     let used = flash.used() as u64;
-    RecordedOutcome {
-        reply,
-        writes,
-        used,
-    }
+    RecordedWrites { writes, used }
 }
 
-/// Checks the setup, then provisions these bytes, and records the writes.
+/// Checks the setup, provisions these bytes, records the writes, and writes the reply.
 ///
 /// # Errors
 /// The number to return. Nothing has changed then.
@@ -117,14 +112,21 @@ pub(crate) fn record_provision(
     setup: &Setup,
     bytes: &mut [u8],
     journal: &mut [u8],
-) -> Result<RecordedOutcome, u32>
+    reply: &mut Reply,
+) -> Result<RecordedWrites, u32>
     ensures outcome { IfOk result (λ outcome. ProvisionsOf setup.now bytes.old bytes.new journal.old
-        journal.new outcome.reply outcome.writes outcome.used) }
+        journal.new reply.new outcome.writes outcome.used) }
     ensures refused { IfErr result (λ number. IsRefusedSetup setup.now bytes.old number
         × (bytes.new ≡ bytes.old) × (journal.new ≡ journal.old)) }
 {
     match check_setup(setup, bytes) {
-        Ok(checked) => Ok(provision_recorded::<Brand>(Blank::new(3), &checked.map, bytes, journal)),
+        Ok(checked) => Ok(provision_recorded::<Brand>(
+            Blank::new(3),
+            &checked.map,
+            bytes,
+            journal,
+            reply,
+        )),
         Err(number) => Err(number),
     }
 }

@@ -25,7 +25,7 @@ returns-clause-outcome c = record {
   is_checked = c.in-Ok.ensures.checked;
   few = omega (arith, c.if-cuts-gt-MOST_CUTS.false);
   steps = subst (λ (asked : Fixed). StepsOn c.in-Ok.checked asked c.args.call.now c.args.bytes.now c.args.saved.now
-      c.run_over_bytes.new.bytes c.run_over_bytes.new.saved c.run_over_bytes.result.reply c.run_over_bytes.result.writes)
+      c.run_over_bytes.new.bytes c.run_over_bytes.new.saved c.run_over_bytes.new.reply c.run_over_bytes.result)
       (same_asked c.args.cuts.now c.table_of-table.result c.table_of-table.ensures
       (omega (arith, c.if-cuts-gt-MOST_CUTS.false, c.table_of-table.type_inv))) c.run_over_bytes.ensures;
 }

@@ -1,8 +1,7 @@
-use Rattle.std.proofs.Common.{sym, ◌∙◌, ap}
-use Rattle.boot_core.specs.Answers.{reply_of_boot}
-use Rattle.c_interface.specs.declared.dispatch.DeviceCall.TheVariants.{Accept, Piece, Finish, Withdraw, Confirm}
+use Rattle.std.proofs.Common.{ap}
+use Rattle.c_interface.specs.declared.dispatch.DeviceCall.TheVariants.{Accept, Piece, Finish, Withdraw, Confirm, Boot}
 use Rattle.c_interface.specs.SavedState.{is_piece}
-use Rattle.c_interface.proofs.StepLaws.{makes, makes_boot}
+use Rattle.c_interface.proofs.StepLaws.{makes}
 use Rattle.c_interface.proofs.dispatch.dispatch.Goals as goal
 
 pub accept_manifest-requires-clause-opens : goal.accept_manifest-requires-clause-opens
@@ -19,30 +18,23 @@ confirm_on-requires-clause-opens g c = c.requires.opens (ap is_piece c.in-Confir
 
 pub returns-in-Accept : goal.returns-in-Accept
 returns-in-Accept g c = makes _ _ _ _ (Accept c.in-Accept.manifest) _ _ _ c.in-Accept.is c.requires.on
-    (c.accept_manifest.result, c.answer.ensures, c.accept_manifest.ensures)
+    (c.accept_manifest.result, c.put_answer.ensures, c.accept_manifest.ensures)
 
 pub returns-in-Piece : goal.returns-in-Piece
 returns-in-Piece g c = makes _ _ _ _ (Piece c.in-Piece.image c.in-Piece.more) _ _ _ c.in-Piece.is c.requires.on
-    (c.piece.result, c.answer-in-Piece.ensures, c.piece.ensures)
+    (c.piece.result, c.put_answer-in-Piece.ensures, c.piece.ensures)
 
 pub returns-in-Finish : goal.returns-in-Finish
 returns-in-Finish g c = makes _ _ _ _ (Finish c.in-Finish.image) _ _ _ c.in-Finish.is c.requires.on
-    (c.finish.result, c.answer-in-Finish.ensures, c.finish.ensures)
+    (c.finish.result, c.put_answer-in-Finish.ensures, c.finish.ensures)
 
 pub returns-in-Withdraw : goal.returns-in-Withdraw
 returns-in-Withdraw g c = makes _ _ _ _ (Withdraw c.in-Withdraw.image) _ _ _ c.in-Withdraw.is c.requires.on
-    (c.withdraw.result, c.answer-in-Withdraw.ensures, c.withdraw.ensures)
+    (c.withdraw.result, c.put_answer-in-Withdraw.ensures, c.withdraw.ensures)
 
 pub returns-in-Confirm : goal.returns-in-Confirm
 returns-in-Confirm g c = makes _ _ _ _ (Confirm c.in-Confirm.image) _ _ _ c.in-Confirm.is c.requires.on
-    (c.confirm_on.result, c.answer-in-Confirm.ensures, c.confirm_on.ensures)
+    (c.confirm_on.result, c.put_answer-in-Confirm.ensures, c.confirm_on.ensures)
 
-pub returns-in-Ok : goal.returns-in-Ok
-returns-in-Ok g c = makes_boot c.args.map.now c.args.identity.now c.args.boots c.args.call.now _ _ c.in-Ok.reply
-    c.boot_device.result c.requires.trial.some c.in-Boot.is (sym (ap reply_of_boot c.in-Ok.is)) c.requires.on
-    c.boot_device.ensures
-
-pub returns-in-Err : goal.returns-in-Err
-returns-in-Err g c = makes_boot c.args.map.now c.args.identity.now c.args.boots c.args.call.now _ _ c.reply_of.result
-    c.boot_device.result c.requires.trial.some c.in-Boot.is (c.reply_of.ensures ∙ sym (ap reply_of_boot c.in-Err.is))
-    c.requires.on c.boot_device.ensures
+pub returns-in-Boot : goal.returns-in-Boot
+returns-in-Boot g c = makes _ _ _ _ Boot _ _ _ c.in-Boot.is c.requires.on c.boot_into.ensures

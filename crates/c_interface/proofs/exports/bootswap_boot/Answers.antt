@@ -7,11 +7,11 @@ use Rattle.c_interface.proofs.TextLengths.{texts_of_result}
 use Rattle.c_interface.proofs.exports.bootswap_boot.Goals as goal
 
 pub returns-in-Ok-clause-all : goal.returns-in-Ok-clause-all
-returns-in-Ok-clause-all c = Replied c.in-Ok.outcome.reply
+returns-in-Ok-clause-all c = Replied c.call_device.new.reply
     (subst (λ n. CallsOn c.args.setup.now c.args.cuts.now Boot c.args.flash.now c.args.saved.now
-    c.call_device.new.bytes c.call_device.new.saved c.in-Ok.outcome.reply n) (sym c.result_of.ensures.writes) c.in-Ok.ensures.outcome)
+    c.call_device.new.bytes c.call_device.new.saved c.call_device.new.reply n) (sym c.result_of.ensures.writes) c.in-Ok.ensures.outcome)
     c.result_of.ensures.fields c.result_of.ensures.journal
-    (texts_of_result c.in-Ok.outcome.reply c.put_texts-lengths.result.table c.put_texts-lengths.result.report _ _ _ _
+    (texts_of_result c.call_device.new.reply c.put_texts-lengths.result.table c.put_texts-lengths.result.report _ _ _ _
     c.result_of.result
     c.result_of.ensures.lengths c.put_texts-lengths.ensures) c.number_of.ensures
 

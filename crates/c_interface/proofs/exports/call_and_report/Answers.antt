@@ -4,9 +4,9 @@ use Rattle.c_interface.specs.Calls.{CallsOn}
 use Rattle.c_interface.proofs.exports.call_and_report.Goals as goal
 
 pub returns-in-Ok : goal.returns-in-Ok
-returns-in-Ok c = Replied c.in-Ok.outcome.reply
+returns-in-Ok c = Replied c.call_device.new.reply
     (subst (λ n. CallsOn c.args.setup.now c.args.cuts.now c.args.asked.now c.args.flash.now c.args.saved.now
-    c.call_device.new.bytes c.call_device.new.saved c.in-Ok.outcome.reply n) (sym c.result_of.ensures.writes) c.in-Ok.ensures.outcome)
+    c.call_device.new.bytes c.call_device.new.saved c.call_device.new.reply n) (sym c.result_of.ensures.writes) c.in-Ok.ensures.outcome)
     c.result_of.ensures.fields c.result_of.ensures.journal tt c.number_of.ensures
 
 pub returns-in-Err : goal.returns-in-Err

@@ -8,12 +8,12 @@ use Rattle.c_interface.proofs.journal_exports.bootswap_journal_boot.Goals as goa
 pub returns-in-Ok-clause-all : goal.returns-in-Ok-clause-all
 returns-in-Ok-clause-all c =
     let on = λ (n u : ℕ). RecordsOn c.args.setup.now Boot c.args.flash.now c.args.saved.now
-    c.record_device.new.bytes c.record_device.new.saved c.args.journal.now c.record_device.new.journal c.in-Ok.outcome.reply n u in
-    Replied c.in-Ok.outcome.reply
+    c.record_device.new.bytes c.record_device.new.saved c.args.journal.now c.record_device.new.journal c.record_device.new.reply n u in
+    Replied c.record_device.new.reply
     (subst (λ n. on n c.recorded_result_of.result.journal_length) (sym c.recorded_result_of.ensures.writes)
     (subst (λ u. on c.in-Ok.outcome.writes u) (sym c.recorded_result_of.ensures.journal) c.in-Ok.ensures.outcome))
     c.recorded_result_of.ensures.fields
-    (texts_of_result c.in-Ok.outcome.reply c.put_texts-lengths.result.table c.put_texts-lengths.result.report _ _ _ _
+    (texts_of_result c.record_device.new.reply c.put_texts-lengths.result.table c.put_texts-lengths.result.report _ _ _ _
     c.recorded_result_of.result c.recorded_result_of.ensures.lengths c.put_texts-lengths.ensures) c.number_of.ensures
 
 pub returns-in-Err-clause-all : goal.returns-in-Err-clause-all

@@ -6,8 +6,8 @@ use Rattle.c_interface.proofs.journal_exports.bootswap_journal_provision.Goals a
 pub returns-in-Ok-clause-all : goal.returns-in-Ok-clause-all
 returns-in-Ok-clause-all c =
     let on = λ (n u : ℕ). ProvisionsOf c.args.setup.now c.args.flash.now c.record_provision.new.bytes c.args.journal.now
-    c.record_provision.new.journal c.in-Ok.outcome.reply n u in
-    Provisioned c.in-Ok.outcome.reply
+    c.record_provision.new.journal c.record_provision.new.reply n u in
+    Provisioned c.record_provision.new.reply
     (subst (λ n. on n c.recorded_result_of.result.journal_length) (sym c.recorded_result_of.ensures.writes)
     (subst (λ u. on c.in-Ok.outcome.writes u) (sym c.recorded_result_of.ensures.journal) c.in-Ok.ensures.outcome))
     c.recorded_result_of.ensures.fields c.number_of.ensures

@@ -5,8 +5,8 @@ use Rattle.c_interface.proofs.journal_exports.record_and_report.Goals as goal
 pub returns-in-Ok : goal.returns-in-Ok
 returns-in-Ok c =
     let on = λ (n u : ℕ). RecordsOn c.args.setup.now c.args.asked.now c.args.flash.now c.args.saved.now
-    c.record_device.new.bytes c.record_device.new.saved c.args.journal.now c.record_device.new.journal c.in-Ok.outcome.reply n u in
-    Replied c.in-Ok.outcome.reply
+    c.record_device.new.bytes c.record_device.new.saved c.args.journal.now c.record_device.new.journal c.record_device.new.reply n u in
+    Replied c.record_device.new.reply
     (subst (λ n. on n c.recorded_result_of.result.journal_length) (sym c.recorded_result_of.ensures.writes)
     (subst (λ u. on c.in-Ok.outcome.writes u) (sym c.recorded_result_of.ensures.journal) c.in-Ok.ensures.outcome))
     c.recorded_result_of.ensures.fields tt c.number_of.ensures

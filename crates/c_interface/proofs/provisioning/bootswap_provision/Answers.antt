@@ -26,11 +26,11 @@ returns-clause-all c =
     let same : asked ≡ asked_by c.args.cuts.now =
     same_asked c.args.cuts.now c.table_of-table.result c.table_of-table.ensures
     (omega (arith, c.if-cuts-gt-MOST_CUTS.false, c.table_of-table.type_inv)) in
-    Replied c.in-Ok.checked c.provision_on-reply.result c.in-Ok.ensures.checked few
-    (subst (λ (these : Fixed). ProvisionsOn c.in-Ok.checked.map these c.args.flash.now c.provision_on-reply.new.bytes
-    c.provision_on-reply.result c.result_of.result.writes) same
-    (subst (λ n. ProvisionsOn c.in-Ok.checked.map asked c.args.flash.now c.provision_on-reply.new.bytes
-    c.provision_on-reply.result n) (sym c.result_of.ensures.writes) c.provision_on-reply.ensures))
+    Replied c.in-Ok.checked c.provision_on-writes.new.reply c.in-Ok.ensures.checked few
+    (subst (λ (these : Fixed). ProvisionsOn c.in-Ok.checked.map these c.args.flash.now c.provision_on-writes.new.bytes
+    c.provision_on-writes.new.reply c.result_of.result.writes) same
+    (subst (λ n. ProvisionsOn c.in-Ok.checked.map asked c.args.flash.now c.provision_on-writes.new.bytes
+    c.provision_on-writes.new.reply n) (sym c.result_of.ensures.writes) c.provision_on-writes.ensures))
     c.result_of.ensures.fields c.result_of.ensures.journal c.number_of.ensures
 
 pub returns-in-Err-clause-first : goal.returns-in-Err-clause-first

@@ -25,18 +25,18 @@ returns g c =
     let r = recording_of c.provision.new.flash in
     let chip = ap (λ (r : Recording). r.chip) c.new-flash.ensures in
     let fixed : r.chip.fixed ≡ fixed_over bytes _ journal _ = all.outside.fixed ∙ ap (λ (c : Chip). c.fixed) chip in
-    let cuts = cuts_provided map first r.chip c.provision.result c.answer-reply.result all c.answer-reply.ensures in
+    let cuts = cuts_provided map first r.chip c.provision.result c.put_answer.new.reply all c.put_answer.ensures in
     let cut = cut_if_short r map.sector_size bytes r.chip.bytes journal r.journal _ _ _ _ c.used-used.ensures.kept
-    all.laid.sector_size fixed refl refl c.writes-writes.ensures c.used-used.ensures.used first c.answer-reply.result
+    all.laid.sector_size fixed refl refl c.writes-writes.ensures c.used-used.ensures.used first c.put_answer.new.reply
     (ap (λ (c : Chip). c.journaled) chip) (ap (λ (c : Chip). c.cuts) chip) refl cuts
-    (dark_provided map first r.chip c.provision.result c.answer-reply.result all c.answer-reply.ensures) in
+    (dark_provided map first r.chip c.provision.result c.put_answer.new.reply all c.put_answer.ensures) in
     record {
       first = first;
       last = r.chip;
-      between = provisions_between map bytes _ first r.chip c.provision.result c.answer-reply.result
-          (borrowed_flash map bytes first _ map.is_map c.requires.room chip) (search rules) all c.answer-reply.ensures;
+      between = provisions_between map bytes _ first r.chip c.provision.result c.put_answer.new.reply
+          (borrowed_flash map bytes first _ map.is_map c.requires.room chip) (search rules) all c.put_answer.ensures;
       journal = journal_of r map.sector_size bytes _ journal _ _ _ _ _ c.used-used.ensures.kept all.laid.sector_size fixed
           (search rules) (search rules) c.writes-writes.ensures c.used-used.ensures.used;
-      cut = cut_over map.sector_size r.chip.bytes _ _ _ first r.chip c.answer-reply.result (search rules) cut;
-      enough = enough_to_provision c.answer-reply.result _ _ _ _ _ first r.chip cut all.journal;
+      cut = cut_over map.sector_size r.chip.bytes _ _ _ first r.chip c.put_answer.new.reply (search rules) cut;
+      enough = enough_to_provision c.put_answer.new.reply _ _ _ _ _ first r.chip cut all.journal;
     }
