@@ -312,7 +312,8 @@ fn fault_result(fault: Fault, writes: u64) -> CallResult
     }
 }
 
-/// The result of a call with this reply and no journal. The lengths of texts count only for a boot that decided.
+/// The result of a call with this reply and no journal. The lengths of texts count only for a boot
+/// that decided.
 pub(crate) fn result_of(reply: &Reply, writes: u64, lengths: Lengths) -> CallResult
     ensures fields { IsResultOf reply.now result }
     ensures writes { result.writes ≡ writes }

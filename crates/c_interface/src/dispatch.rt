@@ -79,8 +79,8 @@ fn boot_into<F: Flash>(
     }
 }
 
-/// Passes a call to the function of `boot_core` that carries it out, and writes the reply. The flash
-/// has power.
+/// Passes a call to the function of `boot_core` that carries it out, and writes the reply. The
+/// flash has power.
 pub(crate) fn dispatch<F: Flash>(
     flash: &mut F,
     checked: &CheckedSetup,

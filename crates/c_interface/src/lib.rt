@@ -19,10 +19,10 @@
 //!
 //! The state of a device between two calls is in the caller's memory too. The next call reads what
 //! the last one wrote there. Bytes that aren't a valid state, or whose uploads don't match the
-//! flash, are a device that isn't booted. A piece doesn't check that its uploads match, so an upload
-//! may come in many pieces. A flash at rest holds the same state after a piece, even if they don't
-//! match. The next call of another kind finds that. Each call returns, on any contents. The caller
-//! guarantees the lengths, and that a buffer that is written overlaps no other.
+//! flash, are a device that isn't booted. A piece doesn't check that its uploads match, so an
+//! upload may come in many pieces. A flash at rest holds the same state after a piece, even if they
+//! don't match. The next call of another kind finds that. Each call returns, on any contents. The
+//! caller guarantees the lengths, and that a buffer that is written overlaps no other.
 //!
 //! The flash is bytes in memory: this library doesn't call a flash driver in C. The calls with a
 //! journal record each of their writes there, so that their caller can make the same writes on a
