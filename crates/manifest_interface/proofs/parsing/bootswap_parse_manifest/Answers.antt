@@ -1,6 +1,7 @@
-use Rattle.std.proofs.Common.{◌≡◌, ◌∙◌, Err, inl, inr, refl, sym, ap, subst}
+use Rattle.std.proofs.Common.{◌≡◌, ◌⊎◌, ◌∙◌, ℕ, Result, Err, inl, inr, refl, sym, ap, subst}
 use Rattle.manifest.specs.Codes.{code_of}
 use Rattle.manifest.specs.Fault.{IsManifest, IsRefusal}
+use Rattle.manifest.specs.declared.error.ManifestError.{ManifestError}
 use Rattle.manifest.specs.declared.error.ManifestError.TheVariants.{NoMemory}
 use Rattle.manifest.specs.declared.identity.Identity.{Identity}
 use Rattle.manifest.specs.declared.manifest.Manifest.{Manifest}
@@ -8,6 +9,17 @@ use Rattle.manifest.specs.Rows.{IsRowOf}
 use Rattle.manifest_interface.specs.Parsing.{Read, Refused, OutOfMemory}
 use Rattle.manifest_interface.proofs.MemoryFaults.{cases_NoMemory}
 use Rattle.manifest_interface.proofs.parsing.bootswap_parse_manifest.Goals as goal
+
+-- A call that fails with one of two refusals returns the number of one of them.
+numbered : {T : Type 0} (error first second : ManifestError) (number : ℕ) → number ≡ code_of error
+    → ◌≡◌ {A = Result T ManifestError} (Err error) (Err first) ⊎ ◌≡◌ {A = Result T ManifestError} (Err error) (Err second)
+    → (number ≡ code_of first) ⊎ (number ≡ code_of second)
+numbered error first second number is (inl same) =
+    let one : error ≡ first = cc in
+    inl (is ∙ ap code_of one)
+numbered error first second number is (inr same) =
+    let one : error ≡ second = cc in
+    inr (is ∙ ap code_of one)
 
 pub returns-in-Ok-clause-all : goal.returns-in-Ok-clause-all
 returns-in-Ok-clause-all c =
@@ -55,11 +67,4 @@ returns-in-Err-clause-read c = λ other is.
 pub returns-in-Err-clause-refused : goal.returns-in-Err-clause-refused
 returns-in-Err-clause-refused c = λ fault is.
     let refused = c.in-Err.ensures.refused fault (subst (λ (given : Identity). IsRefusal given c.args.text.now fault) (sym c.identity_in.ensures) is) in
-    elim refused [
-      | inl same ↦
-          let error : c.in-Err.error ≡ fault = cc in
-          inl (c.from.ensures ∙ c.code.ensures ∙ ap code_of error)
-      | inr failed ↦
-          let error : c.in-Err.error ≡ NoMemory = cc in
-          inr (c.from.ensures ∙ c.code.ensures ∙ ap code_of error)
-    ]
+    numbered c.in-Err.error fault NoMemory _ (c.from.ensures ∙ c.code.ensures) refused
