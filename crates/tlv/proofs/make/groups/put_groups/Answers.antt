@@ -1,6 +1,5 @@
-use Rattle.tlv.specs.Writing.{puts_both}
 use Rattle.tlv.proofs.GroupSteps.{alternatives_at, groups_fit_more, groups_more}
-use Rattle.tlv.proofs.MakingSteps.{puts_same}
+use Rattle.tlv.proofs.MakingSteps.{puts_more}
 use Rattle.tlv.proofs.make.groups.put_groups.Goals as goal
 
 pub put_group-end-requires : goal.put_group-end-requires
@@ -12,8 +11,7 @@ pub loop-alternatives-preserved : goal.loop-alternatives-preserved
 loop-alternatives-preserved c =
     let i = c.loop-alternatives.alternatives-index in
     record {
-      written = puts_same _ _
-          (puts_both _ _ _ _ _ _ _ _ c.loop-alternatives.invariant.written c.put_group-end.ensures.entry)
+      written = puts_more c.loop-alternatives.invariant.written c.put_group-end.ensures.entry
           (groups_more c.args.groups.now i _ c.loop-alternatives-test.true);
       fit = groups_fit_more c.args.groups.now i _ c.loop-alternatives-test.true c.requires
           c.loop-alternatives.invariant.fit c.put_group-end.ensures.fit;
