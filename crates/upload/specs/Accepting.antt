@@ -77,7 +77,7 @@ pub record WritesManifest (map : SectorMap) (state : State) (sequence : ℕ) (cs
   pub journal : new.journaled ≤ old.journaled + (120 + journal_of_components map cs)
   pub ends : Ends result old new
 
--- A call accepts a manifest if no check fails.
+-- A call accepts a manifest if no check fails, whatever becomes of the uploads if the flash fails.
 pub record TakesManifest (map : SectorMap) (manifest : Manifest) (told tnew : List (Option Upload))
     (old new : Chip) (result : Result Unit UploadError) : Type 0 where
   -- Only the log and the secondary slots and trailers of the listed images are written.
@@ -89,13 +89,13 @@ pub record TakesManifest (map : SectorMap) (manifest : Manifest) (told tnew : Li
   pub nothing : IfErr result (λ error. is_flash {T = Unit} (Err error) ≡ false → new ≡ old)
   -- If a check fails, the table of uploads doesn't change.
   pub stays : IfErr result (λ error. is_flash {T = Unit} (Err error) ≡ false → tnew ≡ told)
-  -- If the flash is off, that is the result.
+  -- If the flash is off, that is the result for any manifest.
   pub off : old.is_on ≡ false → IsErrOf result (Flash Off)
   -- An equal sequence number doesn't change the log.
   pub equal : (state : State) → state_of map old ≡ Some state
       → state.sequence ≡ manifest.sequence → part_of map new Log ≡ part_of map old Log
-  -- If the call succeeds, it erased once each sector that wasn't erased, besides the log's
-  -- (`ErasesWorn` counts both).
+  -- If the call succeeds, it erased once each sector of the listed slots and trailers that wasn't
+  -- erased, besides the log's (`ErasesWorn` counts both).
   pub erases : OnOk result ((state : State) → state_of map old ≡ Some state
       → ErasesWorn map old new state.sequence manifest.sequence manifest.components.items)
   -- If the number is equal and all listed slots and trailers are erased, nothing is written.
@@ -111,37 +111,14 @@ pub record TakesManifest (map : SectorMap) (manifest : Manifest) (told tnew : Li
 pub record AcceptsManifest (map : SectorMap) (manifest : Manifest)
     (told tnew : List (Option Upload)) (old new : Chip) (result : Result Unit UploadError)
     : Type 0 where
-  -- Only the log and the secondary slots and trailers of the listed images are written.
-  pub outside : Keeps map (accepted_parts manifest.components.items) old new
+  -- The manifest is accepted or refused.
+  pub taken : TakesManifest map manifest told tnew old new result
+  pub open taken use *
   -- If all uploads of the table matched the flash, they still do.
   pub all_open : AllOpenAt (view map old) told → AllOpenAt (view map new) tnew
-  -- On any flash: the result, and what the call leaves.
-  pub accepts : EndsAccept map (view map old) (view map new) told tnew
-      manifest.sequence manifest.components.items result
-  -- If a check fails, the flash doesn't change.
-  pub nothing : IfErr result (λ error. is_flash {T = Unit} (Err error) ≡ false → new ≡ old)
-  -- If a check fails, the table of uploads doesn't change.
-  pub stays : IfErr result (λ error. is_flash {T = Unit} (Err error) ≡ false → tnew ≡ told)
-  -- If the flash is off, that is the result for any manifest.
-  pub off : old.is_on ≡ false → IsErrOf result (Flash Off)
-  -- An equal sequence number doesn't change the log.
-  pub equal : (state : State) → state_of map old ≡ Some state
-      → state.sequence ≡ manifest.sequence → part_of map new Log ≡ part_of map old Log
-  -- If the number is equal and all listed slots and trailers are erased, nothing is written.
-  pub idle : (state : State) → state_of map old ≡ Some state
-      → state.sequence ≡ manifest.sequence → AreBlank map old manifest.components.items
-      → new ≡ old
-  -- If the call succeeds, it erased once each sector of the listed slots and trailers that wasn't
-  -- erased, besides the log's (`ErasesWorn` counts both).
-  pub erases : OnOk result ((state : State) → state_of map old ≡ Some state
-      → ErasesWorn map old new state.sequence manifest.sequence manifest.components.items)
   -- If the call fails at the flash, all uploads are closed.
   pub closed : is_flash result ≡ true → AllClosed tnew
   -- On a flash that holds a state, the call is the step of a machine that knows complete images.
   pub row : (m : Machine) → IsUpAt (view map old) told m
       → (next : Machine) × Accepts map m manifest.sequence manifest.components.items result next
       × IsUpAt (view map new) tnew next
-  -- It asks a journal for at most 120 bytes, and those that opening each slot takes.
-  pub journal : new.journaled ≤ old.journaled
-      + (120 + journal_of_components map manifest.components.items)
-  pub ends : EndsUpload result old new

@@ -9,17 +9,19 @@ returns g c =
     let cs = c.args.manifest.now.components.items in
     let taken = c.take_manifest-answer.ensures in
     record {
-      outside = taken.outside;
+      taken = record {
+        outside = taken.outside;
+        accepts = accept_ends map _ _ told _ _ sequence cs _ taken.accepts c.close_after.ensures;
+        nothing = taken.nothing;
+        stays = table_stays _ told _ _ taken.stays c.close_after.ensures;
+        off = taken.off;
+        equal = taken.equal;
+        erases = taken.erases;
+        idle = taken.idle;
+        journal = taken.journal;
+        ends = taken.ends;
+      };
       all_open = accept_open map _ _ told _ _ sequence cs c.requires.there _ taken.accepts c.close_after.ensures;
-      accepts = accept_ends map _ _ told _ _ sequence cs _ taken.accepts c.close_after.ensures;
-      nothing = taken.nothing;
-      stays = table_stays _ told _ _ taken.stays c.close_after.ensures;
-      off = taken.off;
-      equal = taken.equal;
-      idle = taken.idle;
-      erases = taken.erases;
       closed = c.close_after.ensures.closed;
       row = accept_row map _ _ told _ _ sequence cs c.requires.there _ taken.accepts c.close_after.ensures;
-      journal = taken.journal;
-      ends = taken.ends;
     }
