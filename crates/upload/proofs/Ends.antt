@@ -1,5 +1,5 @@
 -- How a call of uploads ends, from how the calls in it end.
-use Rattle.std.proofs.Common.{◌≡◌, ◌+◌, ◌↔◌, ℕ, arith, Bool, IsTrue, true, false, refl, Result, Ok, Err, sym, ◌∙◌, ap}
+use Rattle.std.proofs.Common.{◌≡◌, ◌+◌, ◌≤◌, ◌↔◌, ℕ, arith, Bool, IsTrue, true, false, refl, Result, Ok, Err, sym, ◌∙◌, ap}
 use Rattle.std.specs.Prelude.{IsErrAnd, IsErrOf}
 use Rattle.std.proofs.Common.{true≢false}
 use Rattle.flash_model.specs.Chip.{Chip, Ends, IsUncut}
@@ -41,6 +41,12 @@ ends_later result old mid new uncut asleep ends = record {
   cut = λ is. let at = ends.cut is in record { cuts = at.cuts ∙ ap (λ n. n + 1) uncut.cuts; off = at.off };
   off = λ is. sym uncut.on ∙ ends.off is;
 }
+
+-- What two calls ask a journal for, if the call between them only reads.
+pub journal_both : (first second old : ℕ) (mid read : Chip) (new : ℕ) → mid.journaled ≤ old + first → read ≡ mid
+    → new ≤ read.journaled + second → new ≤ old + (first + second)
+journal_both first second old mid read new start same more =
+    omega (arith, start, ap (λ (chip : Chip). chip.journaled) same, more)
 
 -- A call returns the error that an inner call returned.
 pub err_passed : {T E : Type 0} (result : Result T E) (error : E) → IsErrAnd result (λ passed. passed ≡ error)

@@ -27,6 +27,13 @@ incoming_inside map chip image has =
     part_inside map chip (Slot image Secondary) has.laid_out
     (some_slot map image Secondary has.laid_out.is_map has.there)
 
+-- So does the secondary slot of an image that the map has by an upload's counts.
+pub counted_inside : (map : SectorMap) (chip : Chip) (image written : ℕ) (upload : Upload) → IsLaidOut map chip
+    → HasCounts map image written upload
+    → start_of map (Slot image Secondary) + length_of map (Slot image Secondary) ≤ size_of chip
+counted_inside map chip image written upload laid counts =
+    incoming_inside map chip image (record { laid_out = laid; there = counts.there })
+
 -- A slot that is erased from a place on holds its first bytes, and is erased after them.
 pub erased_is_written : (map : SectorMap) (chip : Chip) (image at n : ℕ) → IsLaidOut map chip
     → at + n ≡ length_of map (Slot image Secondary)

@@ -22,7 +22,7 @@ use Rattle.upload.specs.View.{view}
 use Rattle.upload.specs.Sessions.{IsWritten}
 use Rattle.std.specs.Option.{option_or}
 use Rattle.std.specs.Prelude.{is_some}
-use Rattle.upload.specs.Accepted.{is_named, latest}
+use Rattle.upload.specs.Accepted.{AreBlank, IsBlank, is_named, latest}
 use Rattle.upload.specs.Wear.{ErasesWorn, erases_of_record, journal_of_components, one_unless_erased, sector_in, worn, worn_in, worn_of, worn_slot}
 use Rattle.upload.proofs.AcceptRow.{same_state}
 use Rattle.upload.proofs.Writing.{behind_at, next_sector, sector_place}
@@ -290,10 +290,25 @@ worn_next map old mid new cs i d lt keeps none one before =
     )
 
 -- What opening the slots of the next component and those after it asks a journal for.
-pub journal_next : (map : SectorMap) (cs : List Component) (i : ℕ) (d : Component) → i < length cs
+journal_next : (map : SectorMap) (cs : List Component) (i : ℕ) (d : Component) → i < length cs
     → journal_of_components map (drop i cs)
     ≡ (44 + 12 * slot_sectors map (get_or cs i d).image) + journal_of_components map (drop (i + 1) cs)
 journal_next map cs i d lt = ap (λ l. journal_of_components map l) (drop_more cs i d lt)
+
+-- What opening the slots of one component more asks a journal for.
+pub journal_more : (map : SectorMap) (old mid new : ℕ) (cs : List Component) (i : ℕ) (d : Component) → i < length cs
+    → new ≤ mid + (44 + 12 * slot_sectors map (get_or cs i d).image)
+    → mid + journal_of_components map (drop i cs) ≤ old + journal_of_components map cs
+    → new + journal_of_components map (drop (i + 1) cs) ≤ old + journal_of_components map cs
+journal_more map old mid new cs i d lt one before = omega (arith, journal_next map cs i d lt, one, before)
+
+-- Opening the slot of one component more changes nothing if all slots were blank.
+pub idle_more : (map : SectorMap) (old mid new : Chip) (cs : List Component) (i : ℕ) (d : Component) → i < length cs
+    → (IsBlank map mid (get_or cs i d).image → new ≡ mid) → (AreBlank map old cs → mid ≡ old) → AreBlank map old cs
+    → new ≡ old
+idle_more map old mid new cs i d lt one before blank =
+    let same = before blank in
+    one (subst (λ chip. IsBlank map chip (get_or cs i d).image) (sym same) (blank i d lt)) ∙ same
 
 -- No component is left to count.
 pub worn_last : (map : SectorMap) (chip : Chip) (cs : List Component) (i : ℕ) → length cs ≤ i

@@ -2,10 +2,9 @@ use Rattle.std.proofs.Common.{arith, refl, ◌∙◌}
 use Rattle.std.proofs.lemmas.Bool.{false≢true}
 use Rattle.std.proofs.lemmas.Result.{IfOk-weaker}
 use Rattle.flash_model.proofs.Ending.{no_error}
-use Rattle.sector_map.specs.Map.{HasImage}
 use Rattle.upload.proofs.Ends.{reads_well}
 use Rattle.upload.proofs.Ready.{matched_erased, open_for, units_inside}
-use Rattle.upload.proofs.StandingLaws.{incoming_inside, no_counts}
+use Rattle.upload.proofs.StandingLaws.{counted_inside, no_counts}
 use Rattle.upload.proofs.adding.is_ready.Goals as goal
 
 pub returns-in_default : goal.returns-in_default
@@ -24,16 +23,14 @@ pub overflow_add-start : goal.overflow_add-start
 overflow_add-start g c =
     let map = c.args.map.now in
     let counts = c.in-Some.ensures.some in
-    let has : HasImage map c.args.image (g.F.Flash.chip c.args.flash.now) = record { laid_out = c.requires.laid_out; there = counts.there } in
-    let inside = incoming_inside map _ c.args.image has in
+    let inside = counted_inside map _ c.args.image _ _ c.requires.laid_out counts in
     omega (arith, c.slot_start-start.ensures, inside, c.requires.laid_out.size, counts.count, counts.fits, counts.room)
 
 pub is_erased-requires : goal.is_erased-requires
 is_erased-requires g c =
     let map = c.args.map.now in
     let counts = c.in-Some.ensures.some in
-    let has : HasImage map c.args.image (g.F.Flash.chip c.args.flash.now) = record { laid_out = c.requires.laid_out; there = counts.there } in
-    let inside = incoming_inside map _ c.args.image has in
+    let inside = counted_inside map _ c.args.image _ _ c.requires.laid_out counts in
     rw c.is_blank.ensures.same (let units = units_inside map c.args.image c.in-Some.written c.args.count c.whole_units-units.result c.args.upload.now counts
     c.requires.fits (omega (arith, c.whole_units-units.ensures.least, c.len.ensures.value)) in
     omega (arith, c.slot_start-start.ensures, inside, units))

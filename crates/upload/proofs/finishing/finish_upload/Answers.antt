@@ -15,7 +15,7 @@ use Rattle.upload.specs.Sessions.{session_of}
 use Rattle.upload.specs.Ending.{EndsUpload}
 use Rattle.upload.specs.declared.error.UploadError.TheVariants as no
 use Rattle.upload.proofs.Views.{view_kept, slot_then_trailer}
-use Rattle.upload.proofs.Ends.{ends_flash, ends_later, ends_well, err_passed, off_stops, same_off}
+use Rattle.upload.proofs.Ends.{ends_flash, ends_later, ends_well, err_passed, journal_both, off_stops, same_off}
 use Rattle.upload.proofs.RefusedFinish.{done_finish, judged_finish, last_unit, stopped_finish}
 use Rattle.upload.proofs.Finished.{refused, finish_refused, finish_done, finish_cut}
 use Rattle.upload.proofs.Writing.{behind_erased, slot_units}
@@ -126,12 +126,7 @@ returns g c =
           ∙ c.write_last.ensures.erases;
       refused = done_finish _ _ _ _ _;
       off = λ off size. absurd (no_error tt _ (c.in_ok-judge.ensures.off (first.uncut.on ∙ off)));
-      journal = omega (
-        arith,
-        c.write_last.ensures.journal,
-        ap (λ (chip : Chip). chip.journaled) c.judge.ensures.same,
-        c.request.ensures.journal,
-      );
+      journal = journal_both _ _ _ _ _ _ c.write_last.ensures.journal c.judge.ensures.same c.request.ensures.journal;
       ends = ends_later _ _ (g.F.Flash.chip c.write_last.new.flash) _ first.uncut first.asleep
           (subst (λ chip. EndsUpload (Ok tt) chip (g.F.Flash.chip c.request.new.flash)) c.judge.ensures.same
           (ends_well _ _ _ _ c.in_ok-request.ensures.ends));
@@ -154,12 +149,7 @@ returns-in_err-request g c =
       erases = tt;
       refused = stopped_finish _ _ _ _ _ c.in_err-request.field-0.0;
       off = λ off size. absurd (no_error tt _ (c.in_ok-judge.ensures.off (first.uncut.on ∙ off)));
-      journal = omega (
-        arith,
-        c.write_last.ensures.journal,
-        ap (λ (chip : Chip). chip.journaled) c.judge.ensures.same,
-        c.request.ensures.journal,
-      );
+      journal = journal_both _ _ _ _ _ _ c.write_last.ensures.journal c.judge.ensures.same c.request.ensures.journal;
       ends = ends_later _ _ (g.F.Flash.chip c.write_last.new.flash) _ first.uncut first.asleep
           (subst (λ chip. EndsUpload {T = Unit} (Err (no.Flash c.in_err-request.field-0.0)) chip
           (g.F.Flash.chip c.request.new.flash)) c.judge.ensures.same

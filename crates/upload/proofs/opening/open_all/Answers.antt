@@ -1,14 +1,14 @@
-use Rattle.std.proofs.Common.{arith, ◌+◌, ◌≤◌, ◌∙◌, false, length, take, take_all, get_or, None, [], refl, subst, sym}
+use Rattle.std.proofs.Common.{arith, ◌+◌, ◌≤◌, false, length, take, take_all, get_or, None, [], refl, subst}
 use Rattle.sector_map.specs.Map.{Keeps}
 use Rattle.sector_map.proofs.Parts.{keeps_refl, keeps_wider, laid_out_kept}
 use Rattle.flash_model.proofs.Ending.{asleep_trans, ends_after, ends_well, uncut_refl, uncut_trans}
 use Rattle.manifest.specs.declared.manifest.Component.{Component}
 use Rattle.upload.specs.View.{view}
-use Rattle.upload.specs.Accepted.{IsBlank, IsOpened, latest, named_parts}
+use Rattle.upload.specs.Accepted.{IsOpened, latest, named_parts}
 use Rattle.upload.proofs.Views.{view_kept, view_long}
 use Rattle.upload.proofs.Opened.{first_parts, keeps_more, latest_at, latest_less, opening_more, opening_wider, opened_more, opened_none}
 use Rattle.upload.proofs.Ends.{err_passed}
-use Rattle.upload.proofs.Worn.{journal_next, worn_last, worn_next}
+use Rattle.upload.proofs.Worn.{idle_more, journal_more, worn_last, worn_next}
 use Rattle.upload.proofs.opening.open_all.Goals as goal
 
 abbrev blank : Component
@@ -52,15 +52,11 @@ returns-in_err-open_one g c =
       erases = tt;
       journal = omega (
         arith,
-        journal_next map cs c.loop-component.component-index blank c.loop-component-test.true,
-        c.open_one.ensures.opens.journal,
-        c.loop-component.invariant.journal,
+        journal_more map _ _ _ cs c.loop-component.component-index blank c.loop-component-test.true
+            c.open_one.ensures.opens.journal c.loop-component.invariant.journal,
       );
-      idle = λ still.
-          let same = c.loop-component.invariant.idle still in
-          c.open_one.ensures.opens.idle (subst (λ chip. IsBlank map chip
-          (get_or cs c.loop-component.component-index blank).image) (sym same)
-          (still c.loop-component.component-index blank c.loop-component-test.true)) ∙ same;
+      idle = idle_more map _ _ _ cs c.loop-component.component-index blank c.loop-component-test.true
+          c.open_one.ensures.opens.idle c.loop-component.invariant.idle;
       ends = ends_after _ _ (g.F.Flash.chip c.loop-component.flash) _ c.loop-component.invariant.uncut
           c.loop-component.invariant.asleep c.in_err-open_one.ensures.opens.ends;
     })
@@ -82,17 +78,10 @@ loop-component-preserved g c =
       erases = worn_next map _ _ _ cs c.loop-component.component-index blank c.loop-component-test.true
           c.open_one.ensures.opens.outside c.in_ok-open_one.ensures.opens.erased c.in_ok-open_one.ensures.opens.erases
           c.loop-component.invariant.erases;
-      journal = omega (
-        arith,
-        journal_next map cs c.loop-component.component-index blank c.loop-component-test.true,
-        c.open_one.ensures.opens.journal,
-        c.loop-component.invariant.journal,
-      );
-      idle = λ still.
-          let same = c.loop-component.invariant.idle still in
-          c.open_one.ensures.opens.idle (subst (λ chip. IsBlank c.args.map.now chip
-          (get_or c.args.components.now c.loop-component.component-index blank).image) (sym same)
-          (still c.loop-component.component-index blank c.loop-component-test.true)) ∙ same;
+      journal = journal_more map _ _ _ cs c.loop-component.component-index blank c.loop-component-test.true
+          c.open_one.ensures.opens.journal c.loop-component.invariant.journal;
+      idle = idle_more map _ _ _ cs c.loop-component.component-index blank c.loop-component-test.true
+          c.open_one.ensures.opens.idle c.loop-component.invariant.idle;
       uncut = uncut_trans _ (g.F.Flash.chip c.loop-component.flash) _ c.loop-component.invariant.uncut
           c.in_ok-open_one.ensures.opens.ends.uncut;
       asleep = asleep_trans _ (g.F.Flash.chip c.loop-component.flash) _ c.loop-component.invariant.uncut
