@@ -1,9 +1,10 @@
-use Rattle.std.proofs.Common.{arith, ◌+◌, ◌<◌, ◌≤◌, length, ap, refl, subst, sym, ◌∙◌, Err, Some, None, true≢false}
+use Rattle.std.proofs.Common.{◌≡◌, arith, ◌+◌, ◌<◌, ◌≤◌, ℕ, Option, length, ap, refl, subst, sym, ◌∙◌, Err, Some, None, true≢false}
 use Rattle.std.proofs.lemmas.Bool.{false≢true}
 use Rattle.std.proofs.lemmas.Grind.{common_steps}
 use Rattle.std.proofs.lemmas.Option.{same_Some, none-some}
 use Rattle.flash_model.proofs.Ending.{uncut_refl, no_error}
 use Rattle.flash_model.proofs.Frame.{same_outside_refl}
+use Rattle.sector_map.specs.declared.layout.SectorMap.{SectorMap}
 use Rattle.sector_map.proofs.Parts.{keeps_refl}
 use Rattle.upload.specs.Sessions.{AllOpenAt, IsOpenAt, upload_at}
 use Rattle.upload.specs.Standing.{HasCounts}
@@ -16,6 +17,22 @@ use Rattle.upload.proofs.OpenOnes.{open_more, open_none, open_nothing, open_to}
 use Rattle.upload.proofs.PieceRow.{exceeds, no_room, piece_done, piece_cut, piece_more, piece_unmatched, steady_written, table_back, took_more, unwritten}
 use Rattle.upload.proofs.Views.{view_kept}
 use Rattle.upload.proofs.sessions.Uploads.piece.Goals as goal
+
+-- The open upload of the image is the one that was taken out of the table.
+few_taken : (told : Option Upload) (taken u : Upload) (n : ℕ) → Some taken ≡ told → told ≡ Some u
+    → length u.held.items + n < 8 → length taken.held.items + n < 8
+few_taken told taken u n here is few =
+    subst (λ (v : Upload). length v.held.items + n < 8) (sym (same_Some _ _ (here ∙ is))) few
+
+full_taken : (told : Option Upload) (taken u : Upload) (n : ℕ) → Some taken ≡ told → told ≡ Some u
+    → 8 ≤ length u.held.items + n → 8 ≤ length taken.held.items + n
+full_taken told taken u n here is full =
+    subst (λ (v : Upload). 8 ≤ length v.held.items + n) (sym (same_Some _ _ (here ∙ is))) full
+
+counts_taken : (map : SectorMap) (image written : ℕ) (told : Option Upload) (taken u : Upload) → Some taken ≡ told
+    → told ≡ Some u → HasCounts map image written u → HasCounts map image written taken
+counts_taken map image written told taken u here is counts =
+    subst (λ (v : Upload). HasCounts map image written v) (sym (same_Some _ _ (here ∙ is))) counts
 
 pub returns-then-not-has_room : goal.returns-then-not-has_room
 returns-then-not-has_room g c =
@@ -54,7 +71,6 @@ returns-in-Ok-true g c =
     let map = c.args.map.now in
     let kept = view_kept map _ _ _ c.add_bytes.ensures.outside in
     let told = c.args.self.now.sessions in
-    let n = length c.args.bytes.now in
     let here = c.in-Some.ensures.value in
     let fits = c.has_room.ensures.0 c.if-not-has_room.false in
     record {
@@ -73,16 +89,15 @@ returns-in-Ok-true g c =
       rests = steady_written map c.args.image _ _ c.add_bytes.ensures.outside c.add_bytes.ensures.front;
       none = λ none. absurd (none-some _ (sym (here ∙ none)));
       matched = λ u is stands no. absurd (no_error tt _ no);
-      more = λ u is long. absurd (no_room _ _ n (sym (here ∙ is)) fits long);
+      more = λ u is long. absurd (no_room _ _ _ (sym (here ∙ is)) fits long);
       nothing = tt;
       held = λ u is fits few. (
         refl,
-        (c.add_bytes.ensures.held (subst (λ (v : Upload). length v.held.items + n < 8)
-            (sym (same_Some _ _ (here ∙ is))) few)).1,
+        (c.add_bytes.ensures.held (few_taken _ _ u _ here is few)).1,
       );
       off = λ off u written is counts fits enough. absurd (no_error _ _ (c.in-Ok-true.ensures.off off written
-          (subst (λ (v : Upload). HasCounts map c.args.image written v) (sym (same_Some _ _ (here ∙ is))) counts)
-          (subst (λ (v : Upload). 8 ≤ length v.held.items + n) (sym (same_Some _ _ (here ∙ is))) enough)));
+          (counts_taken map c.args.image written _ _ u here is counts)
+          (full_taken _ _ u _ here is enough)));
       too_much = λ is. absurd (no_error tt _ is);
       stays = λ is. absurd (no_error tt _ is);
       others = λ plain j away. with_others c.args.image j (Some _) told _ away
@@ -99,7 +114,6 @@ pub returns-in-Ok-false : goal.returns-in-Ok-false
 returns-in-Ok-false g c =
     let map = c.args.map.now in
     let told = c.args.self.now.sessions in
-    let n = length c.args.bytes.now in
     let here = c.in-Some.ensures.value in
     let fits = c.has_room.ensures.0 c.if-not-has_room.false in
     let refused = c.in-Ok-false.ensures.refused c.in-Ok-false.field-0-test in
@@ -117,13 +131,13 @@ returns-in-Ok-false g c =
       none = λ none. absurd (none-some _ (sym (here ∙ none)));
       matched = λ u is stands no. absurd (false≢true (sym c.in-Ok-false.field-0-test ∙ c.in-Ok-false.ensures.matched
           (subst (λ (v : Upload). IsOpenAt (view map chip) c.args.image v) (sym (same_Some _ _ (here ∙ is))) stands)));
-      more = λ u is long. absurd (no_room _ _ n (sym (here ∙ is)) fits long);
+      more = λ u is long. absurd (no_room _ _ _ (sym (here ∙ is)) fits long);
       nothing = λ unstopped. refused.1;
       held = λ u is fits few. absurd (not_added _ c.in-Ok-false.field-0 refl c.in-Ok-false.field-0-test (c.in-Ok-false.ensures.held
-          (subst (λ (v : Upload). length v.held.items + n < 8) (sym (same_Some _ _ (here ∙ is))) few)).0);
+          (few_taken _ _ u _ here is few)).0);
       off = λ off u written is counts fits enough. absurd (no_error _ _ (c.in-Ok-false.ensures.off off written
-          (subst (λ (v : Upload). HasCounts map c.args.image written v) (sym (same_Some _ _ (here ∙ is))) counts)
-          (subst (λ (v : Upload). 8 ≤ length v.held.items + n) (sym (same_Some _ _ (here ∙ is))) enough)));
+          (counts_taken map c.args.image written _ _ u here is counts)
+          (full_taken _ _ u _ here is enough)));
       too_much = λ is. absurd (no_session_none is);
       stays = λ is. back;
       others = λ plain j away. ap (λ t. upload_at t j) back;
@@ -139,7 +153,6 @@ pub returns-in-Err : goal.returns-in-Err
 returns-in-Err g c =
     let map = c.args.map.now in
     let kept = view_kept map _ _ _ c.add_bytes.ensures.outside in
-    let n = length c.args.bytes.now in
     let here = c.in-Some.ensures.value in
     let fits = c.has_room.ensures.0 c.if-not-has_room.false in
     record {
@@ -151,10 +164,10 @@ returns-in-Err g c =
       rests = steady_written map c.args.image _ _ c.add_bytes.ensures.outside c.add_bytes.ensures.front;
       none = λ none. absurd (none-some _ (sym (here ∙ none)));
       matched = λ u is stands no. absurd (not_no_session c.in-Err.error no);
-      more = λ u is long. absurd (no_room _ _ n (sym (here ∙ is)) fits long);
+      more = λ u is long. absurd (no_room _ _ _ (sym (here ∙ is)) fits long);
       nothing = λ unstopped. absurd (true≢false unstopped);
       held = λ u is fits few. absurd (stopped_not _ c.in-Err.error refl (c.in-Err.ensures.held
-          (subst (λ (v : Upload). length v.held.items + n < 8) (sym (same_Some _ _ (here ∙ is))) few)).0);
+          (few_taken _ _ u _ here is few)).0);
       off = λ off u written is counts fits enough. ap (λ error. Err (no.Flash error))
           (off_stops c.in-Err.error _ _ c.in-Err.ensures.ends off);
       too_much = λ is. absurd (not_too_much c.in-Err.error is);
