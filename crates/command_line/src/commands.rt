@@ -289,7 +289,7 @@ pub enum Subcommand {
 }
 
 /// The subcommands, in the order of the help.
-const SUBCOMMANDS: [Subcommand; 14] = [
+pub const SUBCOMMANDS: [Subcommand; 14] = [
     Subcommand::Choose,
     Subcommand::Check,
     Subcommand::Image,
@@ -305,6 +305,9 @@ const SUBCOMMANDS: [Subcommand; 14] = [
     Subcommand::Sweep,
     Subcommand::Codes,
 ];
+
+/// The version of the program.
+pub const VERSION: &str = "0.1.0";
 
 /// Returns the program with its subcommands.
 pub fn bootswap<'a>(alloc: Global) -> Result<Command<'a>, AllocError>
@@ -322,7 +325,7 @@ fn program<'a>(alloc: Global) -> Result<Command<'a>, AllocError>
     ensures { IfOk result (λ command. app_of command ≡ program) }
 {
     let command = new_command(alloc, "bootswap", help::PROGRAM)
-        .version("0.1.0")
+        .version(VERSION)
         .subcommand_required(true);
     command.bin_name("bootswap")
 }
@@ -390,7 +393,7 @@ impl Subcommand {
     }
 
     /// Returns its help.
-    fn help(self) -> &'static Help {
+    pub fn help(self) -> &'static Help {
         match self {
             Subcommand::Choose => help::CHOOSE,
             Subcommand::Check => help::CHECK,
@@ -410,10 +413,15 @@ impl Subcommand {
     }
 
     /// Returns its name.
-    fn name(self) -> &'static str
+    pub fn name(self) -> &'static str
         ensures { result.now ≡ name_for self }
     {
         self.definition().name
+    }
+
+    /// Returns its arguments, in the order of its help.
+    pub fn arguments(self) -> &'static [Argument] {
+        self.definition().arguments
     }
 
     /// Returns its name in its usage line.

@@ -24,11 +24,14 @@ mod matching;
 mod orders;
 mod standard_input;
 
+pub use argument_help::OptionHelp;
+pub use arguments::Argument;
 pub use codes::REFUSALS;
-pub use commands::{Subcommand, named};
+pub use commands::{SUBCOMMANDS, Subcommand, VERSION, named};
 pub use device_orders::{DeviceOrder, DeviceRequest, device_request, provision_in, run_in};
 pub use error::OrderError;
 pub use faults::{fault_of, misuse_error, no_text, program_error, subcommand_error};
+pub use help::{Help, PROGRAM};
 pub use matching::{images_in, is_explained, is_given, matches_of, name_in, named_in, names_in};
 pub use orders::{
     NewComponent, NewDevice, NewFile, NewImage, NewManifest, Order, ReadOrder, Request,
