@@ -22,6 +22,9 @@ EXPLAIN = "--explain"
 # The options for the help of a command. The core has the help of all commands.
 HELP = ("--help", "-h")
 
+# The topics of `help` that the core lacks: manual pages, completion scripts, and the list of these two.
+TOPICS = ("man", "completions", "help")
+
 
 class NoToolchain(NotBuilt):
     """There is nothing to build the program with."""
@@ -31,6 +34,8 @@ def needed_for(words):
     """Returns the name of the smallest program that does what these arguments ask for. Without arguments that is `choose`."""
     command, rest = words[:1], words[1:2]
     if EXPLAIN in words or not command:
+        return WHOLE
+    if command == ["help"] and rest and rest[0] in TOPICS:
         return WHOLE
     return WHOLE if command[0] in OF_WHOLE and rest not in ([it] for it in HELP) else CORE
 

@@ -1,3 +1,4 @@
 pub mod OrderEnd
 pub mod SweepEnd
 pub mod WordsEnd
+pub mod Asked

@@ -6,6 +6,7 @@
 //! manifests. It runs a device on a file that boots, takes uploads and survives power cuts.
 #![tactic(auto)]
 
+use boot_cli::manual::{answer, asked_in};
 use boot_cli::{cli, note_reading};
 use device_commands::{refuse_words, words_of};
 use host::{Output, STANDARD_ERROR, STANDARD_OUTPUT, SystemHost, reserve_stack};
@@ -33,6 +34,9 @@ fn run(rt: HostRuntime) -> u8 {
     let mut out = Output::new(rt, rt.stdout(), STANDARD_OUTPUT);
     let mut err = Output::new(rt, rt.stderr(), STANDARD_ERROR);
     let input = rt.reader();
+    if let Some(asked) = asked_in(words.as_slice()) {
+        return answer(alloc, asked, &mut out, &mut err);
+    }
     if words.len() <= 1 && input.is_terminal() {
         note_reading(&mut err);
         let _ = err.flush();
