@@ -33,6 +33,7 @@ HELPS = {
         "  bootswap run device.json flash.bin script.txt\n",
     ],
     "help": ["  2  usage error"],
+    "help help": ["Usage: bootswap help [COMMAND]...\n", "  man  ", "  completions  "],
     "choose -h": ["Usage: bootswap choose <TABLE>\n", "Exit status: 0 ", "Example: bootswap choose "],
     "choose --help": [
         "  image IMAGE VERSION COUNTER FLOOR\n",
