@@ -35,20 +35,21 @@ OFFERED = {
 }
 
 BASH = """
-source ./script
+source ../script
 COMP_WORDS=(bootswap "$@")
 COMP_CWORD=$#
 _bootswap
 printf '%s\\n' "${COMPREPLY[@]}"
 """
 
-# A terminal of zsh, in which a line is typed, and a key that writes all that is offered to the file `offered`. The function
-# `compadd` of zsh itself takes what is offered; here it also keeps what fits.
+# A terminal of zsh, in which a line is typed, and a key that lists what fits. `compadd` of zsh takes what the script
+# offers. Here it also writes what fits to the file `offered`.
 ZSH = """
 zmodload zsh/zpty
 zpty shell zsh -f -i
 zpty -w shell 'PROMPT=; autoload -Uz compinit; compinit -u -D; source ../script; zstyle ":completion:*" list-colors'
-zpty -w shell 'compadd() { local -a fits; builtin compadd -O fits "$@"; print -rl -- $fits >> ../offered; builtin compadd "$@" }'
+zpty -w shell 'compadd() { local -a fits; builtin compadd -O fits "$@"; builtin compadd "$@"; keep $fits }'
+zpty -w shell 'keep() { print -rl -- $@ >> ../offered }'
 zpty -w shell 'asks() { : > ../offered; zle list-choices; : > ../asked }; zle -N asks; bindkey "^T" asks; : > ../ready'
 until [[ -e ../ready ]]; do sleep 0.05; done
 zpty -w -n shell "bootswap $1"$'\\x14'
@@ -96,9 +97,8 @@ class CompletionsTest(ProgramTest):
         """bash offers these words."""
         self.need("bash")
         self.script("bash")
-        text = BASH.replace("./script", "../script")
         for words, offered in OFFERED.items():
-            out, err = self.asked(["bash", "--norc", "-c", text, "bash", *words])
+            out, err = self.asked(["bash", "--norc", "-c", BASH, "bash", *words])
             found = tuple(sorted(it for it in out.split("\n") if it))
             expected = tuple(it.rstrip("/") for it in offered)
             self.case(f"bash: {words}", [] if (found, err) == (expected, "") else [found, err])

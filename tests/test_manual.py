@@ -17,11 +17,6 @@ def options_of(text):
     return re.findall(r"^ +(?:-\w, )?(--[\w-]+)", listed, re.MULTILINE)
 
 
-def words_of(text):
-    """The words of a text, without its layout."""
-    return text.replace("‐", "-").split()
-
-
 class ManualTest(ProgramTest):
     """The manual pages."""
 
@@ -39,7 +34,7 @@ class ManualTest(ProgramTest):
             ["man", "--warnings", "-l", name],
             cwd=self.folder,
             capture_output=True,
-            env={"PATH": "/usr/bin:/bin", "MANWIDTH": "80", "LC_ALL": "C.UTF-8", "MAN_KEEP_FORMATTING": ""},
+            env={"PATH": "/usr/bin:/bin", "MANWIDTH": "80", "LC_ALL": "C.UTF-8"},
             check=False,
         )
         return shown.stdout.decode(), shown.stderr.decode()
@@ -83,8 +78,8 @@ class ManualTest(ProgramTest):
             _, out, _ = self.run_program([*names, "--help"])
             described = out.decode().partition("\nUsage: ")[0]
             faults = [warnings] if warnings else []
-            words = set(words_of(shown))
-            faults += [it for it in words_of(described) if it not in words]
+            words = set(shown.split())
+            faults += [it for it in described.split() if it not in words]
             self.case(f"a page that man shows: {names}", faults)
 
     def test_unknown(self):
