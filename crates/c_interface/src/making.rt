@@ -12,7 +12,7 @@ use crate::call_result::{NeedRow, VersionRow};
 use crate::description::GroupRow;
 use crate::numbers::{BAD_IMAGE, DONE, NO_ROOM};
 use arrayvec::ArrayVec;
-use common::limits::{MOST_ALTERNATIVES, MOST_DEPENDENCIES, MOST_GROUPS};
+use common::limits::{MOST_DEPENDENCIES, MOST_GROUPS};
 use tlv::{ImageSpec, write_image};
 use version_order::{Dependency, Group, Version};
 
@@ -91,12 +91,8 @@ fn group_in(row: &GroupRow) -> Option<Group>
     ensures some { IfSome result (λ group. group ≡ group_in row.now) }
     ensures none { result ≡ None → HasFewAlternatives row.now → FitsGroup (group_in row.now) → ⊥ }
 {
-    let count = row.count as usize;
-    if count > MOST_ALTERNATIVES {
-        return None;
-    }
     Some(Group {
-        alternatives: needs_in(&row.alternatives[..count])?,
+        alternatives: needs_in(row.alternatives.get(..row.count as usize)?)?,
     })
 }
 
@@ -121,11 +117,7 @@ fn needs_of(parts: &ImageParts) -> Option<ArrayVec<Dependency, MOST_DEPENDENCIES
     ensures none { result ≡ None → (needs : List Dependency) → HasNeeds parts.now needs
         → AllByRecursion FitsDependency needs → ⊥ }
 {
-    let count = parts.needs_count as usize;
-    if count > MOST_DEPENDENCIES {
-        return None;
-    }
-    needs_in(&parts.needs[..count])
+    needs_in(parts.needs.get(..parts.needs_count as usize)?)
 }
 
 /// The groups of the parts of an image, unless these are too many, or one is no group.
@@ -134,11 +126,7 @@ fn groups_of(parts: &ImageParts) -> Option<ArrayVec<Group, MOST_GROUPS>>
     ensures none { result ≡ None → (groups : List Group) → HasGroups parts.now groups
         → AllByRecursion FitsGroup groups → ⊥ }
 {
-    let count = parts.groups_count as usize;
-    if count > MOST_GROUPS {
-        return None;
-    }
-    groups_in(&parts.groups[..count])
+    groups_in(parts.groups.get(..parts.groups_count as usize)?)
 }
 
 /// The security counter of the parts of an image, if it has one.
