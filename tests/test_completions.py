@@ -1,4 +1,4 @@
-"""The completion scripts that `help completions` prints, asked in each shell."""
+"""Completion scripts, asked in each shell."""
 
 import os
 import shutil

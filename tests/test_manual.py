@@ -1,4 +1,4 @@
-"""The manual pages that `help man` prints."""
+"""The manual pages."""
 
 import re
 import shutil

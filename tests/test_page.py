@@ -1,4 +1,4 @@
-"""What the page of web/ shows compared with the output of the program, how it looks, and its links and controls."""
+"""What the page of web/ shows, how it looks, and its links and controls."""
 
 import base64
 import json
