@@ -9,6 +9,7 @@ import sys
 import unittest
 
 from support.built_clone import BuiltCloneTest, places_below
+from support.commands import COMMANDS
 from support.compiled import needs_compiler
 from support.files import ROOT, read
 from support.libraries import ran
@@ -23,6 +24,9 @@ PLACES = {
     *(f"lib/libbootswap.so.{major()}", f"lib/libbootswap.so.{version()}", "lib/pkgconfig/bootswap.pc"),
     *(f"lib/cmake/bootswap/bootswap-config{it}.cmake" for it in ("", "-version")),
     *("share/doc/bootswap/LICENSE", "share/doc/bootswap/CHANGELOG.md", LIST),
+    *("share/man/man1/bootswap.1", *(f"share/man/man1/bootswap-{it}.1" for it in COMMANDS)),
+    *("share/bash-completion/completions/bootswap", "share/zsh/vendor-completions/_bootswap"),
+    "share/fish/vendor_completions.d/bootswap.fish",
 }
 
 # What life.c prints with a cut of write 5, and the program of bindings/README.md.

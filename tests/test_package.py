@@ -22,7 +22,10 @@ ARCHIVES = (f"bootswap-{version()}-x86_64-linux.tar.xz", f"libbootswap-{version(
 
 # Some files of each package, the others being examples and documents.
 FILES = {
-    "bootswap": {"bin/bootswap", f"lib/x86_64-linux-gnu/libbootswap.so.{major()}"},
+    "bootswap": {
+        *("bin/bootswap", f"lib/x86_64-linux-gnu/libbootswap.so.{major()}", "share/man/man1/bootswap-run.1.gz"),
+        "share/bash-completion/completions/bootswap",
+    },
     "libbootswap-dev": {
         *("include/bootswap.h", "include/bootswap_manifest.h", "lib/x86_64-linux-gnu/libbootswap.a"),
         "lib/x86_64-linux-gnu/libbootswap_manifest.a",

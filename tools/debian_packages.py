@@ -106,7 +106,7 @@ def packages(program, archives, shared):
     """Returns the packages and what is in them."""
     same = f"bootswap (= {version()})"
     left_out = ("share/doc/bootswap/LICENSE", "share/doc/bootswap/CHANGELOG.md")
-    of_program = [it for it in program_items(program) if it.place not in left_out]
+    of_program = [packed(it) for it in program_items(program) if it.place not in left_out]
     of_program += shared_items(LIBRARIES, shared)
     of_library, of_python = library_items(f"/{PREFIX}", LIBRARIES, archives), python_items("lib/python3/dist-packages")
     return [
@@ -114,6 +114,13 @@ def packages(program, archives, shared):
         Package("libbootswap-dev", "libdevel", [same], moved(of_library, "libbootswap-dev")),
         Package("python3-bootswap", "python", [same, "python3:any (>= 3.9)"], of_python),
     ]
+
+
+def packed(item):
+    """Returns a file as Debian has it: manual pages are compressed."""
+    if not item.place.startswith("share/man/"):
+        return item
+    return item._replace(place=f"{item.place}.gz", contents=gzip.compress(item.contents, 9, mtime=0))
 
 
 def moved(files, name):

@@ -12,12 +12,23 @@ import sys
 from typing import NamedTuple, Optional
 
 from builder import OUT, ROOT, text_of
+from programs import OF_WHOLE
 
 # The list of what was installed, one place a line. A folder that the installation made ends with a slash.
 LIST = "share/bootswap/installed"
 
 # The name of the file with the commit of what is packed, beside the documents.
 COMMIT = "commit"
+
+# The commands that have a manual page, beside the program.
+COMMANDS = sorted([*OF_WHOLE, "provision", "run"])
+
+# Where each shell looks for completions.
+COMPLETIONS = {
+    "bash": "share/bash-completion/completions/bootswap",
+    "zsh": "share/zsh/vendor-completions/_bootswap",
+    "fish": "share/fish/vendor_completions.d/bootswap.fish",
+}
 
 # Where the examples are, those of bindings/c among them.
 EXAMPLES = "share/doc/bootswap/examples"
@@ -101,13 +112,24 @@ def items(prefix, python, program, archives, shared):
 
 
 def program_items(program):
-    """Returns the files of the program."""
+    """Returns the files of the program: itself, its manual pages and completions, which it prints, and its documents."""
+    pages = {"-".join(["bootswap", *words]): ["help", "man", *words] for words in [[], *([it] for it in COMMANDS)]}
     return [
         Item("bin/bootswap", program, mode=0o755),
+        *(Item(f"share/man/man1/{name}.1", contents=printed(program, words)) for name, words in pages.items()),
+        *(Item(place, contents=printed(program, ["help", "completions", it])) for it, place in COMPLETIONS.items()),
         Item("share/doc/bootswap/LICENSE", f"{ROOT}/LICENSE"),
         Item("share/doc/bootswap/CHANGELOG.md", f"{ROOT}/CHANGELOG.md"),
         *copies(f"{ROOT}/examples", EXAMPLES),
     ]
+
+
+def printed(program, words):
+    """Returns what a program prints."""
+    done = subprocess.run([program, *words], stdin=subprocess.DEVNULL, capture_output=True)
+    if done.returncode:
+        raise NotInstalled(f"{program} {' '.join(words)} failed")
+    return done.stdout
 
 
 def shared_items(libraries, shared):
