@@ -344,7 +344,8 @@ class HeaderTest(unittest.TestCase):
     def test_version(self):
         """The header has the version that the program prints."""
         version = re.search(r'#define BOOTSWAP_VERSION "(.+)"', text_of(HEADER))[1]
-        self.assertIn(f'.version("{version}")', "".join(sources()))
+        printed = re.findall(r'^pub const VERSION: &str = "(\d.*)";$', "".join(sources()), re.MULTILINE)
+        self.assertEqual(printed, [version])
 
 
 if __name__ == "__main__":
