@@ -1,5 +1,6 @@
 """The libraries for C, from C and from Python."""
 
+import importlib.util
 import os
 import random
 import re
@@ -8,10 +9,10 @@ import struct
 import subprocess
 import sys
 import tempfile
+from unittest import mock
 
 from support.builders import CLASS, VENDOR
 from support.compiled import needs_compiler
-from support.driven import Library
 from support.files import EXAMPLES, ROOT, read
 from support.libraries import ran, shared_library
 from support.processors import HERE
@@ -138,7 +139,7 @@ class OtherLanguagesTest(CaseTest):
 
     def test_random_manifests(self):
         """Ten thousand random texts are refused by their pieces, and each other one is read."""
-        names, dice = Library(self.shared).names, random.Random(2)
+        names, dice = module_over(self.shared), random.Random(2)
         device = names.Device(512, [2, 2], vendor=names.uuid.UUID(VENDOR), class_id=names.uuid.UUID(CLASS))
         faults, counts = [], [0] * 9
         for text, code in (drawn_text(dice) for _ in range(10_000)):
@@ -188,6 +189,15 @@ class OtherLanguagesTest(CaseTest):
         faults = [f"status {done.returncode}: {short(done.stderr[-2000:])}"] * (done.returncode != 0)
         faults += [f"it prints {short(done.stdout)}, and not {short(wanted)}"] * (not wanted or done.stdout != wanted)
         self.case(f"the {what} of bindings/README.md", faults)
+
+
+def module_over(shared):
+    """Loads the module of Python over this library."""
+    spec = importlib.util.spec_from_file_location("bootswap_library", f"{ROOT}/bindings/python/bootswap.py")
+    module = importlib.util.module_from_spec(spec)
+    with mock.patch.dict(os.environ, BOOTSWAP_LIBRARY=shared), mock.patch.dict(sys.modules, {spec.name: module}):
+        spec.loader.exec_module(module)
+    return module
 
 
 def listed(manifest, names):
