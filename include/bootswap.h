@@ -12,7 +12,7 @@
  * overlaps nothing else that is passed.
  *
  * Each call except bootswap_piece reads the slots of the open uploads and checks that the uploads match the flash. A
- * piece reads only the range of its slot that it writes, so an upload in many pieces costs little more than in one.
+ * piece reads only the range of its slot that it writes, the slot's trailer and the log.
  *
  * The library calls memcpy, memmove and memset. It uses the processor's vector registers and unaligned accesses, which
  * a bare machine has to allow.
