@@ -321,7 +321,7 @@ uint32_t bootswap_confirm(const struct bootswap_setup *setup, uint8_t *flash, si
  *
  *     0  the kind: 0 a program, 1 an erase
  *     4  the address in bytes
- *     8  the length of the range in bytes, of an erase the length of a sector
+ *     8  the length of the range in bytes, of an erase that of a sector
  *    12  only of a program: its bytes
  *
  * The writes follow each other from the first byte of the journal on, with nothing between them. `journal_length` in the
@@ -334,8 +334,9 @@ uint32_t bootswap_confirm(const struct bootswap_setup *setup, uint8_t *flash, si
  * BOOTSWAP_CUT for no other reason. The journal is long enough if it has this number of bytes:
  *
  *     bootswap_journal_provision  144, and 24 for each image
- *     bootswap_journal_accept     120, and for each component 44, and 12 for each sector of its slot
- *     bootswap_journal_piece      31, and the number of the bytes that are added
+ *     bootswap_journal_accept     120, and for each component 44, and 12
+ *                                 for each sector of its slot
+ *     bootswap_journal_piece      31, and the number of bytes that are added
  *     bootswap_journal_finish     68
  *     bootswap_journal_withdraw   44
  *     bootswap_journal_confirm    20

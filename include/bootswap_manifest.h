@@ -27,8 +27,10 @@ struct bootswap_identity {
  * The program defines how the call allocates. bindings/c/manifest.c does it for `bootswap_read_manifest`, which most
  * programs call instead. A program with a heap of its own defines these three:
  *
- *     struct { bool is_some; void *bytes; } rattle_alloc(size_t size, size_t alignment);
- *     struct { bool is_some; void *bytes; } rattle_realloc(void *old, size_t kept, size_t size, size_t alignment);
+ *     struct { bool is_some; void *bytes; }
+ *     rattle_alloc(size_t size, size_t alignment);
+ *     struct { bool is_some; void *bytes; }
+ *     rattle_realloc(void *old, size_t kept, size_t size, size_t alignment);
  *     void rattle_dealloc(void *bytes);
  *
  * They have the meaning of `malloc`, `realloc` and `free`, with these differences. An alignment is 1, 2, 4, 8 or 16. A size
