@@ -12,6 +12,7 @@ from support.built_clone import BuiltCloneTest, places_below
 from support.commands import COMMANDS
 from support.compiled import needs_compiler
 from support.files import ROOT, read
+from support.headers import declared
 from support.libraries import ran
 from support.program import short
 
@@ -25,6 +26,7 @@ PLACES = {
     *(f"lib/cmake/bootswap/bootswap-config{it}.cmake" for it in ("", "-version")),
     *("share/doc/bootswap/LICENSE", "share/doc/bootswap/CHANGELOG.md", LIST),
     *("share/man/man1/bootswap.1", *(f"share/man/man1/bootswap-{it}.1" for it in COMMANDS)),
+    *("share/man/man5/bootswap-formats.5", "share/man/man3/libbootswap.3", *(f"share/man/man3/{it}.3" for it in declared("call"))),
     *("share/bash-completion/completions/bootswap", "share/zsh/vendor-completions/_bootswap"),
     "share/fish/vendor_completions.d/bootswap.fish",
 }

@@ -3,18 +3,72 @@
 import re
 import shutil
 import subprocess
+import sys
+import tempfile
 
 from support.commands import COMMANDS
-from support.program import ProgramTest, short
+from support.files import ROOT, read
+from support.headers import comments, declarations, declared, headers
+from support.program import CaseTest, ProgramTest, short
+
+sys.path.insert(0, f"{ROOT}/tools")
+
+from manual_pages.formats import formats_page
+from manual_pages.library import library_pages
+from manual_pages.roff import NoPage
 
 SECTIONS = ["NAME", "SYNOPSIS", "DESCRIPTION", "OPTIONS", "EXIT STATUS", "EXAMPLES", "SEE ALSO"]
 PAGES = [[], *([it] for it in COMMANDS)]
+
+# Markdown that no page may have. The first line is line 3.
+UNKNOWN_MARKDOWN = [
+    *("#### Too deep", "##No space", "# Another title", "> A quote", "    Code by its indentation", "~~~", "***", "---"),
+    *("A title\n---", "* An item", "+ An item", "1) An item", "- An item\nnot indented"),
+    *("- An item\n  - in an item", "- An item\n  1. in an item", "```sh\ncode\n```", "```\ncode without an end"),
+    *("| a table |\n", "| a | b |\n|---|\n", "| a |\n|---|\n| b | c |", "| a |\n|---|\n| b |\nno row"),
+    *("a <b>word</b>", "<!-- nothing -->", "<a id='x'></a>A place", "an &amp;", "a \\* star", "a _word_", "a *word"),
+    *("an `open word", "![a picture](x.png)", "a [reference][x]", "[x]: y", "a [link](x y)", "a line  \nbroken"),
+]
+
+# What no header may have. The first line is line 3.
+UNKNOWN_DECLARATIONS = [
+    *("int without_comment(void);", "/* Without a declaration. */", "#if 1", "// A remark."),
+    *("/* A type. */\ntypedef int number;", "/* A union. */\nunion u {\n    int a;\n};"),
+    *("/* A field. */\nstruct s {\n    int (*call)(void);\n};", "/* A bit. */\nstruct s {\n    int a;\n    int b : 1;\n};"),
+    *("/* No number. */\nenum e {\n    A = 1,\n    B,\n};", "/* A macro. */\n#define ONE(x) 1"),
+    *("/*\n * - An item.\n */\nint a(void);", "/* Two. */\nint a(void);\n#define A 1"),
+]
 
 
 def options_of(text):
     """The options that a help lists."""
     listed = text.partition("\nOptions:\n")[2].partition("\n\nExit status")[0]
     return re.findall(r"^ +(?:-\w, )?(--[\w-]+)", listed, re.MULTILINE)
+
+
+def texts_of(document):
+    """Yields the texts of docs/FORMATS.md as a page shows them, with one space between two words, and whether each is the head
+    of a column. The lines of a paragraph are texts of their own."""
+    blocks = re.split(r"^```\n(.*?)^```\n", document.partition("\n")[2], flags=re.MULTILINE | re.DOTALL)
+    for number, block in enumerate(blocks):
+        lines = block.splitlines() if number % 2 else prose_of(block).splitlines()
+        for at, line in enumerate(lines):
+            is_head = line.startswith("| ") and "".join(lines[at + 1 : at + 2]).startswith("|---")
+            if number % 2 == 0 and line.startswith("|"):
+                parts = [] if line.startswith("|---") else line.strip("|").split("|")
+            elif number % 2 == 0:
+                parts = [re.sub(r"^(- |\d+\. |### )", "", line.upper()[3:] if line.startswith("## ") else line)]
+            else:
+                parts = [line]
+            yield from ((is_head, " ".join(it.split())) for it in parts if it.strip())
+
+
+def prose_of(text):
+    """Returns a part of docs/FORMATS.md without the marks in its lines. A link to another document names it."""
+    text = re.sub(r"\[([^\]]+)\]\((?:#[^)]*|\1(?:#[^)]*)?)\)", r"\1", text)
+    text = re.sub(r"\[([^\]]+)\]\(([^)#]+)[^)]*\)", r"\1 (\2)", text)
+    parts = text.split("`")
+    return "".join(it if at % 2 else it.replace("*", "") for at, it in enumerate(parts))
 
 
 class ManualTest(ProgramTest):
@@ -95,3 +149,105 @@ class ManualTest(ProgramTest):
         with open("/dev/full", "wb") as full:
             status, _, err = self.run_program(["help", "man"], stdout=full)
         self.case("a page to a full device", [] if (status, err) == (1, b"") else [f"{status} {err}"])
+
+
+class MadePageTest(CaseTest):
+    """The pages that are made of docs/FORMATS.md and of the headers: bootswap-formats(5) and libbootswap(3)."""
+
+    @classmethod
+    def setUpClass(cls):
+        cls.formats = read(f"{ROOT}/docs/FORMATS.md").decode()
+        cls.library = library_pages(headers(), "2000-01-01", "1.2.3")
+        cls.pages = {"bootswap-formats.5": formats_page(cls.formats, "2000-01-01", "1.2.3")}
+        cls.pages["libbootswap.3"] = cls.library["libbootswap"]
+
+    def shown(self, name, by, width):
+        """Returns a page as `man` or `mandoc` shows it in a terminal of this width, and the warnings."""
+        if not shutil.which(by) or by == "man" and not shutil.which("groff"):
+            self.skipTest(f"there is no {by}")
+        words = {"man": ["man", "--warnings", "-l"], "mandoc": ["mandoc", "-T", "utf8", "-O", f"width={width - 2}"]}
+        with tempfile.TemporaryDirectory() as folder:
+            with open(f"{folder}/{name}", "w", encoding="utf-8") as it:
+                it.write(self.pages[name])
+            environment = {"PATH": "/usr/bin:/bin", "MANWIDTH": str(width), "LC_ALL": "C.UTF-8"}
+            ran = subprocess.run([*words[by], f"{folder}/{name}"], capture_output=True, env=environment, check=False)
+        return re.sub(".\x08", "", ran.stdout.decode()), ran.stderr.decode()
+
+    def folded(self, name, by):
+        """Returns a page in a terminal so wide that no row of a table is wrapped, with one space between two words."""
+        return " ".join(self.shown(name, by, 1000)[0].split()).replace("( ", "(")
+
+    def test_titles(self):
+        """A page has its name, section, date and version. So the same sources make the same page."""
+        for name, page in self.pages.items():
+            stem, section = name.upper().split(".")
+            title = f'.TH {stem} {section} 2000-01-01 "bootswap 1.2.3"'.replace("-F", "\\-F")
+            self.case(f"the title of {name}", [] if title in page.splitlines()[:2] else page.splitlines()[:2])
+            found = re.findall("^.SH (.*)$", page, re.MULTILINE)
+            self.case(f"the sections of {name}", [] if (found[0], found[-1]) == ("NAME", "SEE ALSO") else found)
+
+    def test_lint(self):
+        """`mandoc` has no warning for a page."""
+        if not shutil.which("mandoc"):
+            self.skipTest("there is no mandoc")
+        for name, page in self.pages.items():
+            with tempfile.NamedTemporaryFile("w", suffix=f"-{name}") as file:
+                file.write(page)
+                file.flush()
+                words = ["mandoc", "-T", "lint", "-W", "warning", file.name]
+                linted = subprocess.run(words, capture_output=True, text=True, check=False)
+            self.case(f"no warning of mandoc for {name}", [linted.stdout] if linted.returncode else [])
+
+    def test_terminal(self):
+        """A terminal of 80 columns shows each line of a page, and `man` has no warning."""
+        for by in ("man", "mandoc"):
+            for name in self.pages:
+                shown, warnings = self.shown(name, by, 80)
+                faults = [it for it in shown.splitlines() if len(it) > 80]
+                self.case(f"{name} by {by} at 80 columns", faults + [warnings] * bool(warnings))
+
+    def test_formats(self):
+        """bootswap-formats(5) has each heading, line, cell and line of code of docs/FORMATS.md, in order."""
+        for by in ("man", "mandoc"):
+            page, at = self.folded("bootswap-formats.5", by), 0
+            for is_head, text in texts_of(self.formats):
+                found = page.find(text, at)
+                with self.subTest(by=by, text=text):
+                    self.assertGreaterEqual(found, 0)
+                at = at if is_head else max(at, found)
+
+    def test_library(self):
+        """libbootswap(3) has each name, declaration and comment of the headers."""
+        for by in ("man", "mandoc"):
+            page = self.folded("libbootswap.3", by)
+            for kind in ("call", "constant", "number", "struct", "enum"):
+                self.case(f"{by}: each {kind}", [it for it in declared(kind) if not re.search(rf"\b{it}\b", page)])
+            texts = [it.replace("`", "") for it in [*comments(), *declarations()]]
+            self.case(f"{by}: each comment and declaration", [it for it in texts if it not in page])
+
+    def test_names(self):
+        """Each call has a page, which is that of the library."""
+        others = {name: text for name, text in self.library.items() if name != "libbootswap"}
+        self.assertEqual(others, {it: ".so man3/libbootswap.3\n" for it in declared("call")})
+
+    def test_unknown_markdown(self):
+        """Markdown that isn't known is refused with its line, so no text is lost."""
+        for text in UNKNOWN_MARKDOWN:
+            document = f"# Formats\n\n{text}\n"
+            self.refused("docs/FORMATS.md", document, formats_page, document, "2000-01-01", "1.2.3")
+
+    def test_unknown_declarations(self):
+        """A part of a header that isn't known is refused with its line."""
+        for text in UNKNOWN_DECLARATIONS:
+            header = f"/* Names. */\n\n{text}\n"
+            others = {**headers(), "bootswap_names.h": header}
+            self.refused("include/bootswap_names.h", header, library_pages, others, "2000-01-01", "1.2.3")
+
+    def refused(self, source, document, make, *words):
+        """A case: no page is made of a document, and the fault names a line of it, from line 3 on."""
+        with self.subTest(document):
+            with self.assertRaises(NoPage) as caught:
+                make(*words)
+            said = re.fullmatch(rf"{source}:(\d+): no manual page can be made of this: (.*)", str(caught.exception))
+            lines = [*document.splitlines(), "the end"]
+            self.assertEqual((lines[int(said[1]) - 1].strip(), int(said[1]) > 2), (said[2].strip(), True))

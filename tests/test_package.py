@@ -23,7 +23,8 @@ ARCHIVES = (f"bootswap-{version()}-x86_64-linux.tar.xz", f"libbootswap-{version(
 # Some files of each package, the others being examples and documents.
 FILES = {
     "bootswap": {
-        *("bin/bootswap", f"lib/x86_64-linux-gnu/libbootswap.so.{major()}", "share/man/man1/bootswap-run.1.gz"),
+        *("bin/bootswap", f"lib/x86_64-linux-gnu/libbootswap.so.{major()}"),
+        *("share/man/man1/bootswap-run.1.gz", "share/man/man5/bootswap-formats.5.gz"),
         "share/bash-completion/completions/bootswap",
     },
     "libbootswap-dev": {
@@ -31,6 +32,7 @@ FILES = {
         "lib/x86_64-linux-gnu/libbootswap_manifest.a",
         *("lib/x86_64-linux-gnu/libbootswap.so", "lib/x86_64-linux-gnu/pkgconfig/bootswap.pc"),
         "lib/x86_64-linux-gnu/cmake/bootswap/bootswap-config.cmake",
+        *("share/man/man3/libbootswap.3.gz", "share/man/man3/bootswap_boot.3.gz"),
     },
     "python3-bootswap": {"lib/python3/dist-packages/bootswap.py"},
 }

@@ -8,7 +8,7 @@ import subprocess
 import time
 from typing import NamedTuple
 
-from installing import Item, library_items, major, program_items, put, python_items, shared_items, version
+from installing import Item, day_of, library_items, major, program_items, put, python_items, shared_items, version
 from sealed_archives import paths_below
 
 PREFIX = "usr"
@@ -80,7 +80,8 @@ ABOUT = {
  A device in memory that its caller passes, without a heap: for bootloaders,
  simulators and tests. A driver of a flash is three functions in C.
  .
- The header, the static library, and the files for pkg-config and CMake.""",
+ The headers, the static libraries, manual pages, and the files for pkg-config
+ and CMake.""",
     "python3-bootswap": """bootloader core for Python
  A device whose flash is a bytearray: for simulators, update servers and tests.
  .
@@ -108,7 +109,8 @@ def packages(program, archives, shared):
     left_out = ("share/doc/bootswap/LICENSE", "share/doc/bootswap/CHANGELOG.md")
     of_program = [packed(it) for it in program_items(program) if it.place not in left_out]
     of_program += shared_items(LIBRARIES, shared)
-    of_library, of_python = library_items(f"/{PREFIX}", LIBRARIES, archives), python_items("lib/python3/dist-packages")
+    of_library = [packed(it) for it in library_items(f"/{PREFIX}", LIBRARIES, archives, day_of(program))]
+    of_python = python_items("lib/python3/dist-packages")
     return [
         Package("bootswap", "devel", [libc_of(program, shared)], of_program),
         Package("libbootswap-dev", "libdevel", [same], moved(of_library, "libbootswap-dev")),
@@ -120,7 +122,8 @@ def packed(item):
     """Returns a file as Debian has it: manual pages are compressed."""
     if not item.place.startswith("share/man/"):
         return item
-    return item._replace(place=f"{item.place}.gz", contents=gzip.compress(item.contents, 9, mtime=0))
+    contents = item.contents if item.text is None else item.text.encode()
+    return item._replace(place=f"{item.place}.gz", text=None, contents=gzip.compress(contents, 9, mtime=0))
 
 
 def moved(files, name):

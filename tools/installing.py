@@ -12,6 +12,8 @@ import sys
 from typing import NamedTuple, Optional
 
 from builder import OUT, ROOT, text_of
+from manual_pages.formats import SOURCE, formats_page
+from manual_pages.library import HEADERS, library_pages
 from programs import OF_WHOLE
 
 # The list of what was installed, one place a line. A folder that the installation made ends with a slash.
@@ -107,16 +109,18 @@ def share(archives, shared):
 def items(prefix, python, program, archives, shared):
     """Returns the files of an installation below a prefix: the program, the static libraries and the shared one, the module
     of Python in its folder, and what belongs to them."""
-    library = [*shared_items("lib", shared), *library_items(prefix, "lib", archives)]
+    library = [*shared_items("lib", shared), *library_items(prefix, "lib", archives, day_of(program))]
     return [*program_items(program), *library, *python_items(python)]
 
 
 def program_items(program):
-    """Returns the files of the program: itself, its manual pages and completions, which it prints, and its documents."""
+    """Returns the files of the program: itself, its manual pages and completions, which it prints, the page of its formats, and
+    its documents."""
     pages = {"-".join(["bootswap", *words]): ["help", "man", *words] for words in [[], *([it] for it in COMMANDS)]}
     return [
         Item("bin/bootswap", program, mode=0o755),
         *(Item(f"share/man/man1/{name}.1", contents=printed(program, words)) for name, words in pages.items()),
+        Item("share/man/man5/bootswap-formats.5", text=formats_page(text_of(f"{ROOT}/{SOURCE}"), day_of(program), version())),
         *(Item(place, contents=printed(program, ["help", "completions", it])) for it, place in COMPLETIONS.items()),
         Item("share/doc/bootswap/LICENSE", f"{ROOT}/LICENSE"),
         Item("share/doc/bootswap/CHANGELOG.md", f"{ROOT}/CHANGELOG.md"),
@@ -132,16 +136,26 @@ def printed(program, words):
     return done.stdout
 
 
+def day_of(program):
+    """Returns the date that the manual pages of a program have: the day of its release."""
+    found = re.match(r"\.TH \S+ 1 (\d{4}-\d\d-\d\d) ", printed(program, ["help", "man"]).decode())
+    if not found:
+        raise NotInstalled(f"{program} prints no manual page with a date")
+    return found[1]
+
+
 def shared_items(libraries, shared):
     """Returns the files that a program needs which is linked with the shared library, in the folder of libraries."""
     full = f"libbootswap.so.{version()}"
     return [Item(f"{libraries}/{full}", shared), Item(f"{libraries}/libbootswap.so.{major()}", link=full)]
 
 
-def library_items(prefix, libraries, archives):
-    """Returns the files that one needs to compile and link a C program, with the folder of libraries below a prefix."""
+def library_items(prefix, libraries, archives, day):
+    """Returns the files that one needs to compile and link a C program, with the folder of libraries below a prefix, and the
+    manual pages of the library, which have this date."""
     to_prefix = "/".join(".." for _ in libraries.split("/"))
     names = {"prefix": prefix, "libraries": libraries, "to_prefix": to_prefix, "version": version(), "major": major()}
+    pages = library_pages({it: text_of(f"{ROOT}/include/{it}") for it in HEADERS}, day, version())
     return [
         *(Item(f"include/{it}", f"{ROOT}/include/{it}") for it in sorted(os.listdir(f"{ROOT}/include"))),
         *(Item(f"{libraries}/{os.path.basename(it)}", it) for it in archives),
@@ -149,6 +163,7 @@ def library_items(prefix, libraries, archives):
         Item(f"{libraries}/pkgconfig/bootswap.pc", text=PKG_CONFIG.format(**names)),
         Item(f"{libraries}/cmake/bootswap/bootswap-config.cmake", text=CMAKE.format(**names)),
         Item(f"{libraries}/cmake/bootswap/bootswap-config-version.cmake", text=CMAKE_VERSION.format(**names)),
+        *(Item(f"share/man/man3/{name}.3", text=text) for name, text in pages.items()),
         *copies(f"{ROOT}/bindings/c", f"{EXAMPLES}/c"),
     ]
 

@@ -11,7 +11,7 @@ from support.program import ProgramTest, short
 from installing import share
 
 # What the tools need of a clone beside out/.
-NEEDED = ("bindings", "examples", "include", "tools")
+NEEDED = ("bindings", "docs", "examples", "include", "tools")
 
 # The names of the static libraries.
 LIBRARIES = ("libbootswap.a", "libbootswap_manifest.a")

@@ -1,0 +1,41 @@
+"""What the headers of include/ declare, as text."""
+
+import glob
+import re
+
+from support.files import ROOT, read
+
+# A declaration of each kind, with its name.
+DECLARED = {
+    "call": r"^(?:static inline )?(?:const )?\w+ \*?(bootswap_\w+)\(",
+    "constant": r"^#define (BOOTSWAP_\w+) .",
+    "number": r"^    (BOOTSWAP_\w+) = \d+,? ",
+    "struct": r"^struct (\w+) \{$",
+    "enum": r"^enum (\w+) \{$",
+}
+
+
+def headers():
+    """Returns the texts of the headers by their names."""
+    return {it.rpartition("/")[2]: read(it).decode() for it in sorted(glob.glob(f"{ROOT}/include/*.h"))}
+
+
+def declared(kind):
+    """Returns the names of all declarations of a kind."""
+    return [it for text in headers().values() for it in re.findall(DECLARED[kind], text, re.MULTILINE)]
+
+
+def comments():
+    """Returns the texts of all comments, with one space between two words."""
+    found = [it for text in headers().values() for it in re.findall(r"/\*(.*?)\*/", text, re.DOTALL)]
+    return [" ".join(re.sub(r"^ \*", "", it, flags=re.MULTILINE).split()) for it in found]
+
+
+def declarations():
+    """Returns the declarations of calls and of fields, with one space between two words."""
+    calls = r"^(?:static inline )?((?:const )?\w+ \*?bootswap_\w+\([^()]*\))"
+    found = [it for text in headers().values() for it in re.findall(calls, text, re.MULTILINE)]
+    for text in headers().values():
+        for body in re.findall(r"^struct \w+ \{$(.*?)^\};$", text, re.MULTILINE | re.DOTALL):
+            found += re.findall(r"^ +([\w ]+ \*?\w[\w\[\], ]*);", body, re.MULTILINE)
+    return [" ".join(it.split()) for it in found]
