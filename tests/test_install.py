@@ -26,7 +26,8 @@ PLACES = {
     *(f"lib/cmake/bootswap/bootswap-config{it}.cmake" for it in ("", "-version")),
     *("share/doc/bootswap/LICENSE", "share/doc/bootswap/CHANGELOG.md", LIST),
     *("share/man/man1/bootswap.1", *(f"share/man/man1/bootswap-{it}.1" for it in COMMANDS)),
-    *("share/man/man5/bootswap-formats.5", "share/man/man3/libbootswap.3", *(f"share/man/man3/{it}.3" for it in declared("call"))),
+    *("share/man/man5/bootswap-formats.5", "share/man/man3/libbootswap.3"),
+    *(f"share/man/man3/{it}.3" for it in declared("call")),
     *("share/bash-completion/completions/bootswap", "share/zsh/vendor-completions/_bootswap"),
     "share/fish/vendor_completions.d/bootswap.fish",
 }
@@ -119,6 +120,21 @@ class InstallTest(BuiltCloneTest):
             pass
         status, said = self.run_tool("install", "--prefix", self.prefix)
         self.case("the prefix is a file", [f"{status}: {short(said)}"] * (status != 1 or self.prefix.encode() not in said))
+
+    @unittest.skipUnless(shutil.which("man") and shutil.which("groff"), "there is no man")
+    def test_manual(self):
+        """`man` finds the page of a command, that of a call and that of the formats. All have the date of the release."""
+        self.install()
+        pages = {"bootswap-run": "BOOTSWAP-RUN(1)", "bootswap_boot": "LIBBOOTSWAP(3)"}
+        pages["bootswap-formats"] = "BOOTSWAP-FORMATS(5)"
+        environment, days = {"PATH": "/usr/bin:/bin", "LC_ALL": "C.UTF-8"}, set()
+        for name, title in pages.items():
+            words = ["man", "-M", f"{self.prefix}/share/man", name]
+            shown = subprocess.run(words, env=environment, capture_output=True, text=True)
+            lines = shown.stdout.splitlines() or [shown.stderr, ""]
+            self.case(f"man {name}", [lines[0]] * (not lines[0].startswith(title)))
+            days.add(tuple(lines[-1].split()[:3]))
+        self.case("the date and the version", [str(days)] * (len(days) != 1))
 
     @unittest.skipUnless(shutil.which("pkg-config"), "there is no pkg-config")
     def test_pkg_config(self):

@@ -22,8 +22,8 @@ PAGES = [[], *([it] for it in COMMANDS)]
 
 # Markdown that no page may have. The first line is line 3.
 UNKNOWN_MARKDOWN = [
-    *("#### Too deep", "##No space", "# Another title", "> A quote", "    Code by its indentation", "~~~", "***", "---"),
-    *("A title\n---", "* An item", "+ An item", "1) An item", "- An item\nnot indented"),
+    *("#### Too deep", "##No space", "# Another title", "## A *title*", "> A quote", "    Code by its indentation", "~~~"),
+    *("***", "---", "A title\n---", "* An item", "+ An item", "1) An item", "- An item\nnot indented"),
     *("- An item\n  - in an item", "- An item\n  1. in an item", "```sh\ncode\n```", "```\ncode without an end"),
     *("| a table |\n", "| a | b |\n|---|\n", "| a |\n|---|\n| b | c |", "| a |\n|---|\n| b |\nno row"),
     *("a <b>word</b>", "<!-- nothing -->", "<a id='x'></a>A place", "an &amp;", "a \\* star", "a _word_", "a *word"),

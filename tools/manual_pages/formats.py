@@ -20,7 +20,9 @@ def formats_page(text, day, version):
     page = Page("bootswap-formats", 5, day, version, "formats of the files and outputs of bootswap")
     page.section("DESCRIPTION")
     reader = Reader(SOURCE, text)
-    for block in reader.blocks():
+    for number, block in enumerate(reader.blocks()):
+        if (block.kind == "title") != (number == 0):
+            raise reader.fault(block.line)
         add_block(page, block, reader)
     page.section("SEE ALSO")
     page.lines += SEE_ALSO.splitlines()
@@ -36,11 +38,8 @@ def add_block(page, block, reader):
             raise reader.fault(block.line)
         return found
 
-    if (block.kind == "title") != (block.line == 1):
-        raise reader.fault(block.line)
     if block.kind in ("section", "subsection"):
-        roff(block.parts[0])
-        getattr(page, block.kind)(block.parts[0].replace("`", ""))
+        add_heading(page, block, reader)
     elif block.kind == "paragraph":
         page.paragraph(roff(block.parts[0]))
     elif block.kind == "code":
@@ -49,6 +48,16 @@ def add_block(page, block, reader):
         add_list(page, [(mark, roff(text)) for mark, text in block.parts])
     elif block.kind == "table":
         add_table(page, [[(it, roff(it)) for it in row] for row in block.parts])
+
+
+def add_heading(page, block, reader):
+    """Adds a heading. Code has no font of its own there."""
+    (title,) = block.parts
+    spans = spans_of(title)
+    if spans is None or {kind for kind, *_ in spans} - {"plain", "code"}:
+        raise reader.fault(block.line)
+    add = page.section if block.kind == "section" else page.subsection
+    add("".join(it for _, it, _ in spans))
 
 
 def add_list(page, items):

@@ -106,8 +106,7 @@ class Reader:
     def items(self):
         """Yields the mark and the text of each item of a list. Its further lines are indented as far as its text."""
         while mark := MARK.match(self.line()):
-            text, space = [self.line()[mark.end() :]], " " * mark.end()
-            self.at += 1
+            text, space = [self.text_line(self.line()[mark.end() :])], " " * mark.end()
             while self.line().startswith(space):
                 text.append(self.text_line(self.line()[len(space) :]))
             yield mark[1].strip(), " ".join(text)
