@@ -7,7 +7,7 @@ ghost use Rattle.slice_flash.specs.Asked.{length_of, room_of, step_of};
 /// The length of an entry in bytes, without the bytes that a program writes.
 const HEADER: usize = 12;
 
-/// A write that is asked for.
+/// A requested write.
 #[derive(Clone, Copy)]
 pub(crate) enum Asked<'a> {
     /// Program these bytes.
