@@ -21,7 +21,6 @@ mod explained;
 mod hint;
 mod image_words;
 mod manifest_words;
-pub mod manual;
 mod order_fault_texts;
 mod orders;
 mod program;

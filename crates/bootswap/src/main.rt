@@ -6,10 +6,10 @@
 //! manifests. It runs a device on a file that boots, takes uploads and survives power cuts.
 #![tactic(auto)]
 
-use boot_cli::manual::{answer, asked_in};
 use boot_cli::{cli, note_reading};
 use device_commands::{refuse_words, words_of};
 use host::{Output, STANDARD_ERROR, STANDARD_OUTPUT, SystemHost, reserve_stack};
+use manual::{answer, asked_in};
 use std::io;
 use std::io::{ErrorKind, IsTerminal, Write};
 use std::process::ExitCode;

@@ -1,7 +1,8 @@
 //! Reads which page or script the arguments ask for.
 ghost use Rattle.std.specs.Prelude.{◌≡◌, is_some, map};
-ghost use Rattle.boot_cli.specs.Asked.{asks_here, is_topic};
+ghost use Rattle.manual.specs.Asked.{asks_here, is_topic};
 
+use crate::rows::named;
 use command_line::Subcommand;
 use std::convert::AsStr;
 
@@ -13,17 +14,31 @@ pub enum Shell {
     Fish,
 }
 
-/// What arguments that begin with `help man` or `help completions` ask for.
+/// The shells by their names.
+const SHELLS: &[(&str, Shell)] = &[
+    ("bash", Shell::Bash),
+    ("zsh", Shell::Zsh),
+    ("fish", Shell::Fish),
+];
+
+/// What `help` prints besides the help of commands.
 #[derive(Clone, Copy)]
-pub enum Asked<'a> {
+pub enum Topic {
+    /// The names of what `help` prints.
+    List,
     /// The page of the program.
     ProgramPage,
     /// The page of a command.
     CommandPage(Subcommand),
     /// A completion script.
     Script(Shell),
-    /// The names of what `help` prints: `help help`.
-    Topics,
+}
+
+/// What arguments ask for that begin with `help man` or `help completions`, or are `help help`.
+#[derive(Clone, Copy)]
+pub enum Asked<'a> {
+    /// A topic that there is.
+    Known(Topic),
     /// A command or a shell that there isn't, or a word after a shell.
     Unknown(&'a str),
     /// A word after a command.
@@ -56,7 +71,7 @@ fn topic_in<'a, S: AsStr>(topic: &str, names: &'a [S]) -> Option<Asked<'a>>
     } else if topic == "completions" {
         Some(script_in(names))
     } else if topic == "help" && names.is_empty() {
-        Some(Asked::Topics)
+        Some(Asked::Known(Topic::List))
     } else {
         None
     }
@@ -65,12 +80,14 @@ fn topic_in<'a, S: AsStr>(topic: &str, names: &'a [S]) -> Option<Asked<'a>>
 /// Returns the page that these names ask for.
 fn page_in<'a, S: AsStr>(names: &'a [S]) -> Asked<'a> {
     let [name, others @ ..] = names else {
-        return Asked::ProgramPage;
+        return Asked::Known(Topic::ProgramPage);
     };
-    match (Subcommand::of_name(name.as_str()), others) {
-        (None, _) => Asked::Unknown(name.as_str()),
-        (Some(command), []) => Asked::CommandPage(command),
-        (Some(command), [other, ..]) => Asked::TooMany(command, other.as_str()),
+    let Some(command) = Subcommand::of_name(name.as_str()) else {
+        return Asked::Unknown(name.as_str());
+    };
+    match others.first() {
+        Some(other) => Asked::TooMany(command, other.as_str()),
+        None => Asked::Known(Topic::CommandPage(command)),
     }
 }
 
@@ -79,22 +96,11 @@ fn script_in<'a, S: AsStr>(names: &'a [S]) -> Asked<'a> {
     let [name, others @ ..] = names else {
         return Asked::NoShell;
     };
-    match (shell_of(name.as_str()), others) {
-        (None, _) => Asked::Unknown(name.as_str()),
-        (Some(shell), []) => Asked::Script(shell),
-        (Some(_), [other, ..]) => Asked::Unknown(other.as_str()),
-    }
-}
-
-/// Returns the shell of this name.
-fn shell_of(name: &str) -> Option<Shell> {
-    if name == "bash" {
-        Some(Shell::Bash)
-    } else if name == "zsh" {
-        Some(Shell::Zsh)
-    } else if name == "fish" {
-        Some(Shell::Fish)
-    } else {
-        None
+    let Some(shell) = named(SHELLS, name.as_str()) else {
+        return Asked::Unknown(name.as_str());
+    };
+    match others.first() {
+        Some(other) => Asked::Unknown(other.as_str()),
+        None => Asked::Known(Topic::Script(shell)),
     }
 }

@@ -1,15 +1,17 @@
 //! Prints the page or script that was asked for.
 ghost use Rattle.std.specs.Prelude.{◌≡◌, ◌⊎◌, if◌then◌else◌};
-ghost use Rattle.boot_cli.specs.Asked.{is_known};
+ghost use Rattle.manual.specs.Asked.{is_known};
 
-use crate::manual::asked::{Asked, Shell};
-use crate::manual::{Result, bash, fish, page, zsh};
+use crate::asked::{Asked, Topic};
+use crate::page::{add_command_page, add_program_page};
+use crate::scripts::add_script;
+use crate::text_builder::TextBuilder;
 use clap::Error;
 use clap::error::ErrorKind;
 use command_line::{Subcommand, program_error, subcommand_error};
 use common::texts::Escaped;
 use host::{Refusal, refuse, status_after};
-use std::alloc::Global;
+use std::alloc::{AllocError, Global};
 use std::io;
 use std::io::Write;
 
@@ -44,31 +46,31 @@ pub fn answer<O: Write, E: Write>(alloc: Global, asked: Asked<'_>, out: &mut O, 
     ensures { (result ≡ (if is_known asked.entry then 0 else 2)) ⊎ (result ≡ 1) }
 {
     match asked {
+        Asked::Known(topic) => answer_text(text_of(alloc, topic), out, err),
         Asked::Unknown(name) => answer_fault(unknown(alloc, None, name), err),
         Asked::TooMany(command, name) => answer_fault(unknown(alloc, Some(command), name), err),
         Asked::NoShell => answer_fault(
             program_error(alloc, ErrorKind::MissingRequiredArgument, NO_SHELL),
             err,
         ),
-        Asked::Topics => answer_text(String::from_str(alloc, TOPICS), out, err),
-        Asked::ProgramPage => answer_text(page::of_program(alloc), out, err),
-        Asked::CommandPage(command) => answer_text(page::of_command(alloc, command), out, err),
-        Asked::Script(shell) => answer_text(script_of(alloc, shell), out, err),
     }
 }
 
-/// Returns the script of a shell.
-fn script_of(alloc: Global, shell: Shell) -> Result<String> {
-    match shell {
-        Shell::Bash => bash::script(alloc),
-        Shell::Zsh => zsh::script(alloc),
-        Shell::Fish => fish::script(alloc),
+/// Returns the text of a topic.
+fn text_of(alloc: Global, topic: Topic) -> Result<String, AllocError> {
+    let mut text = TextBuilder::new(alloc);
+    match topic {
+        Topic::List => text.add(TOPICS),
+        Topic::ProgramPage => add_program_page(&mut text),
+        Topic::CommandPage(command) => add_command_page(&mut text, command),
+        Topic::Script(shell) => add_script(&mut text, shell),
     }
+    text.finish()
 }
 
 /// Returns the fault of a name that isn't known, as `clap` words it for `help`. The name may come
 /// after that of a command.
-fn unknown(alloc: Global, command: Option<Subcommand>, name: &str) -> Result<Error> {
+fn unknown(alloc: Global, command: Option<Subcommand>, name: &str) -> Result<Error, AllocError> {
     let kind = ErrorKind::InvalidSubcommand;
     let text = format!(in alloc; "unrecognized subcommand '{}'", Escaped(name))?;
     match command {
@@ -78,7 +80,7 @@ fn unknown(alloc: Global, command: Option<Subcommand>, name: &str) -> Result<Err
 }
 
 /// Writes a text, or that memory ran out, and returns the exit status.
-fn answer_text<O: Write, E: Write>(text: Result<String>, out: &mut O, err: &mut E) -> u8
+fn answer_text<O: Write, E: Write>(text: Result<String, AllocError>, out: &mut O, err: &mut E) -> u8
     ensures { (result ≡ 0) ⊎ (result ≡ 1) }
 {
     match text {
@@ -88,7 +90,7 @@ fn answer_text<O: Write, E: Write>(text: Result<String>, out: &mut O, err: &mut 
 }
 
 /// Writes a fault in the arguments, or that memory ran out, and returns the exit status.
-fn answer_fault<E: Write>(fault: Result<Error>, err: &mut E) -> u8
+fn answer_fault<E: Write>(fault: Result<Error, AllocError>, err: &mut E) -> u8
     ensures { (result ≡ 2) ⊎ (result ≡ 1) }
 {
     match fault {

@@ -2,8 +2,8 @@
 use Rattle.std.specs.Prelude.{Bool, List, [], ◌∷◌, codes, false, if◌then◌else◌, true}
 use Rattle.std.specs.Str.{bytes_eq}
 use Rattle.clap.specs.Words.{Text}
-use Rattle.boot_cli.specs.declared.manual.asked.Asked.{Asked}
-use Rattle.boot_cli.specs.declared.manual.asked.Asked.TheVariants as asked
+use Rattle.manual.specs.declared.asked.Asked.{Asked}
+use Rattle.manual.specs.declared.asked.Asked.TheVariants as asked
 
 -- Whether there are no names.
 abbrev pub is_none_named : List Text → Bool
@@ -26,10 +26,7 @@ asks_here _ = false
 
 -- Whether there is what is asked for.
 abbrev pub is_known : Asked → Bool
-is_known asked.ProgramPage = true
-is_known (asked.CommandPage command) = true
-is_known (asked.Script shell) = true
-is_known asked.Topics = true
+is_known (asked.Known topic) = true
 is_known (asked.Unknown name) = false
 is_known (asked.TooMany command name) = false
 is_known asked.NoShell = false

@@ -1,0 +1,27 @@
+//! Makes manual pages and completion scripts from the definitions of the commands.
+//!
+//! - Promises: Only `help man ..`, `help completions ..` and `help help` are answered here. The exit
+//!   status says whether the page or script exists and was written.
+//! - Main calls: `asked_in`, `answer`
+//! - Allocates: the page or script, or the text of a fault.
+//! - Callers: `bootswap`
+//!
+//! Names, usage, help and options come from the tables of `command_line`, which `--help` prints
+//! too. So a page never misses an option. The texts are tested: the pages by `mandoc` and `man`, the
+//! scripts by the shells.
+#![tactic(auto)]
+
+mod answering;
+mod asked;
+mod bash;
+mod fish;
+mod listed;
+mod page;
+mod roff;
+mod rows;
+mod scripts;
+mod text_builder;
+mod zsh;
+
+pub use answering::answer;
+pub use asked::{Asked, Shell, Topic, asked_in};
