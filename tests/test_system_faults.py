@@ -77,7 +77,8 @@ def runs_with_faults():
     yield from [["make-manifest", PAIR, "--sequence", "1", "--precursor", "flash", *files], ["codes"]]
     yield from [["sweep", "--sample=1", PAIR, SCRIPT, ONE, ONE], ["sweep", PAIR, SCRIPT, ONE, "gone"]]
     yield from [["frob"], [b"\xff"], ["check", "-", "-"], ["make-image", "a", "b", "--version=x"]]
-    yield from [["--help"], ["--version"]]
+    yield from [["--help"], ["--version"], ["help", "man", "run"], ["help", "man", "frob"]]
+    yield from [["help", "completions", it] for it in ("bash", "zsh", "fish")]
 
 
 def is_explained_after(fault, got, usual):
