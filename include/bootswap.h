@@ -31,8 +31,8 @@
 extern "C" {
 #endif
 
-/* The version, as `bootswap --version` prints it. */
-#define BOOTSWAP_VERSION "0.1.0"
+/* The version, as `bootswap --version` prints it. CHANGELOG.md says what a later one may change. */
+#define BOOTSWAP_VERSION "1.0.0"
 
 /* The most images of a device, cuts of a call, dependencies and groups of an image, and alternatives of a group. */
 #define BOOTSWAP_MAX_IMAGES 8

@@ -9,6 +9,8 @@ import tempfile
 from support.files import EXAMPLES, ROOT, read
 from support.program import LIMIT, ProgramTest, short
 
+from tutorial import commands_of
+
 
 def quick_start():
     """The first command of the README and its output: the next block that begins with `done`."""
@@ -25,13 +27,6 @@ def formats_script():
     return f"{made} && ./bootswap run {files} - <<'END'\n{script}END\n", f"done\n{output}"
 
 
-def commands_of(document):
-    """The commands of a document and their outputs: `$ ` and a command, and the lines below it."""
-    for block in re.findall(r"^```console\n(.*?)^```$", read(f"{ROOT}/{document}").decode(), re.M | re.S):
-        for part in re.split(r"^\$ ", block, flags=re.M)[1:]:
-            yield part.split("\n", 1)
-
-
 class DocumentTest(ProgramTest):
     """README, the tutorial, and docs/FORMATS.md."""
 
@@ -40,7 +35,7 @@ class DocumentTest(ProgramTest):
         os.mkdir(f"{self.folder}/out")
         os.symlink(self.program, f"{self.folder}/bootswap")
         commands = [("README.md, quick start", *quick_start()), ("docs/FORMATS.md, the script", *formats_script())]
-        for number, (command, wanted) in enumerate(commands_of("docs/TUTORIAL.md"), 1):
+        for number, (command, wanted) in enumerate(commands_of("docs/TUTORIAL.md", self.version()), 1):
             commands.append((f"docs/TUTORIAL.md, command {number}", command, wanted))
         for name, command, wanted in commands:
             both = {"stdout": subprocess.PIPE, "stderr": subprocess.STDOUT}

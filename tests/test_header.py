@@ -341,12 +341,6 @@ class HeaderTest(unittest.TestCase):
             self.assertEqual((name, limits_of_c()[f"BOOTSWAP_MAX_{name}"]), (name, lengths[f"MOST_{own}"]))
         self.assertEqual(limits_of_c()["BOOTSWAP_MAX_ALTERNATIVES"], lengths["MOST_ALTERNATIVES"])
 
-    def test_version(self):
-        """The header has the version that the program prints."""
-        version = re.search(r'#define BOOTSWAP_VERSION "(.+)"', text_of(HEADER))[1]
-        printed = re.findall(r'^pub const VERSION: &str = "(\d.*)";$', "".join(sources()), re.MULTILINE)
-        self.assertEqual(printed, [version])
-
 
 if __name__ == "__main__":
     unittest.main()

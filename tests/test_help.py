@@ -246,8 +246,3 @@ class HelpTest(ProgramTest):
             status, out, err = self.run_program(arguments)
             is_help = (status, err) == (0, b"") and b"Usage: bootswap" in out and b"xit status" in out
             self.case(f"help: {' '.join(arguments)}", [] if is_help else [f"{status} {short(out)} {short(err)}"])
-
-    def test_version(self):
-        """`--version` and `-V` print the version."""
-        self.expect("the version", ["--version"], 0, b"bootswap 0.1.0\n")
-        self.expect("the version, by its letter", ["-V"], 0, b"bootswap 0.1.0\n")

@@ -72,7 +72,7 @@ class InstallTest(BuiltCloneTest):
         self.case("all files", sorted(found ^ (PLACES | examples | module)))
         mode = stat.S_IMODE(os.stat(f"{system}/usr/bin/bootswap").st_mode)
         self.case("the program can be run", [oct(mode)] * (mode != 0o755))
-        self.printed_by("its version", [f"{system}/usr/bin/bootswap", "--version"], f"bootswap {version()}\n".encode())
+        self.printed_by("its version", [f"{system}/usr/bin/bootswap", "--version"], f"bootswap {self.version()}\n".encode())
         prefix = read(f"{system}/usr/lib/pkgconfig/bootswap.pc").splitlines()[0]
         self.case("no text names the folder for the root", [prefix] * (prefix != b"prefix=/usr"))
 

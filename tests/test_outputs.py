@@ -14,7 +14,7 @@ from support.stories import flash_in, new_device
 from support.worked import PLAIN, numbered
 
 
-def commands():
+def commands(version):
     """Commands that print: their arguments, standard input, and standard output and standard error."""
     pair, none = table("pair"), b""
     described, message = read(f"{EXAMPLES}/descriptions/either.txt"), read(f"{EXAMPLES}/listings/abc.txt")
@@ -28,7 +28,7 @@ def commands():
     yield ["manifest", PAIR, "-"], read(ABC_MANIFEST), message, none
     yield ["manifest", PAIR, pair], none, b"refused 1 NotJson\n", none
     yield ["make-device", "--sector=64", "--slots=2", "--vendor=", "--class="], none, b"refused map 1 BadSector\n", none
-    yield ["--version"], none, b"bootswap 0.1.0\n", none
+    yield ["--version"], none, f"bootswap {version}\n".encode(), none
     yield ["choose", "absent"], none, none, b"error: cannot read absent\n"
     yield ["check", pair, pair], none, none, b"error: report line 1\n"
     yield ["manifest", pair, "absent"], none, none, b"error: device file\n"
@@ -71,7 +71,7 @@ class UnwritableOutputTest(ProgramTest):
     def test_little_room(self):
         """If an output has space for a part, the program writes this part and nothing more, and ends with
         status 1."""
-        for arguments, given, out, err in commands():
+        for arguments, given, out, err in commands(self.version()):
             stream, whole = ("stdout", out) if out else ("stderr", err)
             faults = []
             for room in sorted({0, 1, len(whole) // 2, len(whole) - 1}):

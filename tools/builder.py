@@ -18,9 +18,9 @@ import sys
 import time
 from concurrent.futures import FIRST_COMPLETED, ThreadPoolExecutor, wait
 
+from commits import ROOT, commit_here, write_commit
 from schedule import SECONDS, Schedule
 
-ROOT = os.path.dirname(os.path.dirname(os.path.realpath(__file__)))
 OUT = f"{ROOT}/out"
 LOG = f"{OUT}/bootswap.log"
 
@@ -175,6 +175,8 @@ class Build:
     def __init__(self, crates, toolchain, kit, held):
         self.toolchain, self.kit, self.held, self.start = toolchain, kit, held, time.monotonic()
         self.what, self.processors = COSTS[crates[-1].name], len(os.sched_getaffinity(0))
+        # That of the sources which were read just now. The build may take an hour, in which others may be committed.
+        self.commit = commit_here()
         self.most = int(0.9 * free_memory() // MEMORY)
         left = [it for it in crates if not it.is_built(toolchain)]
         self.schedule = Schedule(crates, left, self.processors, self.most)
@@ -213,12 +215,20 @@ class Build:
             # Most likely for memory, of which there may be more now, and one process takes least.
             status, said = self.call(crate.words(self.kit), crate.folder)
         if not status and crate.is_program:
-            status, more = self.call(link_words(self.kit, crate.made, f"{OUT}/{crate.name}"), crate.folder)
+            status, more = self.link(crate)
             said += more
         if not status:
             with open(crate.stamp, "w", encoding="utf-8") as it:
                 it.write(digest)
         return not status, said
+
+    def link(self, crate):
+        """Links a program and writes the commit into it, and returns the status and the output."""
+        program = f"{OUT}/{crate.name}"
+        status, said = self.call(link_words(self.kit, crate.made, program), crate.folder)
+        if not status and self.commit and not write_commit(program, *self.commit):
+            return 1, f"{said}{program} hasn't exactly one place for the commit\n"
+        return status, said
 
     def call(self, words, folder):
         """Runs a command of the toolchain, and returns its status and output.

@@ -30,7 +30,7 @@ REPORT_ROOM = 2048
 MANIFEST_ROOM = 12288
 
 # The name of the installed library. Its number is the major version.
-SHARED_NAME = "libbootswap.so.0"
+SHARED_NAME = "libbootswap.so.1"
 
 
 class Number(enum.IntEnum):

@@ -3,6 +3,7 @@
 import os
 import shutil
 import subprocess
+import sys
 
 from support.files import ROOT
 from support.libraries import TARGET, archive_for, manifest_archive_for, ran
@@ -12,6 +13,15 @@ from installing import share
 
 # What the tools need of a clone beside out/.
 NEEDED = ("bindings", "docs", "examples", "include", "tools")
+
+# Prints the stamp of the program of a clone, as its build writes it.
+STAMP = """
+import sys
+sys.path.insert(0, "tools")
+sys.dont_write_bytecode = True
+from programs import WHOLE, crates_of, stamp_of
+print(stamp_of(WHOLE, crates_of(WHOLE), "a toolchain"), end="")
+"""
 
 # The names of the static libraries.
 LIBRARIES = ("libbootswap.a", "libbootswap_manifest.a")
@@ -33,9 +43,18 @@ class BuiltCloneTest(ProgramTest):
             shutil.copy(f"{ROOT}/{name}", self.clone)
         os.mkdir(f"{self.clone}/out")
         shutil.copy(self.program, f"{self.clone}/out/bootswap")
+        # The clone has no crates, so this is the program of its sources.
+        with open(f"{self.clone}/crates.txt", "w", encoding="utf-8") as it:
+            it.write("bootswap:\n")
+        self.write_stamp()
         for archive, name in zip(self.archives, LIBRARIES):
             shutil.copy(archive, f"{self.clone}/out/{name}")
         self.assertTrue(share(self.archives, f"{self.clone}/out/libbootswap.so"))
+
+    def write_stamp(self):
+        """Writes that the program in out/ was built from the sources of the clone."""
+        with open(f"{self.clone}/out/bootswap.stamp", "w", encoding="utf-8") as it:
+            subprocess.run([sys.executable, "-c", STAMP], cwd=self.clone, stdout=it, check=True)
 
     def run_tool(self, name, *words, **how):
         """Runs a tool of the clone, and returns its status and what it says."""

@@ -4,12 +4,17 @@ import os
 import resource
 import shutil
 import subprocess
+import sys
 import tempfile
 import threading
 import time
 import unittest
 
 from support.files import EXAMPLES, ROOT
+
+sys.path.insert(0, f"{ROOT}/tools")
+
+from commits import version_in
 
 # How many seconds a run of the program may take.
 LIMIT = 20
@@ -36,6 +41,10 @@ class ProgramTest(CaseTest):
         self.addCleanup(shutil.rmtree, self.folder, ignore_errors=True)
         # Scripts name files relative to the root of the repository.
         os.symlink(EXAMPLES, f"{self.folder}/examples")
+
+    def version(self):
+        """Returns the version and the commit that the program has."""
+        return version_in(self.program)
 
     def file(self, name, contents):
         """Writes a file where the program runs, and returns its name."""

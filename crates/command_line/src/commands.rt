@@ -306,8 +306,13 @@ pub const SUBCOMMANDS: [Subcommand; 14] = [
     Subcommand::Codes,
 ];
 
-/// The version of the program.
-pub const VERSION: &str = "0.1.0";
+/// The version of the program, as in `include/bootswap.h`.
+pub const VERSION: &str = "1.0.0";
+
+/// The version and the commit, as `--version` prints them. Zeros mean that the commit is unknown. The
+/// build writes the first twelve digits of the commit over them in the linked program, and a `+` over
+/// the blank if the crates differ from the commit. So this text must occur nowhere else.
+const VERSION_AND_COMMIT: &str = "1.0.0 (000000000000)";
 
 /// Returns the program with its subcommands.
 pub fn bootswap<'a>(alloc: Global) -> Result<Command<'a>, AllocError>
@@ -325,7 +330,7 @@ fn program<'a>(alloc: Global) -> Result<Command<'a>, AllocError>
     ensures { IfOk result (λ command. app_of command ≡ program) }
 {
     let command = new_command(alloc, "bootswap", help::PROGRAM)
-        .version(VERSION)
+        .version(VERSION_AND_COMMIT)
         .subcommand_required(true);
     command.bin_name("bootswap")
 }
