@@ -1,4 +1,4 @@
-"""What the program does when a flash file is a block device, and when a write to a flash file fails."""
+"""What the program does if a flash file is a block device or can't be written."""
 
 import fcntl
 import os

@@ -11,11 +11,15 @@ from support.files import ROOT, read
 from support.libraries import ARM_TARGET, archive_for, manifest_archive_for, ran
 from support.program import short
 
+from commits import write_commit
 from installing import major, version
 
 # What packages name as the commit of their sources, and the time of their files.
 COMMIT = "0123456789abcdef0123456789abcdef01234567"
 SECONDS = "1700000000"
+
+# What the packed program prints as its version.
+VERSION = f"bootswap {version()} ({COMMIT[:12]})\n"
 
 DEBIAN = tuple(f"{it}_{version()}_amd64.deb" for it in ("bootswap", "libbootswap-dev", "python3-bootswap"))
 ARCHIVES = (f"bootswap-{version()}-x86_64-linux.tar.xz", f"libbootswap-{version()}-aarch64-linux.tar.xz")
@@ -54,8 +58,7 @@ find /usr -name '*bootswap*' -newer pair.flash
 find /usr -name '*bootswap*'
 """
 
-PRINTED = f"""bootswap {version()}
-done
+PRINTED = f"""{VERSION}done
 power failed in write 5
 permanent
 take 0 1.1.0+0
@@ -73,10 +76,14 @@ exec chroot "$shift_to/root" /bin/bash -c "$USES" uses "$@"
 """
 
 
+# A folder with a clean Debian, as `tools/try_packages --root` makes it.
+SYSTEM = os.environ.get("BOOTSWAP_DEBIAN_ROOT")
+
+
 @needs_compiler
 @unittest.skipUnless(shutil.which("dpkg-deb"), "there is no dpkg-deb")
-class PackageTest(BuiltCloneTest):
-    """Packages of a clone with the built program and libraries."""
+class PackedTest(BuiltCloneTest):
+    """A test of packages of a clone with the built program and libraries."""
 
     @classmethod
     def setUpClass(cls):
@@ -96,8 +103,13 @@ class PackageTest(BuiltCloneTest):
         said = "".join(f"out/packages/{it}\n" for it in (*DEBIAN, *ARCHIVES, "SHA256SUMS")).encode()
         self.expect_tool("the packages are made", "package", said=said, env=self.environment)
 
+
+class PackageTest(PackedTest):
+    """What is in the packages, and that they can be used on this system."""
+
     def test_same_bytes(self):
-        """Packages have the same bytes, whenever they are made and whoever made the files."""
+        """Packages have the same bytes, whenever they are made, whoever made the files, and whichever commit with the same
+        crates the program was built from."""
         self.package()
         first = {it: read(f"{self.made}/{it}") for it in os.listdir(self.made)}
         for at, _, names in os.walk(f"{self.clone}/examples"):
@@ -105,6 +117,8 @@ class PackageTest(BuiltCloneTest):
                 os.utime(f"{at}/{name}", (1, 1))
                 os.chmod(f"{at}/{name}", 0o600 | os.stat(f"{at}/{name}").st_mode & 0o100)
         shutil.rmtree(self.made)
+        write_commit(f"{self.clone}/out/bootswap", "f" * 40, differs=True)
+        self.write_stamp()
         self.package()
         for name, contents in sorted(first.items()):
             self.case(name, [] if read(f"{self.made}/{name}") == contents else ["the bytes differ"])
@@ -130,7 +144,7 @@ class PackageTest(BuiltCloneTest):
             faults, _ = ran(["tar", "--extract", "--file", f"{self.made}/{name}"], cwd=self.folder)
             self.case(f"{name} is unpacked", faults)
         here, arm = (f"{self.folder}/{it.removesuffix('.tar.xz')}" for it in ARCHIVES)
-        self.printed_by("the program runs", [f"{here}/bin/bootswap", "--version"], f"bootswap {version()}\n".encode())
+        self.printed_by("the program runs", [f"{here}/bin/bootswap", "--version"], VERSION.encode())
         self.case("the library for ARM", [] if read(f"{arm}/lib/libbootswap.a") == read(self.arm[0]) else ["it differs"])
         self.case("its header", [] if os.path.exists(f"{arm}/include/bootswap.h") else ["there is none"])
 
@@ -165,9 +179,19 @@ class PackageTest(BuiltCloneTest):
         del self.environment["SOURCE_DATE_EPOCH"]
         said = b"package: there is no commit to take the time from: set SOURCE_DATE_EPOCH\n"
         self.expect_tool("without a time", "package", status=1, said=said, env=self.environment)
+        self.environment["SOURCE_COMMIT"] = COMMIT[:12]
+        said = f"package: SOURCE_COMMIT isn't a complete commit: {COMMIT[:12]}\n".encode()
+        self.expect_tool("with a prefix of a commit", "package", status=1, said=said, env=self.environment)
         del self.environment["SOURCE_COMMIT"]
         said = b"package: commit the changes first, or name the commit of the sources in SOURCE_COMMIT\n"
         self.expect_tool("without a commit", "package", status=1, said=said, env=self.environment)
+
+    def test_old_program(self):
+        """A program that wasn't built from the sources isn't packed, since it would name their commit."""
+        said = b"package: out/bootswap isn't built from these sources: run ./bootswap codes\n"
+        with open(f"{self.clone}/crates.txt", "a", encoding="utf-8") as it:
+            it.write("another: \nbootswap: another\n")
+        self.expect_tool("with another crate", "package", status=1, said=said, env=self.environment)
 
     def test_verify(self):
         """An archive has the bytes that its commit makes anew, or it is named which of its files differ."""
@@ -183,6 +207,8 @@ class PackageTest(BuiltCloneTest):
         self.case("it has these bytes", [f"{status}: {short(said)}"] * (status != 0 or not said.startswith(wanted)))
         ran(["tar", "--extract", "--file", kept], cwd=self.folder)
         top = ARCHIVES[0].removesuffix(".tar.xz")
+        printed = f"bootswap {version()} ({commit[:12]})\n".encode()
+        self.printed_by("its program names the commit", [f"{self.folder}/{top}/bin/bootswap", "--version"], printed)
         with open(f"{self.folder}/{top}/bin/bootswap", "ab") as it:
             it.write(b"!")
         ran(["tar", "--create", "--xz", "--file", kept, top], cwd=self.folder)
@@ -205,3 +231,15 @@ class PackageTest(BuiltCloneTest):
             faults, _ = ran(["git", "-C", self.clone, *words])
             self.case(f"git {words[0]}", faults)
         return ran(["git", "-C", self.clone, "rev-parse", "HEAD"])[1].decode().strip()
+
+
+@unittest.skipUnless(os.getuid() == 0 and SYSTEM, "root has to name a clean Debian in BOOTSWAP_DEBIAN_ROOT")
+class CleanSystemTest(PackedTest):
+    """The packages on a system that has neither the clone nor the toolchain."""
+
+    def test_clean_system(self):
+        """They are installed, used as the documents say, and removed again, and nothing of them is left."""
+        self.package()
+        shutil.copytree(f"{ROOT}/docs", f"{self.clone}/docs")
+        status, said = self.run_tool("try_packages", "--root", SYSTEM)
+        self.case("all checks", [said.decode()] * (status != 0))

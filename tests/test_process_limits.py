@@ -1,4 +1,4 @@
-"""What the program does at the limits of a process: of the length of its files and of its memory.
+"""What the program does at the limits of a process: file size and memory.
 
 It also checks that each error line is one write.
 """

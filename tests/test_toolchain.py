@@ -1,4 +1,4 @@
-"""That `rt ci` passes in a clone, before and after `./bootswap` built there."""
+"""That `rt ci` passes before and after `./bootswap` built."""
 
 import os
 import re

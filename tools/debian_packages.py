@@ -89,6 +89,10 @@ ABOUT = {
 }
 
 
+# The names of the packages.
+NAMES = tuple(ABOUT)
+
+
 class Package(NamedTuple):
     """A package: its name, its section, what it depends on, and its files below the prefix."""
 
@@ -96,6 +100,11 @@ class Package(NamedTuple):
     section: str
     depends: list
     files: list
+
+
+def file_of(name):
+    """Returns the file name of a package."""
+    return f"{name}_{version()}_amd64.deb"
 
 
 def debian_packages(folder, made, seconds, built):
@@ -147,7 +156,7 @@ def debian_package(package, folder, top, seconds):
     seal(top, package)
     for path in [top, *paths_below(top)]:
         os.utime(path, (seconds, seconds), follow_symlinks=False)
-    name = f"{package.name}_{version()}_amd64.deb"
+    name = file_of(package.name)
     words = ["dpkg-deb", "--root-owner-group", "-Zxz", "--build", top, f"{folder}/{name}"]
     environment = {**os.environ, "SOURCE_DATE_EPOCH": str(seconds)}
     subprocess.run(words, env=environment, stdin=subprocess.DEVNULL, stdout=subprocess.DEVNULL, check=True)
