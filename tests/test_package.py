@@ -186,6 +186,14 @@ class PackageTest(PackedTest):
         said = b"package: commit the changes first, or name the commit of the sources in SOURCE_COMMIT\n"
         self.expect_tool("without a commit", "package", status=1, said=said, env=self.environment)
 
+    def test_nothing_to_try(self):
+        """Without packages nothing is tried, and no system is made."""
+        said = f"try_packages: out/packages/{DEBIAN[0]} isn't built: run tools/package\n".encode()
+        self.expect_tool("without packages", "try_packages", "--root", f"{self.folder}/system", status=1, said=said)
+        self.case("no system", ["there is one"] * os.path.exists(f"{self.folder}/system"))
+        status, _ = self.run_tool("try_packages", "here")
+        self.case("with an argument", [f"status {status}"] * (status != 2))
+
     def test_old_program(self):
         """A program that wasn't built from the sources isn't packed, since it would name their commit."""
         said = b"package: out/bootswap isn't built from these sources: run ./bootswap codes\n"

@@ -69,7 +69,9 @@ class CleanSystem:
         return done.returncode, done.stdout.decode(errors="replace")
 
     def words(self, user, *words):
-        return ["chroot", f"--userspec={user}:{user}", "--groups=", self.root, *words]
+        """Returns the command that runs another one in the system, in which it has a /proc."""
+        system = ["unshare", f"--mount-proc={self.root}/proc", "chroot", f"--userspec={user}:{user}", "--groups="]
+        return [*system, self.root, *words]
 
     def case(self, name, faults):
         """Reports a check, and returns whether it passed."""
