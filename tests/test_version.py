@@ -45,7 +45,7 @@ class VersionTest(ProgramTest):
 
     def test_changelog(self):
         """The last release of the changelog is this version, on the day that manual pages have."""
-        day = re.search(r'^const RELEASED: &str = "(.*)";$', read(f"{ROOT}/crates/boot_cli/src/manual/page.rt").decode(), re.M)[1]
+        day = re.search(r'^const EDITION: &str = " 1 (\S*) ', read(f"{ROOT}/crates/manual/src/page.rt").decode(), re.M)[1]
         last = re.search(r"^## \[\d.*$", read(f"{ROOT}/CHANGELOG.md").decode(), re.MULTILINE)[0]
         self.case("the last release", [last] * (last != f"## [{version()}] - {day}"))
 
