@@ -1,28 +1,21 @@
-use Rattle.std.proofs.Common.{ℕ, List, Ok, ap, take, subst, ◌∙◌, rules}
+use Rattle.std.proofs.Common.{Ok, ap, take, ◌∙◌, rules}
 use Rattle.common.proofs.Results.{IfErr-passed}
-use Rattle.image_reading.specs.Fault.{IsFirstFault}
-use Rattle.image_reading.specs.Image.{IsIntact}
 use Rattle.image_reading.specs.Slot.{file_bytes}
 use Rattle.image_reading.proofs.Answered.{only_file_in_slot}
 use Rattle.image_reading.proofs.slot.describe_file.Goals as goal
 
 pub returns-in_err-description-clause-fault : goal.returns-in_err-description-clause-fault
 returns-in_err-description-clause-fault g c =
-    let chip = g.F.Flash.chip c.args.flash.now in
-    let slot = c.slot_span.ensures.bytes chip c.requires.laid_out in
-    let same = c.first-file.ensures.bytes chip ∙ ap (take c.args.len) slot in
-    let fault = c.in_err-description.field-0.0 in
-    let own = rw c.read.ensures.same at c.in_err-description.ensures.fault in
-    let here = subst (λ (bytes : List ℕ). IsFirstFault bytes fault) same own in
-    IfErr-passed _ _ _ c.from_residual-in_err-description.ensures.1 (c.in_ok-read.ensures.on, here)
+    let slot = c.slot_span.ensures.bytes _ c.requires.laid_out in
+    let same = c.first-file.ensures.bytes _ ∙ ap (take c.args.len) slot in
+    let own = rw (c.read.ensures.same, same) at c.in_err-description.ensures.fault in
+    IfErr-passed _ _ _ c.from_residual-in_err-description.ensures.1 (c.in_ok-read.ensures.on, own)
 
 pub returns-clause-described : goal.returns-clause-described
 returns-clause-described g c =
-    let chip = g.F.Flash.chip c.args.flash.now in
-    let slot = c.slot_span.ensures.bytes chip c.requires.laid_out in
-    let same = c.first-file.ensures.bytes chip ∙ ap (take c.args.len) slot in
-    let own = rw c.read.ensures.same at c.in_ok-description.ensures.described in
-    subst (λ (bytes : List ℕ). IsIntact bytes c.in_ok-description.description) same own
+    let slot = c.slot_span.ensures.bytes _ c.requires.laid_out in
+    let same = c.first-file.ensures.bytes _ ∙ ap (take c.args.len) slot in
+    rw (c.read.ensures.same, same) at c.in_ok-description.ensures.described
 
 pub returns-in_err-description-clause-only : goal.returns-in_err-description-clause-only
 returns-in_err-description-clause-only g c =

@@ -1,26 +1,19 @@
-use Rattle.std.proofs.Common.{ℕ, List, Ok, subst, rules}
+use Rattle.std.proofs.Common.{Ok, rules}
 use Rattle.common.proofs.Results.{IfErr-passed}
-use Rattle.image_reading.specs.Fault.{IsFrontFault}
-use Rattle.image_reading.specs.Image.{BeginsIntact}
 use Rattle.image_reading.specs.Slot.{slot_bytes}
 use Rattle.image_reading.proofs.Answered.{only_front_in_slot}
 use Rattle.image_reading.proofs.slot.describe_slot.Goals as goal
 
 pub returns-in_err-description-clause-fault : goal.returns-in_err-description-clause-fault
 returns-in_err-description-clause-fault g c =
-    let chip = g.F.Flash.chip c.args.flash.now in
-    let same = c.slot_span.ensures.bytes chip c.requires.laid_out in
-    let fault = c.in_err-description.field-0.0 in
-    let own = rw c.read.ensures.same at c.in_err-description.ensures.fault in
-    let here = subst (λ (bytes : List ℕ). IsFrontFault bytes fault) same own in
-    IfErr-passed _ _ _ c.from_residual-in_err-description.ensures.1 (c.in_ok-read.ensures.on, here)
+    let same = c.slot_span.ensures.bytes _ c.requires.laid_out in
+    let own = rw (c.read.ensures.same, same) at c.in_err-description.ensures.fault in
+    IfErr-passed _ _ _ c.from_residual-in_err-description.ensures.1 (c.in_ok-read.ensures.on, own)
 
 pub returns-clause-described : goal.returns-clause-described
 returns-clause-described g c =
-    let chip = g.F.Flash.chip c.args.flash.now in
-    let same = c.slot_span.ensures.bytes chip c.requires.laid_out in
-    let own = rw c.read.ensures.same at c.in_ok-description.ensures.described in
-    subst (λ (bytes : List ℕ). BeginsIntact bytes c.in_ok-description.description) same own
+    let same = c.slot_span.ensures.bytes _ c.requires.laid_out in
+    rw (c.read.ensures.same, same) at c.in_ok-description.ensures.described
 
 pub returns-in_err-description-clause-only : goal.returns-in_err-description-clause-only
 returns-in_err-description-clause-only g c =
