@@ -62,55 +62,10 @@ fn read_request<F: Flash>(flash: &mut F, map: &SectorMap, image: u8) -> Result<R
     }
 }
 
-/// Returns the row of an image at rest, or none if the running image isn't intact. It runs from the
-/// primary slot.
-fn read_row_at_rest<F: Flash>(
-    flash: &mut F,
-    map: &SectorMap,
-    image: u8,
-    floor: u32,
-) -> Result<Option<Image>>
-    requires { HasImage map.now image (F.chip flash.old) }
-    ensures { ReadsRow map.now image false floor (F.chip flash.old) (F.chip flash.new) result }
-{
-    match read_slot(flash, map, image, Side::Primary)? {
-        None => Ok(None),
-        Some(running) => {
-            let request = read_request(flash, map, image)?;
-            Ok(Some(Image {
-                running,
-                request,
-                floor,
-            }))
-        }
-    }
-}
-
-/// Returns the row of an image whose slots are swapped, or none if the image in either slot isn't
-/// intact. The secondary slot has what ran, and the primary slot what was requested.
-fn read_swapped_row<F: Flash>(
-    flash: &mut F,
-    map: &SectorMap,
-    image: u8,
-    floor: u32,
-) -> Result<Option<Image>>
-    requires { HasImage map.now image (F.chip flash.old) }
-    ensures { ReadsRow map.now image true floor (F.chip flash.old) (F.chip flash.new) result }
-{
-    match read_slot(flash, map, image, Side::Secondary)? {
-        None => Ok(None),
-        Some(running) => match read_slot(flash, map, image, Side::Primary)? {
-            None => Ok(None),
-            Some(entry) => Ok(Some(Image {
-                running,
-                request: Request::Entry(entry),
-                floor,
-            })),
-        },
-    }
-}
-
-/// Returns the row of an image, at rest or swapped.
+/// Returns the row of an image, or none if an image that it needs isn't intact.
+///
+/// At rest the primary slot has the running image. If the slots are swapped, the secondary slot has
+/// what ran, and the primary slot what was requested.
 fn read_row<F: Flash>(
     flash: &mut F,
     map: &SectorMap,
@@ -121,11 +76,27 @@ fn read_row<F: Flash>(
     requires { HasImage map.now image (F.chip flash.old) }
     ensures { ReadsRow map.now image is_swapped floor (F.chip flash.old) (F.chip flash.new) result }
 {
-    if is_swapped {
-        read_swapped_row(flash, map, image, floor)
+    let side = if is_swapped {
+        Side::Secondary
     } else {
-        read_row_at_rest(flash, map, image, floor)
-    }
+        Side::Primary
+    };
+    let Some(running) = read_slot(flash, map, image, side)? else {
+        return Ok(None);
+    };
+    let request = if is_swapped {
+        match read_slot(flash, map, image, Side::Primary)? {
+            None => return Ok(None),
+            Some(entry) => Request::Entry(entry),
+        }
+    } else {
+        read_request(flash, map, image)?
+    };
+    Ok(Some(Image {
+        running,
+        request,
+        floor,
+    }))
 }
 
 /// Reads the table of a device: what runs, and what is requested.
