@@ -33,7 +33,7 @@ mod word_values;
 mod words;
 
 pub use command_line::{Order, OrderError, ReadOrder, Request};
-pub use host::{Access, Answer, FlashFault, Host, Refusal, Replaced};
+pub use host::{Access, Answer, FilePart, FlashFault, Host, Refusal, Replaced};
 pub use inspecting::{
     ChooseEnd, FlashText, check_over, choose_over, describe_over, flash_text_over, tell_over,
 };

@@ -7,7 +7,7 @@ ghost use Rattle.host.specs.Input.{IsKnownAs, KeepsFiles};
 ghost use Rattle.creating.specs.NewFileEnd.{HoldsImage, MayReplace};
 
 use command_line::NewFile;
-use host::{FlashFault, Host, Refusal, Replaced, Source, SourceFault};
+use host::{FilePart, FlashFault, Host, Refusal, Replaced, Source, SourceFault};
 use image_header::{HEADER_LENGTH, Header};
 use std::alloc::Global;
 use std::io;
@@ -78,7 +78,11 @@ fn refuse_other<H: Host>(alloc: Global, host: &H, name: &str) -> Result<(), Refu
 fn holds_image<H: Host>(alloc: Global, host: &H, name: &str) -> io::Result<bool>
     ensures { IfOk result (λ holds. holds ≡ true → HoldsImage (H.file host.now name.now)) }
 {
-    match host.read_part(alloc, name, 0, HEADER_LENGTH)? {
+    let front = FilePart {
+        from: 0,
+        count: HEADER_LENGTH,
+    };
+    match host.read_part(alloc, name, front)? {
         Some(front) => Ok(Header::read(&front).is_ok()),
         None => Ok(host.read_again(alloc, name, 0)?.is_empty()),
     }

@@ -3,7 +3,7 @@
 ghost use Rattle.std.specs.Prelude.{◌≡◌};
 
 use crate::read_log::ReadLog;
-use host::{Access, FlashFault, Host, Replaced, Source};
+use host::{Access, FilePart, FlashFault, Host, Replaced, Source};
 use std::alloc::Global;
 use std::cell::Cell;
 use std::io;
@@ -101,14 +101,8 @@ impl<H: Host> Host for Remembering<H> {
         read
     }
 
-    fn read_part(
-        &self,
-        alloc: Global,
-        name: &str,
-        from: usize,
-        count: usize,
-    ) -> io::Result<Option<Vec<u8>>> {
-        let read = self.host.read_part(alloc, name, from, count);
+    fn read_part(&self, alloc: Global, name: &str, part: FilePart) -> io::Result<Option<Vec<u8>>> {
+        let read = self.host.read_part(alloc, name, part);
         match &read {
             Ok(Some(_)) => {}
             Ok(None) => self.remember_length(name),

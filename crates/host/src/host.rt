@@ -22,6 +22,15 @@ pub enum Access {
     WriteDurably,
 }
 
+/// A part of a file.
+#[derive(Clone, Copy)]
+pub struct FilePart {
+    /// The number of bytes before it.
+    pub from: usize,
+    /// Its length in bytes.
+    pub count: usize,
+}
+
 /// What a new file may replace.
 #[derive(Clone, Copy, PartialEq, Eq)]
 pub enum Replaced {
@@ -101,17 +110,11 @@ pub trait Host {
         ensures { IfOk result (λ bytes. length bytes.items ≤ most
             → IsKnownAs (file self.now name.now) bytes.items) };
 
-    /// Reads `count` bytes of the file of this name from byte `from` on, into memory of `alloc`.
-    /// Returns `None` if the file doesn't have them. No other byte of a plain file is read.
-    fn read_part(
-        &self,
-        alloc: Global,
-        name: &str,
-        from: usize,
-        count: usize,
-    ) -> io::Result<Option<Vec<u8>>>
-        ensures { IfOk result (λ read. IfSome read (λ part.
-            IsKnownPart (file self.now name.now) from count part.items)) };
+    /// Reads a part of the file of this name into memory of `alloc`. Returns `None` if the file
+    /// doesn't have it. No other byte of a plain file is read.
+    fn read_part(&self, alloc: Global, name: &str, part: FilePart) -> io::Result<Option<Vec<u8>>>
+        ensures { IfOk result (λ read. IfSome read (λ found.
+            IsKnownPart (file self.now name.now) part.from part.count found.items)) };
 
     /// Returns whether the file of this name is a plain one, which can be read again. A pipe gives
     /// its bytes once. An error of kind `NotFound` means that there is no such file.

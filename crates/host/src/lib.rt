@@ -23,7 +23,7 @@ mod system;
 
 pub use answer::{Answer, finish, refuse, status_after};
 pub use error::{Refusal, SourceFault, SourceRefusal};
-pub use host::{Access, FlashFault, Host, Replaced};
+pub use host::{Access, FilePart, FlashFault, Host, Replaced};
 pub use limits::{MOST_FILE, MOST_JSON, MOST_SCRIPT, MOST_TABLE};
 pub use source::Source;
 pub use system::{Output, STANDARD_ERROR, STANDARD_OUTPUT, SystemHost, reserve_stack};

@@ -10,7 +10,7 @@ ghost use Rattle.inputs.specs.Script.{Comes, IsPieceOf, ReadsFile};
 
 use crate::checking::BufferedInput;
 use common::event::Event;
-use host::{Host, MOST_FILE, Refusal, Source, SourceFault};
+use host::{FilePart, Host, MOST_FILE, Refusal, Source, SourceFault};
 use script::{FileText, PartText};
 use std::alloc::Global;
 
@@ -203,7 +203,7 @@ fn part_at<H: Host>(
     ensures refused { IfErr result (λ refusal. status_of_refusal refusal ≡ 1) }
 {
     let source = Source::File(name);
-    match host.read_part(alloc, name, from, count) {
+    match host.read_part(alloc, name, FilePart { from, count }) {
         Ok(Some(part)) if part.len() > MOST_FILE as usize => {
             Err(source.refused(alloc, SourceFault::TooLong(MOST_FILE)))
         }

@@ -1,6 +1,6 @@
 //! A host for tests: files and standard input in memory.
 
-use boot_cli::{Access, FlashFault, Host, Replaced};
+use boot_cli::{Access, FilePart, FlashFault, Host, Replaced};
 use std::alloc::{AllocError, Global};
 use std::cell::Cell;
 use std::io::ErrorKind;
@@ -100,14 +100,9 @@ impl Host for MemoryHost {
         start_of(alloc, self.bytes_of(name)?, most)
     }
 
-    fn read_part(
-        &self,
-        alloc: Global,
-        name: &str,
-        from: usize,
-        count: usize,
-    ) -> io::Result<Option<Vec<u8>>> {
+    fn read_part(&self, alloc: Global, name: &str, part: FilePart) -> io::Result<Option<Vec<u8>>> {
         let bytes = self.bytes_of(name)?;
+        let FilePart { from, count } = part;
         if from > bytes.len() || count > bytes.len() - from {
             return Ok(None);
         }

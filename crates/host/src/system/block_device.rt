@@ -32,9 +32,11 @@ struct Number {
     minor: u64,
 }
 
-/// A block device, and the whole disk if it is a part of one.
-#[derive(Clone, Copy)]
-struct Device {
+/// A block device of a system, and the whole disk if it is a part of one.
+#[derive(Drop)]
+struct Device<'a, R> {
+    runtime: &'a R,
+    alloc: Global,
     number: Number,
     disk: Option<Number>,
 }
@@ -60,7 +62,17 @@ pub fn hold_number<R: Files<File = File>>(
     if let Some(common) = &common {
         lock(common, access)?;
     }
-    if access != Access::Read && is_in_use(runtime, alloc, number).map_err(fault_of)? {
+    if access == Access::Read {
+        return Ok(common);
+    }
+    let disk = disk_of(runtime, alloc, number).map_err(fault_of)?;
+    let device = Device {
+        runtime,
+        alloc,
+        number,
+        disk,
+    };
+    if device.is_in_use().map_err(fault_of)? {
         return Err(FlashFault::InUse);
     }
     Ok(common)
@@ -82,21 +94,6 @@ fn number_of(found: &Metadata) -> Option<Number> {
 fn path_of(alloc: Global, number: Number, name: &str) -> io::Result<String> {
     let Number { major, minor } = number;
     Ok(format!(in alloc; "/sys/dev/block/{major}:{minor}/{name}")?)
-}
-
-/// Returns whether the system uses the device of this number, its disk or a part of it.
-fn is_in_use<R: Files<File = File>>(
-    runtime: &R,
-    alloc: Global,
-    number: Number,
-) -> io::Result<bool> {
-    let disk = disk_of(runtime, alloc, number)?;
-    let device = Device { number, disk };
-    Ok(
-        is_mounted(runtime, alloc, device)?
-            || is_swapped_to(runtime, alloc, device)?
-            || is_held(runtime, alloc, device)?,
-    )
 }
 
 /// Returns the disk that the device of this number is a part of.
@@ -131,43 +128,6 @@ fn lines_of<R: Files<File = File>>(runtime: &R, alloc: Global, name: &str) -> io
     }
 }
 
-/// Returns whether `other` is the device, its disk or a part of it.
-fn is_of_device<R: Files<File = File>>(
-    runtime: &R,
-    alloc: Global,
-    device: Device,
-    other: Option<Number>,
-) -> io::Result<bool> {
-    let Some(other) = other else {
-        return Ok(false);
-    };
-    if other == device.number || device.disk == Some(other) {
-        return Ok(true);
-    }
-    Ok(disk_of(runtime, alloc, other)? == Some(device.number))
-}
-
-/// Returns whether the device is mounted. Its number is the third word of a line. Some file systems
-/// have no such number there. Their node is the third word from the word `-` on.
-fn is_mounted<R: Files<File = File>>(
-    runtime: &R,
-    alloc: Global,
-    device: Device,
-) -> io::Result<bool> {
-    let mounts = lines_of(runtime, alloc, MOUNTS)?;
-    for line in mounts.split(|byte| *byte == b'\n') {
-        let mut words = line.split(|byte| *byte == b' ');
-        let number = words.nth(2).and_then(number_in);
-        let node = words.skip_while(|word| *word != b"-".as_slice()).nth(2);
-        if is_of_device(runtime, alloc, device, number)?
-            || is_of_device(runtime, alloc, device, number_at(runtime, node))?
-        {
-            return Ok(true);
-        }
-    }
-    Ok(false)
-}
-
 /// Returns the number of the block device that a node of this name is of.
 fn number_at<R: Files>(runtime: &R, name: Option<&[u8]>) -> Option<Number> {
     let name = str::from_utf8(name?).ok()?;
@@ -177,50 +137,79 @@ fn number_at<R: Files>(runtime: &R, name: Option<&[u8]>) -> Option<Number> {
     number_of(&fs::metadata(runtime, name).ok()?)
 }
 
-/// Returns whether memory is swapped to the device. Its node is the first word of a line.
-fn is_swapped_to<R: Files<File = File>>(
-    runtime: &R,
-    alloc: Global,
-    device: Device,
-) -> io::Result<bool> {
-    let swaps = lines_of(runtime, alloc, SWAPS)?;
-    for line in swaps.split(|byte| *byte == b'\n') {
-        let node = line.split(|byte| *byte == b' ' || *byte == b'\t').next();
-        if is_of_device(runtime, alloc, device, number_at(runtime, node))? {
+impl<R: Files<File = File>> Device<'_, R> {
+    /// Returns whether the system uses the device, its disk or a part of it.
+    fn is_in_use(&self) -> io::Result<bool> {
+        Ok(self.is_mounted()? || self.is_swapped_to()? || self.is_held()?)
+    }
+
+    /// Returns whether `other` is the device, its disk or a part of it.
+    fn overlaps(&self, other: Option<Number>) -> io::Result<bool> {
+        let Some(other) = other else {
+            return Ok(false);
+        };
+        if other == self.number || self.disk == Some(other) {
             return Ok(true);
         }
+        Ok(disk_of(self.runtime, self.alloc, other)? == Some(self.number))
     }
-    Ok(false)
-}
 
-/// Returns whether device mapper or the like holds the device, its disk or a part of it.
-fn is_held<R: Files>(runtime: &R, alloc: Global, device: Device) -> io::Result<bool> {
-    let own = path_of(alloc, device.number, "")?;
-    Ok(
-        has_holders(runtime, alloc, own.as_str(), "")?
-            || is_disk_held(runtime, alloc, device.disk)?
-            || is_part_held(runtime, alloc, own.as_str())?,
-    )
-}
-
-/// Returns whether something holds this disk.
-fn is_disk_held<R: Files>(runtime: &R, alloc: Global, disk: Option<Number>) -> io::Result<bool> {
-    let Some(disk) = disk else {
-        return Ok(false);
-    };
-    let folder = path_of(alloc, disk, "")?;
-    has_holders(runtime, alloc, folder.as_str(), "")
-}
-
-/// Returns whether something holds a part of the device that has this folder.
-fn is_part_held<R: Files>(runtime: &R, alloc: Global, folder: &str) -> io::Result<bool> {
-    let names = names_in(runtime, alloc, folder)?;
-    for name in names.split(|byte| *byte == 0) {
-        if is_held_part(runtime, alloc, folder, name)? {
-            return Ok(true);
+    /// Returns whether the device is mounted. Its number is the third word of a line. Some file
+    /// systems have no such number there. Their node is the third word from the word `-` on.
+    fn is_mounted(&self) -> io::Result<bool> {
+        let mounts = lines_of(self.runtime, self.alloc, MOUNTS)?;
+        for line in mounts.split(|byte| *byte == b'\n') {
+            let mut words = line.split(|byte| *byte == b' ');
+            let number = words.nth(2).and_then(number_in);
+            let node = words.skip_while(|word| *word != b"-".as_slice()).nth(2);
+            if self.overlaps(number)? || self.overlaps(number_at(self.runtime, node))? {
+                return Ok(true);
+            }
         }
+        Ok(false)
     }
-    Ok(false)
+
+    /// Returns whether memory is swapped to the device. Its node is the first word of a line.
+    fn is_swapped_to(&self) -> io::Result<bool> {
+        let swaps = lines_of(self.runtime, self.alloc, SWAPS)?;
+        for line in swaps.split(|byte| *byte == b'\n') {
+            let node = line.split(|byte| *byte == b' ' || *byte == b'\t').next();
+            if self.overlaps(number_at(self.runtime, node))? {
+                return Ok(true);
+            }
+        }
+        Ok(false)
+    }
+
+    /// Returns whether device mapper or the like holds the device, its disk or a part of it.
+    fn is_held(&self) -> io::Result<bool> {
+        let own = path_of(self.alloc, self.number, "")?;
+        Ok(
+            has_holders(self.runtime, self.alloc, own.as_str(), "")?
+                || self.is_disk_held()?
+                || self.is_part_held(own.as_str())?,
+        )
+    }
+
+    /// Returns whether something holds its disk.
+    fn is_disk_held(&self) -> io::Result<bool> {
+        let Some(disk) = self.disk else {
+            return Ok(false);
+        };
+        let folder = path_of(self.alloc, disk, "")?;
+        has_holders(self.runtime, self.alloc, folder.as_str(), "")
+    }
+
+    /// Returns whether something holds a part of the device, which has this folder.
+    fn is_part_held(&self, folder: &str) -> io::Result<bool> {
+        let names = names_in(self.runtime, self.alloc, folder)?;
+        for name in names.split(|byte| *byte == 0) {
+            if is_held_part(self.runtime, self.alloc, folder, name)? {
+                return Ok(true);
+            }
+        }
+        Ok(false)
+    }
 }
 
 /// Returns whether this name in the folder of a device is a part of it that something holds.

@@ -4,7 +4,7 @@ ghost use Rattle.std.specs.Prelude.{◌≡◌, ◌+◌, ◌≤◌, IfOk, IfSome,
 ghost use Rattle.host.specs.Input.{IsKnownAs, IsKnownPart};
 ghost use Rattle.host.specs.Passing.{BeginsWith, Passes};
 
-use crate::MOST_FILE;
+use crate::{FilePart, MOST_FILE};
 use std::alloc::Global;
 use std::fs::{File, OpenFile};
 use std::io::{ErrorKind, Read};
@@ -47,9 +47,9 @@ pub fn is_plain<R: Files>(runtime: &R, name: &str) -> io::Result<bool> {
     Ok(fs::metadata(runtime, name)?.is_file())
 }
 
-/// Reads `count` bytes of the file of this name from byte `from` on, into memory of `alloc`.
-/// Returns `None` if the file doesn't have them. Nothing else is read of a plain file. A pipe or a
-/// device has no known length, so it is read from its front up to the end of the part.
+/// Reads a part of the file of this name into memory of `alloc`. Returns `None` if the file doesn't
+/// have it. Nothing else is read of a plain file. A pipe or a device has no known length, so it is
+/// read from its front up to the end of the part.
 ///
 /// # Errors
 /// One of kind `FileTooLarge` if the part has more than [`MOST_FILE`] bytes. The same is returned
@@ -58,12 +58,12 @@ pub fn read_part<R: Files<File = File>>(
     runtime: &R,
     alloc: Global,
     name: &str,
-    from: usize,
-    count: usize,
+    part: FilePart,
 ) -> io::Result<Option<Vec<u8>>>
-    ensures many { IfOk result (λ read. IfSome read (λ part. length part.items ≡ count)) }
-    ensures most { IfOk result (λ read. IfSome read (λ part. length part.items ≤ MOST_FILE)) }
+    ensures many { IfOk result (λ read. IfSome read (λ found. length found.items ≡ part.count)) }
+    ensures most { IfOk result (λ read. IfSome read (λ found. length found.items ≤ MOST_FILE)) }
 {
+    let FilePart { from, count } = part;
     let mut file = File::open(runtime, name)?;
     let found = file.metadata()?;
     if !found.is_file() {

@@ -4,7 +4,7 @@ ghost use Rattle.std.specs.Prelude.{◌≡◌, IfOk, length};
 
 use crate::system::holding::HeldFile;
 use crate::system::{file_reading, holding, replacing};
-use crate::{Access, FlashFault, Host, Replaced};
+use crate::{Access, FilePart, FlashFault, Host, Replaced};
 use std::alloc::Global;
 use std::fs::File;
 use std::io;
@@ -56,14 +56,8 @@ impl<R: Files<File = File> + Clock + RandomSource, I: Read> Host for SystemHost<
         file_reading::read_start(self.runtime, alloc, name, most)
     }
 
-    fn read_part(
-        &self,
-        alloc: Global,
-        name: &str,
-        from: usize,
-        count: usize,
-    ) -> io::Result<Option<Vec<u8>>> {
-        file_reading::read_part(self.runtime, alloc, name, from, count)
+    fn read_part(&self, alloc: Global, name: &str, part: FilePart) -> io::Result<Option<Vec<u8>>> {
+        file_reading::read_part(self.runtime, alloc, name, part)
     }
 
     fn is_plain(&self, name: &str) -> io::Result<bool> {
