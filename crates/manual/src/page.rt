@@ -37,7 +37,7 @@ pub fn add_command_page(page: &mut TextBuilder, command: Subcommand) {
     }
     page.add(HELP_OPTION);
     add_text(page, help.long_after);
-    page.add(".SH SEE ALSO\n.BR bootswap (1)\n");
+    page.add(".SH SEE ALSO\n.BR bootswap (1),\n.BR bootswap\\-formats (5)\n");
 }
 
 /// Adds the title of a page, its name, the usage and the description. `hyphen` and `command` are
@@ -85,7 +85,7 @@ fn add_argument(page: &mut TextBuilder, argument: &Listed) {
     add_line(page, argument.help);
 }
 
-/// Adds the names of the pages of all commands.
+/// Adds the names of the pages of all commands, of the library and of the formats.
 fn add_command_pages(page: &mut TextBuilder) {
     page.add(".SH SEE ALSO\n");
     let mut before = ".BR bootswap\\-";
@@ -93,5 +93,5 @@ fn add_command_pages(page: &mut TextBuilder) {
         page.add_escaped(before, command.name(), " (1)", ESCAPES);
         before = ",\n.BR bootswap\\-";
     }
-    page.add("\n");
+    page.add(",\n.BR libbootswap (3),\n.BR bootswap\\-formats (5)\n");
 }
