@@ -1,5 +1,5 @@
 -- What each call on one sector or one place of the log does: one record for each call.
-use Rattle.std.specs.Prelude.{◌≡◌, ℕ, ◌+◌, ◌-◌, ◌*◌, ◌<◌, ◌≤◌, Bool, true, false, not, List}
+use Rattle.std.specs.Prelude.{◌≡◌, ℕ, ◌+◌, ◌-◌, ◌*◌, ◌<◌, ◌≤◌, Bool, true, false, List}
 use Rattle.std.specs.Prelude.{slice_range, Result, OnOk, OnErr, IfOk}
 use Rattle.flash_model.specs.declared.error.FlashError.{FlashError}
 use Rattle.flash_model.specs.Chip.{Chip, Ends, IsErased, Reads, SameOutside}
@@ -37,16 +37,6 @@ pub record TellsErased (map : SectorMap) (sector place : ℕ) (old new : Chip)
   -- If the call succeeds, the result is exact.
   pub ok : IfOk result (λ yes. yes
       ≡ reads_erased (log_bytes map old) (sector * map.sector_size + PLACE * place) PLACE)
-  pub ends : Ends result old new
-
--- A call returns whether the gate of a place is set.
-pub record TellsGated (map : SectorMap) (sector place : ℕ) (old new : Chip)
-    (result : Result Bool FlashError) : Type 0 where
-  -- Nothing changes.
-  pub same : new ≡ old
-  -- If the call succeeds, the result is yes exactly if the gate isn't erased.
-  pub ok : IfOk result (λ yes. reads_erased (log_bytes map old)
-      (sector * map.sector_size + PLACE * place + GATE) 8 ≡ not yes)
   pub ends : Ends result old new
 
 -- A call reads the record of a place.

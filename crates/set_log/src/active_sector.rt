@@ -7,9 +7,9 @@ ghost use Rattle.set_log.specs.Places.{Tells};
 ghost use Rattle.set_log.specs.Reading.{FindsActive, FindsFree, ReadsLast};
 ghost use Rattle.set_log.specs.Ring.{is_active, next_of, previous_of};
 
-use crate::format::RECORD;
-use crate::places::{is_closed, is_gated, is_place_erased, read_place};
-use flash_model::{Flash, Result};
+use crate::format::{GATE, PLACE, RECORD};
+use crate::places::{is_closed, is_place_erased, read_place};
+use flash_model::{Flash, Result, is_unit_erased};
 use sector_map::SectorMap;
 
 /// The number of sectors of the log.
@@ -66,9 +66,11 @@ fn last_record<F: Flash>(
     requires sector { sector < 3 }
     ensures { ReadsLast map.now sector (F.chip flash.old) (F.chip flash.new) result }
 {
+    // Computed once: the loop runs for each place of the sector, in each call of a device.
+    let start = map.record_start(sector, 0);
     let mut place = map.record_places();
     while place > 0 {
-        if is_gated(flash, map, sector, place - 1)? {
+        if !is_unit_erased(flash, start + PLACE * (place - 1) + GATE)? {
             let body = read_place(flash, map, sector, place - 1)?;
             return Ok(Some(body));
         }

@@ -2,7 +2,7 @@
 
 ghost use Rattle.std.specs.Prelude.{◌<◌};
 ghost use Rattle.sector_map.specs.Map.{IsLaidOut};
-ghost use Rattle.set_log.specs.Places.{CanClose, CanSetGate, CanWriteBody, Closes, ErasesSector, HasPlace, ReadsPlace, SetsGate, Tells, TellsErased, TellsGated, WritesBody};
+ghost use Rattle.set_log.specs.Places.{CanClose, CanSetGate, CanWriteBody, Closes, ErasesSector, HasPlace, ReadsPlace, SetsGate, Tells, TellsErased, WritesBody};
 ghost use Rattle.set_log.specs.Log.{log_bytes};
 ghost use Rattle.set_log.specs.Ring.{is_closed};
 
@@ -32,20 +32,6 @@ pub(crate) fn is_place_erased<F: Flash>(
     ensures { TellsErased map.now sector place (F.chip flash.old) (F.chip flash.new) result }
 {
     is_erased(flash, map.record_start(sector, place), PLACE)
-}
-
-/// Whether the gate of a place is set.
-pub(crate) fn is_gated<F: Flash>(
-    flash: &mut F,
-    map: &SectorMap,
-    sector: u32,
-    place: u32,
-) -> Result<bool>
-    requires { HasPlace map.now sector place (F.chip flash.old) }
-    ensures { TellsGated map.now sector place (F.chip flash.old) (F.chip flash.new) result }
-{
-    let erased = is_unit_erased(flash, map.record_start(sector, place) + GATE)?;
-    Ok(!erased)
 }
 
 /// Reads the record of a place, gated or not.
