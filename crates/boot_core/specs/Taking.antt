@@ -18,6 +18,7 @@ use Rattle.manifest.specs.Manifest.{NamesEachOnce, NamesImages}
 use Rattle.set_log.specs.Log.{state_of}
 use Rattle.upload.specs.Accepted.{accepted_parts}
 use Rattle.upload.specs.Device.{DeviceState}
+use Rattle.upload.specs.NoSession.{LacksSession}
 use Rattle.upload.specs.Sessions.{AllClosed, AllOpenAt, IsOpenAt, upload_at}
 use Rattle.upload.specs.Steady.{IsSteadyAt}
 use Rattle.upload.specs.View.{view}
@@ -140,6 +141,14 @@ pub record TakesPieceHere (map : SectorMap) (image : ℕ) (more : Bor (List ℕ)
   -- An upload that matches the flash isn't refused as one that doesn't.
   pub matched : (u : Upload) → upload_at old.sessions image ≡ Some u
       → IsOpenAt (view map old.flash) image u → result ≡ Err (no.Upload NoSession) → ⊥
+  -- On a flash with power, a device that takes uploads refuses a piece that no upload takes so, and
+  -- nothing changes.
+  pub lacks : old.flash.is_on ≡ true → old.up ≡ true → LogsNoTrial (state_of map old.flash)
+      → LacksSession map old.sessions image (length more.now) old.flash
+      → (result ≡ Err (no.Upload NoSession)) × (new ≡ old)
+  -- No other piece is refused so.
+  pub only_lacking : result ≡ Err (no.Upload NoSession)
+      → LacksSession map old.sessions image (length more.now) old.flash
 
 -- Accepting a text touches only the log, and the secondary slots and trailers of the images that
 -- its manifest names, and asks a journal for at most 120 bytes, and those that opening each slot

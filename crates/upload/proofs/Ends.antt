@@ -129,5 +129,10 @@ pub not_added : (result : Result Bool FlashError) (added : Bool) → result ≡ 
     → result ≡ Ok true → ⊥
 not_added result added was is e = cc
 
+-- A call that added bytes didn't return false.
+pub added_not : (result : Result Bool FlashError) (added : Bool) → result ≡ Ok added → added ≡ true
+    → result ≡ Ok false → ⊥
+added_not result added was is e = cc
+
 pub stopped_not : (result : Result Bool FlashError) (error : FlashError) → result ≡ Err error → result ≡ Ok true → ⊥
 stopped_not result error was e = cc

@@ -3,7 +3,7 @@ use Rattle.std.proofs.Common.{◌≡◌, ◌⊎◌, ◌↔◌, ℕ, ◌+◌, ◌
 use Rattle.std.proofs.lemmas.Bool.{cases_lt, eqb-true, false≢true}
 use Rattle.std.proofs.lemmas.List.{ext_get_or}
 use Rattle.std.proofs.lemmas.Bool.Decides.{nat_tests}
-use Rattle.std.proofs.lemmas.Option.{same_Some}
+use Rattle.std.proofs.lemmas.Option.{none-some, same_Some}
 use Rattle.flash_model.specs.Chip.{Chip}
 use Rattle.flash_model.specs.declared.error.FlashError.{FlashError}
 use Rattle.sector_map.specs.declared.layout.SectorMap.{SectorMap}
@@ -16,6 +16,7 @@ use Rattle.upload.specs.Device.{DeviceState, Machine, closed}
 use Rattle.upload.specs.Steady.{IsSteadyAt}
 use Rattle.upload.specs.Sessions.{upload_at, IsWith, AllClosed, IsOpenAt, IsUploadAt, session_of, HasSession, IsUpAt}
 use Rattle.upload.specs.Piece.{Pieces, TakesMore, appended, with_session}
+use Rattle.upload.specs.NoSession.{IsReadyFor, LacksSession, NotOpen, NotReady}
 use Rattle.upload.specs.declared.sessions.Upload.{Upload}
 use Rattle.upload.specs.declared.error.UploadError.TheVariants as no
 use Rattle.upload.proofs.Views.{view_kept, view_refl}
@@ -170,3 +171,17 @@ pub piece_unmatched : (i : ℕ) (w v : View) (told tnew : List (Option Upload)) 
 piece_unmatched i w v told tnew u bytes is never m up =
     let (written, at, here) = session_here w i u told m is up in
     absurd (never (written, at))
+
+-- Some upload takes a piece: the open one has no room for its bytes, they complete no unit, or it is ready for them.
+pub has_session : (map : SectorMap) (told : List (Option Upload)) (i n : ℕ) (chip : Chip) (taken : Upload)
+    → Some taken ≡ upload_at told i
+    → (taken.received + n ≤ taken.size → 8 ≤ length taken.held.items + n
+    → (IsReadyFor map i taken n chip → ⊥) → ⊥)
+    → LacksSession map told i n chip → ⊥
+has_session map told i n chip taken here takes (NotOpen none) = none-some taken (sym (here ∙ none))
+has_session map told i n chip taken here takes (NotReady u is fits enough never) =
+    subst (λ (v : Upload). v.received + n ≤ v.size → 8 ≤ length v.held.items + n
+    → (IsReadyFor map i v n chip → ⊥) → ⊥) (same_Some taken u (here ∙ is)) takes fits enough never
+
+pub too_long : (u : Upload) (n : ℕ) → u.size < u.received + n → u.received + n ≤ u.size → ⊥
+too_long u n long fits = omega (arith, long, fits)

@@ -1,5 +1,5 @@
 -- Contracts of the calls that add bytes to an open upload: one record for each call.
-use Rattle.std.specs.Prelude.{◌≡◌, ◌≢◌, ◌⊎◌, ◌+◌, ◌-◌, ◌*◌, ◌≤◌, ◌<◌, ◌++◌, ℕ}
+use Rattle.std.specs.Prelude.{◌≡◌, ◌≢◌, ◌⊎◌, ◌↔◌, ◌+◌, ◌-◌, ◌*◌, ◌≤◌, ◌<◌, ◌++◌, ℕ}
 use Rattle.std.specs.Prelude.{Bool, true, false, IsTrue, List, length}
 use Rattle.std.specs.Prelude.{Option, Some, None, Result, Ok, Err, IfErr, IfOk, IsErrOf, IsOk, OnOk}
 use Rattle.flash_model.specs.declared.error.FlashError.{FlashError}
@@ -19,6 +19,7 @@ use Rattle.upload.specs.Standing.{HasCounts}
 use Rattle.upload.specs.Steady.{IsSteadyAt}
 use Rattle.upload.specs.Sessions.{AllClosed, AllOpenAt, IsOpenAt, IsUpAt, IsWith, upload_at}
 use Rattle.upload.specs.Ending.{EndsUpload, is_flash}
+use Rattle.upload.specs.NoSession.{IsReadyFor, LacksSession}
 use Rattle.upload.specs.Piece.{Pieces, TakesMore}
 
 -- The counts of an upload fit, it takes `n` bytes more, and the units that they complete are erased
@@ -32,17 +33,13 @@ pub record IsOpenFor (map : SectorMap) (image : ℕ) (upload : Upload) (n : ℕ)
   pub erased : (k : ℕ) → 8 * k ≤ length upload.held.items + n
       → IsErased chip (start_of map (Slot image Secondary) + written) (8 * k)
 
--- A call returns whether the trailer of an image's secondary slot reads as erased and an upload is
--- open for `n` bytes more.
+-- A call returns whether an upload matches the flash as far as a piece of `n` bytes is checked.
 pub record TellsReady (map : SectorMap) (image : ℕ) (upload : Upload) (n : ℕ) (old new : Chip)
     (result : Result Bool FlashError) : Type 0 where
   -- The flash doesn't change.
   pub same : new ≡ old
-  -- If the result is true, this is so.
-  pub ready : IfOk result (λ answer. IsTrue answer
-      → (fields_at map old image Secondary ≡ erased_fields) × IsOpenFor map image upload n old)
-  -- The result is true for an upload that matches the flash.
-  pub matched : IfOk result (λ answer. IsOpenAt (view map old) image upload → IsTrue answer)
+  -- The result is exact.
+  pub ok : IfOk result (λ answer. IsTrue answer ↔ IsReadyFor map image upload n old)
   -- If the counts fit and the flash is off, that is the result.
   pub off : old.is_on ≡ false → (written : ℕ) → HasCounts map image written upload
       → IsErrOf result Off
@@ -88,6 +85,13 @@ pub record AddsIfReady (map : SectorMap) (image : ℕ) (before after : Upload) (
   pub refused : IfOk result (λ added. added ≡ false → (after ≡ before) × (new ≡ old))
   -- The result isn't false for an upload that matches the flash.
   pub matched : IfOk result (λ added. IsOpenAt (view map old) image before → IsTrue added)
+  -- If the flash is on, other bytes come, and the upload doesn't match as far as a piece is checked,
+  -- the result is false.
+  pub unready : old.is_on ≡ true → 8 ≤ length before.held.items + length bytes
+      → (IsReadyFor map image before (length bytes) old → ⊥) → result ≡ Ok false
+  -- The result is false in no other case.
+  pub only : IfOk result (λ added. added ≡ false → (8 ≤ length before.held.items + length bytes)
+      × (IsReadyFor map image before (length bytes) old → ⊥))
   -- If the call succeeds, no sector is erased.
   pub erases : OnOk result (new.erases ≡ old.erases)
   -- Bytes that complete no unit are held in memory, whether the flash is on or off.
@@ -127,6 +131,11 @@ pub record TakesPiece (map : SectorMap) (image : ℕ) (bytes : List ℕ)
   -- An upload that matches the flash isn't refused so.
   pub matched : (u : Upload) → upload_at told image ≡ Some u → IsOpenAt (view map old) image u
       → IsErrOf result NoSession → ⊥
+  -- On a flash with power, a piece that no upload takes is refused so, and nothing changes.
+  pub lacks : old.is_on ≡ true → LacksSession map told image (length bytes) old
+      → (result ≡ Err NoSession) × (new ≡ old) × (tnew ≡ told)
+  -- No other piece is refused so.
+  pub only_lacking : IsErrOf result NoSession → LacksSession map told image (length bytes) old
   -- More bytes than the upload's size allows are refused.
   pub more : (u : Upload) → upload_at told image ≡ Some u
       → u.size < u.received + length bytes → result ≡ Err TooMuch

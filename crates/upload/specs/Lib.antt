@@ -14,6 +14,7 @@ pub mod Slots
 pub mod Opening
 pub mod Judging
 pub mod Accepting
+pub mod NoSession
 pub mod Adding
 pub mod Finishing
 pub mod Withdrawing

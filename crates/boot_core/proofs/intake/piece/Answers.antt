@@ -18,7 +18,8 @@ returns g c =
       kept = kept_by_piece _ _ _ _ _ c.piece.ensures.nothing c.piece.ensures.stays;
       journal = c.piece.ensures.journal;
       row = c.piece.ensures.row;
-    }) c.piece.ensures.nothing c.pass_on.ensures) c.piece.ensures.rests c.piece.ensures.matched c.pass_on.ensures
+    }) c.piece.ensures.nothing c.pass_on.ensures) c.piece.ensures.rests c.piece.ensures.matched
+    c.piece.ensures.lacks c.piece.ensures.only_lacking c.pass_on.ensures
 
 pub piece-requires : goal.piece-requires
 piece-requires g c = record { laid_out = laid_now _ _ _ c.in_ok-ready.ensures c.requires.laid_out }

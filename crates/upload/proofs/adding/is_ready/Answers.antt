@@ -1,10 +1,10 @@
-use Rattle.std.proofs.Common.{arith, refl, ◌∙◌}
+use Rattle.std.proofs.Common.{arith, refl, sym, ◌∙◌}
 use Rattle.std.proofs.lemmas.Bool.{false≢true}
 use Rattle.std.proofs.lemmas.Result.{IfOk-weaker}
 use Rattle.flash_model.proofs.Ending.{no_error}
 use Rattle.upload.proofs.Ends.{reads_well}
-use Rattle.upload.proofs.Ready.{matched_erased, open_for, units_inside}
-use Rattle.upload.proofs.StandingLaws.{counted_inside, no_counts}
+use Rattle.upload.proofs.Ready.{ready_erased, ready_for, units_inside}
+use Rattle.upload.proofs.StandingLaws.{counted_inside}
 use Rattle.upload.proofs.adding.is_ready.Goals as goal
 
 pub returns-in_default : goal.returns-in_default
@@ -12,9 +12,7 @@ returns-in_default g c =
     let never = c.written_of.ensures.none c.in_default.is in
     record {
       same = refl;
-      ready = λ yes. absurd (false≢true yes);
-      matched = λ stands. absurd (no_counts c.args.map.now (g.F.Flash.chip c.args.flash.now) c.args.image
-          c.args.upload.now c.requires.laid_out never stands);
+      ok = (λ yes. absurd (false≢true yes), λ ready. absurd (never ready.written ready.counts));
       off = λ off written counts. absurd (never written counts);
       ends = reads_well _ _ _ refl;
     }
@@ -35,6 +33,17 @@ is_erased-requires g c =
     c.requires.fits (omega (arith, c.whole_units-units.ensures.least, c.len.ensures.value)) in
     omega (arith, c.slot_start-start.ensures, inside, units))
 
+pub returns-then-not-is_blank : goal.returns-then-not-is_blank
+returns-then-not-is_blank g c = record {
+  same = c.is_blank.ensures.same;
+  ok = (
+    λ yes. absurd (false≢true yes),
+    λ ready. absurd (false≢true (sym c.if-not-is_blank.true ∙ c.in_ok-is_blank.ensures.ok.1 ready.trailer)),
+  );
+  off = λ off written counts. absurd (no_error _ _ (c.in_ok-is_blank.ensures.off off));
+  ends = reads_well _ _ _ c.is_blank.ensures.same;
+}
+
 pub returns : goal.returns
 returns g c =
     let map = c.args.map.now in
@@ -44,16 +53,14 @@ returns g c =
     let told = rw (c.slot_start-start.ensures, c.is_blank.ensures.same) at c.is_erased.ensures.ok in
     record {
       same = c.is_erased.ensures.same ∙ c.is_blank.ensures.same;
-      ready = IfOk-weaker c.is_erased.result _ _ (λ answer tells yes. (
-        c.in_ok-is_blank.ensures.ok.0 c.if-not-is_blank.false,
-        open_for map chip c.args.image c.in-Some.written c.args.count c.whole_units-units.result units.units.0
-            c.args.upload.now c.requires.laid_out counts c.requires.fits units.units.1
+      ok = IfOk-weaker c.is_erased.result _ _ (λ answer tells. (
+        λ yes. ready_for map chip c.args.image c.in-Some.written c.args.count c.whole_units-units.result units.units.0
+            c.args.upload.now counts (c.in_ok-is_blank.ensures.ok.0 c.if-not-is_blank.false) units.units.1
             (omega (arith, units.most, c.len.ensures.value)) (tells.0 yes),
+        λ ready. tells.1 (ready_erased map chip c.args.image c.in-Some.written c.args.count
+            c.whole_units-units.result units.units.0 c.args.upload.now counts units.units.1
+            (omega (arith, units.least, c.len.ensures.value)) ready),
       )) told;
-      matched = IfOk-weaker c.is_erased.result _ _ (λ answer tells stands. tells.1
-          (matched_erased map chip c.args.image c.in-Some.written c.args.count c.whole_units-units.result
-          c.args.upload.now c.requires.laid_out counts c.requires.fits
-          (omega (arith, units.least, c.len.ensures.value)) stands)) told;
       off = λ off written counts. absurd (no_error _ _ (c.in_ok-is_blank.ensures.off off));
       ends = rw c.is_blank.ensures.same at c.is_erased.ensures.ends;
     }

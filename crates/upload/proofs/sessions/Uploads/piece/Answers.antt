@@ -1,4 +1,4 @@
-use Rattle.std.proofs.Common.{◌≡◌, arith, ◌+◌, ◌<◌, ◌≤◌, ℕ, Option, length, ap, refl, subst, sym, ◌∙◌, Err, Some, None, true≢false}
+use Rattle.std.proofs.Common.{◌≡◌, arith, ◌+◌, ◌<◌, ◌≤◌, ℕ, Option, length, ap, refl, subst, sym, ◌∙◌, Err, Some, None, false, true≢false}
 use Rattle.std.proofs.lemmas.Bool.{false≢true}
 use Rattle.std.proofs.lemmas.Grind.{common_steps}
 use Rattle.std.proofs.lemmas.Option.{same_Some, none-some}
@@ -8,13 +8,14 @@ use Rattle.sector_map.specs.declared.layout.SectorMap.{SectorMap}
 use Rattle.sector_map.proofs.Parts.{keeps_refl}
 use Rattle.upload.specs.Sessions.{AllOpenAt, IsOpenAt, upload_at}
 use Rattle.upload.specs.Standing.{HasCounts}
+use Rattle.upload.specs.NoSession.{NotReady}
 use Rattle.upload.specs.View.{view}
 use Rattle.upload.specs.declared.sessions.Upload.{Upload}
 use Rattle.upload.specs.declared.error.UploadError.TheVariants as no
-use Rattle.upload.proofs.Ends.{ends_flash, ends_read, ends_unstopped, ends_well, no_session_none, not_added, not_no_session, not_too_much, off_stops, stopped_not, too_much_none}
+use Rattle.upload.proofs.Ends.{added_not, ends_flash, ends_read, ends_unstopped, ends_well, no_session_none, not_added, not_no_session, not_too_much, off_stops, stopped_not, too_much_none}
 use Rattle.upload.proofs.Frames.{others_slot, with_others, with_with}
 use Rattle.upload.proofs.OpenOnes.{open_more, open_none, open_nothing, open_to}
-use Rattle.upload.proofs.PieceRow.{exceeds, no_room, piece_done, piece_cut, piece_more, piece_unmatched, steady_written, table_back, took_more, unwritten}
+use Rattle.upload.proofs.PieceRow.{exceeds, has_session, too_long, no_room, piece_done, piece_cut, piece_more, piece_unmatched, steady_written, table_back, took_more, unwritten}
 use Rattle.upload.proofs.Views.{view_kept}
 use Rattle.upload.proofs.sessions.Uploads.piece.Goals as goal
 
@@ -51,6 +52,9 @@ returns-then-not-has_room g c =
       rests = λ s rest. rest;
       none = λ none. absurd (none-some _ (sym (here ∙ none)));
       matched = λ u is stands no. absurd (too_much_none no);
+      lacks = λ on lacking. absurd (has_session map _ _ n _ c.in-Some.upload here
+          (λ fits enough never. too_long c.in-Some.upload n long fits) lacking);
+      only_lacking = λ no. absurd (too_much_none no);
       more = λ u at long. refl;
       nothing = λ unstopped. refl;
       held = λ u is fits few. absurd (no_room _ _ n (here ∙ is) fits long);
@@ -89,6 +93,10 @@ returns-in-Ok-true g c =
       rests = steady_written map c.args.image _ _ c.add_bytes.ensures.outside c.add_bytes.ensures.front;
       none = λ none. absurd (none-some _ (sym (here ∙ none)));
       matched = λ u is stands no. absurd (no_error tt _ no);
+      lacks = λ on lacking. absurd (has_session map _ _ (length c.args.bytes.now) _ c.in-Some.upload here
+          (λ fits enough never. added_not _ c.in-Ok-true.field-0 refl c.in-Ok-true.field-0-test (c.in-Ok-true.ensures.unready on enough never))
+          lacking);
+      only_lacking = λ no. absurd (no_error tt _ no);
       more = λ u is long. absurd (no_room _ _ _ (sym (here ∙ is)) fits long);
       nothing = tt;
       held = λ u is fits few. (
@@ -131,6 +139,9 @@ returns-in-Ok-false g c =
       none = λ none. absurd (none-some _ (sym (here ∙ none)));
       matched = λ u is stands no. absurd (false≢true (sym c.in-Ok-false.field-0-test ∙ c.in-Ok-false.ensures.matched
           (subst (λ (v : Upload). IsOpenAt (view map chip) c.args.image v) (sym (same_Some _ _ (here ∙ is))) stands)));
+      lacks = λ on lacking. (refl, refused.1, back);
+      only_lacking = λ no. let unready = c.in-Ok-false.ensures.only c.in-Ok-false.field-0-test in
+          NotReady c.in-Some.upload (sym here) fits unready.0 unready.1;
       more = λ u is long. absurd (no_room _ _ _ (sym (here ∙ is)) fits long);
       nothing = λ unstopped. refused.1;
       held = λ u is fits few. absurd (not_added _ c.in-Ok-false.field-0 refl c.in-Ok-false.field-0-test (c.in-Ok-false.ensures.held
@@ -164,6 +175,9 @@ returns-in-Err g c =
       rests = steady_written map c.args.image _ _ c.add_bytes.ensures.outside c.add_bytes.ensures.front;
       none = λ none. absurd (none-some _ (sym (here ∙ none)));
       matched = λ u is stands no. absurd (not_no_session c.in-Err.error no);
+      lacks = λ on lacking. absurd (has_session map _ _ (length c.args.bytes.now) _ c.in-Some.upload here
+          (λ fits enough never. no_error false _ (sym (c.in-Err.ensures.unready on enough never))) lacking);
+      only_lacking = λ no. absurd (not_no_session c.in-Err.error no);
       more = λ u is long. absurd (no_room _ _ _ (sym (here ∙ is)) fits long);
       nothing = λ unstopped. absurd (true≢false unstopped);
       held = λ u is fits few. absurd (stopped_not _ c.in-Err.error refl (c.in-Err.ensures.held
