@@ -3,6 +3,7 @@ use Rattle.std.proofs.Common.{◌≡◌, ℕ, ◌*◌, ◌/◌, ◌<◌, ◌≤�
 use Rattle.std.proofs.Math.Nat.{div-mul-le_self, le-div_iff_mul-le, mod-eq-sub-div-mul, mul-div_cancel}
 use Rattle.std.proofs.lemmas.Bool.{cases_Bool, true≢false}
 use Rattle.std.proofs.lemmas.Option.{none-some}
+use Rattle.std.specs.Borrow.{Bor}
 use Rattle.common.specs.declared.event.Event.TheVariants as event
 use Rattle.flash_model.specs.Chip.{Chip, Fixed, size_of}
 use Rattle.flash_model.specs.Memory.{new_chip}
@@ -11,19 +12,25 @@ use Rattle.sector_map.specs.Map.{IsLaidOut, IsMap, sectors_of}
 use Rattle.sector_map.specs.Part.{any_part}
 use Rattle.sector_map.proofs.Parts.{keeps_refl, laid_out_by}
 use Rattle.manifest.specs.declared.identity.Identity.{Identity}
+use Rattle.set_log.specs.Log.{state_of}
 use Rattle.trailer.specs.declared.kinds.Kind.{Kind}
 use Rattle.upload.specs.View.{view}
 use Rattle.upload.specs.Device.{DeviceState, Machine}
+use Rattle.upload.specs.NoSession.{LacksSession}
 use Rattle.upload.specs.Sessions.{AllClosed, AllOpenAt, IsOpenAt, upload_at}
 use Rattle.upload.specs.Steady.{IsSteadyAt}
+use Rattle.upload.specs.declared.error.UploadError.TheVariants.{NoSession}
 use Rattle.upload.specs.declared.sessions.Upload.{Upload}
 use Rattle.machine.specs.Holding.{DeviceView, Holds}
 use Rattle.machine.specs.Intake as device
 use Rattle.machine.specs.Passing.{StepsTo}
 use Rattle.machine.specs.Steps.{DeviceEvent}
+use Rattle.machine.specs.declared.error.Fault.TheVariants as no
 use Rattle.machine.specs.declared.reply.Reply.{Reply}
+use Rattle.machine.specs.declared.reply.Reply.TheVariants.{Refused}
 use Rattle.boot_core.specs.Answers.{reply_of_boot, reply_of_result}
 use Rattle.boot_core.specs.Device.{StaysHeld, made, seen}
+use Rattle.boot_core.specs.Ready.{LogsNoTrial}
 use Rattle.c_interface.specs.declared.dispatch.DeviceCall.{DeviceCall}
 use Rattle.c_interface.specs.declared.dispatch.DeviceCall.TheVariants.{Accept, Piece, Finish, Withdraw, Confirm, Boot}
 use Rattle.c_interface.specs.declared.saved_state.SavedState.{SavedState}
@@ -286,6 +293,18 @@ rests_by map identity boots (Withdraw image) a b reply is piece state = absurd (
 rests_by map identity boots (Confirm image) a b reply is piece state = absurd (true≢false (sym piece))
 rests_by map identity boots Boot a b reply is piece state = absurd (true≢false (sym piece))
 
+-- a piece that no upload takes is refused so, and the device stays as it was
+lacks_by : (map : SectorMap) (identity : Identity) (boots : ℕ) (call : DeviceCall) (a b : DeviceView) (reply : Reply)
+    → IsCallOf map identity boots call a b reply → a.flash.is_on ≡ true → (image : ℕ) (more : Bor (List ℕ))
+    → call ≡ Piece image more → a.up ≡ true → LogsNoTrial (state_of map a.flash)
+    → LacksSession map a.sessions image (length more.now) a.flash
+    → (reply ≡ Refused (no.Upload NoSession)) × (b ≡ a)
+lacks_by map identity boots call a b reply all on image more piece up rests lacking =
+    let made_one : IsCallOf map identity boots (Piece image more) a b reply =
+    subst (λ k. IsCallOf map identity boots k a b reply) piece all in
+    let left = made_one.2.lacks on up rests lacking in
+    (made_one.1 ∙ ap reply_of_result left.0, left.1)
+
 -- a call on one device in these bytes is a step of each device in them
 pub steps_on : (checked : CheckedSetup) (call : DeviceCall) (old new : List ℕ) (was is : SavedState) (before behind : Chip)
     (sessions left : List (Option Upload)) (was_up is_booted : Bool) (reply : Reply)
@@ -314,6 +333,13 @@ steps_on checked call old new was is before behind sessions left was_up is_boote
       );
       matched = λ matches. matched_after checked.map new behind left is_booted is bytes (opens_left matches) keeps;
       rests = rests_by checked.map checked.identity checked.boots call device_before device_left reply makes.is;
+      lacks = λ image more piece up at_rest lacking.
+          let kept = lacks_by checked.map checked.identity checked.boots call device_before device_left reply makes.is
+          flash.on image more piece up at_rest lacking in (
+            kept.0,
+            sym bytes ∙ ap (λ (d : DeviceView). d.flash.bytes) kept.1 ∙ flash.has,
+            kept.1,
+          );
     }
   where
     device_before : DeviceView

@@ -8,7 +8,10 @@ use Rattle.sector_map.specs.Map.{IsLaidOut, end_of_map}
 use Rattle.sector_map.specs.Part.{incoming_of}
 use Rattle.manifest.specs.declared.identity.Identity.{Identity}
 use Rattle.manifest.specs.Fault.{IsManifest}
+use Rattle.set_log.specs.Log.{state_of}
 use Rattle.upload.specs.Device.{DeviceState}
+use Rattle.upload.specs.NoSession.{LacksSession}
+use Rattle.upload.specs.declared.error.UploadError.TheVariants.{NoSession}
 use Rattle.upload.specs.Steady.{IsSteadyAt}
 use Rattle.upload.specs.View.{view}
 use Rattle.upload.specs.Sessions.{AllOpenAt}
@@ -17,11 +20,13 @@ use Rattle.machine.specs.Holding.{DeviceView}
 use Rattle.machine.specs.Intake as device
 use Rattle.machine.specs.Passing.{StepsTo}
 use Rattle.machine.specs.declared.error.Fault.{Fault}
+use Rattle.machine.specs.declared.error.Fault.TheVariants as no
 use Rattle.machine.specs.declared.reply.Reply.{Reply}
 use Rattle.machine.specs.declared.reply.Reply.TheVariants.{Refused}
 use Rattle.boot_core.specs.Answers.{reply_of_boot, reply_of_result}
 use Rattle.boot_core.specs.Booting.{EndsUploadsAndBoots}
 use Rattle.boot_core.specs.Device.{StaysHeld, made}
+use Rattle.boot_core.specs.Ready.{LogsNoTrial}
 use Rattle.boot_core.specs.Taking.{ConfirmsHere, FinishesHere, TakesHere, TakesManifestHere, TakesPieceHere}
 use Rattle.c_interface.specs.declared.dispatch.DeviceCall.{DeviceCall}
 use Rattle.c_interface.specs.declared.dispatch.DeviceCall.TheVariants.{Accept, Piece, Finish, Withdraw, Confirm, Boot}
@@ -150,6 +155,12 @@ pub record StepsBetween (checked : CheckedSetup) (call : DeviceCall) (old : List
   -- After a piece a flash at rest without a trial holds the same state, whatever was saved.
   pub rests : is_piece call ≡ true → (state : DeviceState)
       → IsSteadyAt (view checked.map first) state → IsSteadyAt (view checked.map last) state
+  -- A booted device whose log has a state and no trial refuses a piece that no upload takes with
+  -- `NoSession`, and nothing changes.
+  pub lacks : (image : ℕ) (more : Bor (List ℕ)) → call ≡ Piece image more → before.up ≡ true
+      → LogsNoTrial (state_of checked.map before.flash)
+      → LacksSession checked.map before.sessions image (length more.now) before.flash
+      → (reply ≡ Refused (no.Upload NoSession)) × (new ≡ old) × (left ≡ before)
 
 -- A call is made on the device in the caller's bytes, with cuts for some of its writes. It makes
 -- this number of writes.
