@@ -1,6 +1,6 @@
 -- The rows of a table, as they are read.
-use Rattle.std.proofs.Common.{◌≡◌, ◌⊎◌, ℕ, ◌+◌, ◌<◌, ◌≤◌, Bool, List, [], ◌∷◌, ◌++◌, length, Option, Some, None, refl}
-use Rattle.std.proofs.Common.{sym, ◌∙◌, ap, subst, arith, slice_get, slice_index, ⊎_elim, inl, inr, zero, suc, get_or}
+use Rattle.std.proofs.Common.{◌≡◌, ℕ, ◌+◌, ◌<◌, ◌≤◌, Bool, List, [], ◌∷◌, ◌++◌, length, Option, Some, None, refl}
+use Rattle.std.proofs.Common.{sym, ◌∙◌, ap, subst, arith, slice_get, slice_index, ⊎_elim, zero, suc, get_or}
 use Rattle.std.proofs.Common.{length-append}
 use Rattle.std.proofs.lemmas.Option.{slice_get_cases, none-some}
 use Rattle.flash_model.specs.Chip.{Chip}
@@ -76,14 +76,15 @@ intact_request map old mid i answer kind read entry some is same reads given wan
     let intact : IsEntryOf found.0.bytes entry = subst (λ r. IsReadOf found.0.bytes r) given found.2 in
     subst (λ w. IsRequestOf w (request.Entry entry)) (sym found.1) intact
 
--- An element of a list that has one element more at its end.
-push_cases : {X : Type 0} (xs : List X) (y : X) (k : ℕ) (x : X) → slice_get (xs ++ y ∷ []) k ≡ Some x
-    → (slice_get xs k ≡ Some x) ⊎ ((k ≡ length xs) × (y ≡ x))
-push_cases [] y zero x e = inr (refl, value_of y x e)
-push_cases [] y (suc k) x e = absurd (nothing e)
-push_cases (z ∷ zs) y zero x e = inl e
-push_cases (z ∷ zs) y (suc k) x e = ⊎_elim (λ (at : slice_get zs k ≡ Some x). inl at)
-    (λ (last : (k ≡ length zs) × (y ≡ x)). inr (ap suc last.0, last.1)) (push_cases zs y k x e)
+-- A property of each element by its place lasts when one more element has it at the end.
+pub each_pushed : {X : Type 0} (P : ℕ → X → Type 0) (xs : List X) (y : X)
+    → ((k : ℕ) (x : X) → slice_get xs k ≡ Some x → P k x) → P (length xs) y
+    → (k : ℕ) (x : X) → slice_get (xs ++ y ∷ []) k ≡ Some x → P k x
+each_pushed P [] y each last zero x e = subst (λ w. P 0 w) (value_of y x e) last
+each_pushed P [] y each last (suc k) x e = absurd (nothing e)
+each_pushed P (z ∷ xs) y each last zero x e = each zero x e
+each_pushed P (z ∷ xs) y each last (suc k) x e =
+    each_pushed (λ j w. P (suc j) w) xs y (λ j w at. each (suc j) w at) last k x e
 
 pub rows_none : (s : DeviceState) (floors : List ℕ) → AreRowsOf s floors 0 []
 rows_none s floors = record { count = refl; each = λ k row e. absurd (nothing e) }
@@ -93,13 +94,8 @@ pub rows_more : (s : DeviceState) (floors : List ℕ) (n : ℕ) (rows : List Ima
     → IsRowOf (s.running n) (s.request n) (slice_index floors n) row → AreRowsOf s floors (n + 1) (rows ++ row ∷ [])
 rows_more s floors n rows row before next = record {
   count = length-append rows (row ∷ []) ∙ ap (λ m. m + 1) before.count;
-  each = λ k found e. ⊎_elim
-      (λ (at : slice_get rows k ≡ Some found). before.each k found at)
-      (λ (last : (k ≡ length rows) × (row ≡ found)).
-      let here : n ≡ k = sym (last.0 ∙ before.count) in
-      subst (λ r. IsRowOf (s.running k) (s.request k) (slice_index floors k) r) last.1
-      (subst (λ m. IsRowOf (s.running m) (s.request m) (slice_index floors m) row) here next))
-      (push_cases rows row k found e);
+  each = each_pushed (λ k found. IsRowOf (s.running k) (s.request k) (slice_index floors k) found) rows row before.each
+      (subst (λ m. IsRowOf (s.running m) (s.request m) (slice_index floors m) row) (sym before.count) next);
 }
 
 no_entry : (held : Option (List ℕ)) (entry : Entry) → held ≡ None → IsEntryOf held entry → ⊥
