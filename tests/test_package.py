@@ -245,6 +245,8 @@ class PackageTest(PackedTest):
 class CleanSystemTest(PackedTest):
     """The packages on a system that has neither the clone nor the toolchain."""
 
+    runs_once = True
+
     def test_clean_system(self):
         """They are installed, used as the documents say, and removed again, and nothing of them is left."""
         self.package()

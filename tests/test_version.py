@@ -32,8 +32,8 @@ PLACES = [
 ASKS = "import sys; sys.path.insert(0, 'tools'); sys.dont_write_bytecode = True; import commits; print(commits.commit_here())"
 
 
-class VersionTest(ProgramTest):
-    """The version of a release."""
+class VersionTest(CaseTest):
+    """The version in files of the repository."""
 
     def test_places(self):
         """The version of the header is in each of these places."""
@@ -48,6 +48,10 @@ class VersionTest(ProgramTest):
         day = re.search(r'^const EDITION: &str = " 1 (\S*) ', read(f"{ROOT}/crates/manual/src/page.rt").decode(), re.M)[1]
         last = re.search(r"^## \[\d.*$", read(f"{ROOT}/CHANGELOG.md").decode(), re.MULTILINE)[0]
         self.case("the last release", [last] * (last != f"## [{version()}] - {day}"))
+
+
+class PrintedVersionTest(ProgramTest):
+    """The version that the program prints."""
 
     def test_printed(self):
         """`--version` prints the version and the commit in the program, and a manual page the version alone."""
