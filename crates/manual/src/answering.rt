@@ -1,4 +1,4 @@
-//! Prints the page or script that was asked for.
+//! Prints the requested page or script.
 ghost use Rattle.std.specs.Prelude.{◌≡◌, ◌⊎◌, if◌then◌else◌};
 ghost use Rattle.manual.specs.Asked.{is_known};
 
@@ -37,7 +37,7 @@ Arguments:
 /// The fault of arguments that name no shell.
 const NO_SHELL: &str = "`help completions` needs the name of a shell: bash, zsh or fish";
 
-/// Prints what was asked for, and returns the exit status.
+/// Prints the requested page or script, and returns the exit status.
 ///
 /// A page or a script goes to `out`, with status 0. A name that isn't known is reported to `err`,
 /// with status 2. The status is 1 if memory ran out or the answer could not be written. The text is
