@@ -239,6 +239,7 @@ USAGES = {
     "[COMMAND]": {
         "unrecognized subcommand 'frob'": ["frob"],
         "unrecognized subcommand 'fr\\nob\\u{1b}'": ["fr\nob\x1b"],
+        "unrecognized subcommand 'runn'\n\n  tip: a similar subcommand exists: 'run'": ["runn a b c"],
         "unexpected argument '--frob' found": ["--frob"],
         "unexpected argument '--durable' found\n\n  tip: 'run --durable' exists": ["--durable run a b c"],
         "invalid UTF-8 was detected in one or more arguments": [b"\xff", b"choose \xff", b"run a b c\xff"],

@@ -61,6 +61,17 @@ NEW = [
      "b0e7d13f-3549-5b81-8920-1afe47f5feee", "dd83b851-7982-5c1c-b108-0b01299c47ed"),
 ]
 
+# Spellings of the size of a sector.
+SPELLINGS = {
+    512: ["512", "0x200", "0x00000200"],
+    2560: ["2560", "0xa00", "0xA00"],
+    4096: ["4096", "0x1000", "4k", "4K"],
+    131072: ["131072", "0x20000", "128k"],
+    0: ["0", "0x0", "0k", "0M"],
+    1048576: ["1048576", "0x100000", "1024k", "1M"],
+    2**32 - 1: ["4294967295", "0xffffffff", "0xFFFFFFFF"],
+}
+
 # Sizes that make no map, and the first check that fails.
 NO_MAPS = [
     (448, [1], "1 BadSector"),
@@ -144,7 +155,20 @@ class MakeDeviceTest(ProgramTest):
         self.case("a map: 512 bytes, slots of 2 and 19", [] if is_right else [f"{status} {out} {err}"])
 
 
-NO_SECTOR = "`--sector` is a number of bytes, in digits, below 4294967296"
+    def test_spelled_sizes(self):
+        """The size of a sector may be hexadecimal, or have a unit."""
+        for sector, spellings in SPELLINGS.items():
+            has_map = 512 <= sector <= 131072
+            for it in spellings:
+                status, out, err = self.run_program(make_device(it, [1], "v", "c"))
+                if has_map:
+                    is_right = (status, err) == (0, parts_of(sector, [1])) and json.loads(out)["sector"] == sector
+                else:
+                    is_right = (status, out, err) == (1, b"refused map 1 BadSector\n", b"")
+                self.case(f"make-device: --sector {it}", [] if is_right else [f"{status} {short(out)} {short(err)}"])
+
+
+NO_SECTOR = "`--sector` is a number of bytes, 512 to 131072, such as 4096, 0x1000 or 4k"
 NO_SLOTS = "`--slots` are numbers of sectors, one for each image, parted by commas: 2,2"
 NO_BOOTS = "`--trial-boots` is a number from 1 to 7"
 
@@ -152,7 +176,8 @@ NO_BOOTS = "`--trial-boots` is a number from 1 to 7"
 # it.
 UNREADABLE = {
     NO_SECTOR: [
-        *((it, "2", "1") for it in ("x", "", "+512", "0512", "0x200", "4294967296")),
+        *((it, "2", "1") for it in ("x", "", "+512", "0512", "4294967296", "k", "4kB", "4 k", "4m", "1G")),
+        *((it, "2", "1") for it in ("0x", "0X200", "0x+200", "0x 200", "0x200k", "0x100000000", "4096M", "4194304K")),
         ("x", "x", "x"),
     ],
     NO_SLOTS: [("512", it, "1") for it in ("", "2,", ",2", "2,,2", "2, 2", "2,4294967296")],

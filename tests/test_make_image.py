@@ -86,6 +86,24 @@ OF_EVERY_FIELD = bytes.fromhex(
     "0769280010002000e9885e5de50478b2504b848150b66588fab52fb12b37ea25ec691be78382dd77"
 )
 
+# The same options in hexadecimal, and as imgtool names the address.
+IN_HEXADECIMAL = ["--version=1.2.1027+134678021", "--load-addr=0x12345678", "--flags=0x111", "--header-size=0x20"]
+
+# Spellings of a load address, a size of the header and flags, as digits alone and otherwise.
+SPELLINGS = [
+    (["--load-address=131072"], ["--load-addr=128k"]),
+    (["--load-address=131072"], ["--load-address=0x20000"]),
+    (["--load-address=134217728"], ["--load-addr", "128M"]),
+    (["--load-address=4294966272"], ["--load-addr=4194303K"]),
+    (["--load-address=4293918720"], ["--load-addr=4095M"]),
+    (["--load-address=4294967295"], ["--load-addr=0xFFFFFFFF"]),
+    (["--header-size=1024"], ["--header-size=1k"]),
+    (["--header-size=64512"], ["--header-size=63K"]),
+    (["--header-size=65535"], ["--header-size=0xffff"]),
+    (["--flags=272"], ["--flags=0x110"]),
+    ([], ["--load-addr=0x0", "--flags=0k", "--header-size=0x020"]),
+]
+
 # The options of an image with a counter, a dependency and two groups, and its bytes after the body up to the
 # digest: these three, in order.
 IN_ORDER = ["--needs-one=2 2.0.0", "--needs=1 2.0.0", "--needs-one=1 2.0.0 2 2.0.0", "--counter=5", "--version=1.0.0"]
@@ -173,9 +191,20 @@ class MakeImageTest(ProgramTest):
             self.expect(f"new image: {name}", arguments, 0, b"done\n")
             self.expect(f"new image: {name}: what it says", ["image", "made"], 0, description(length, digest))
 
+    def test_spelled_options(self):
+        """Sizes, addresses and flags may be hexadecimal, or have a unit."""
+        self.file("body", b"ABCD")
+        for digits, spelled in SPELLINGS:
+            made = []
+            for options in (digits, spelled):
+                status, *_ = self.run_program(["make-image", "--force", "made", "body", "--version=1", *options])
+                made.append((status, read(f"{self.folder}/made")))
+            self.case(f"make-image: {spelled}", [] if made[0] == made[1] and made[0][0] == 0 else [f"{digits}"])
+
     def test_fullest_images(self):
         """An image at every limit: each field of its header, its entries in order, and the most of each."""
         expect_made(self, "with every field of its header", EVERY_FIELD, b"*", OF_EVERY_FIELD)
+        expect_made(self, "with hexadecimal options", IN_HEXADECIMAL, b"*", OF_EVERY_FIELD)
         arguments = ["make-image", "made", self.file("body", b"ABCD"), *IN_ORDER]
         self.expect("new image: with groups behind its dependency", arguments, 0, b"done\n")
         made = read(f"{self.folder}/made")

@@ -10,9 +10,14 @@ UNREADABLE = {
     "`--counter` is a number, in digits, below 4294967296": [
         "--counter=", "--counter=4294967296", "--security-counter=+1", "--counter=0x1"
     ],
-    "`--header-size` is a number of bytes, in digits, below 65536": ["--header-size=65536", "--header-size=x"],
-    "`--load-address` is a number, in digits, below 4294967296": ["--load-address=4294967296"],
-    "`--flags` is a number, in digits, below 4294967296": ["--flags=00"],
+    "`--header-size` is a number of bytes, 32 to 65535, such as 512, 0x200 or 1k": [
+        "--header-size=65536", "--header-size=x", "--header-size=64k", "--header-size=0x10000", "--header-size=1M",
+    ],
+    "`--load-address` is an address, 0 to 4294967295, such as 131072, 0x20000 or 128k": [
+        "--load-address=4294967296", "--load-addr=4096M", "--load-address=0x100000000", "--load-addr=4194304k",
+        "--load-address=0x", "--load-address=",
+    ],
+    "`--flags` is a number, 0 to 4294967295, such as 16 or 0x10": ["--flags=00", "--flags=0x1g", "--flags=-1"],
     "`--needs` is the number of an image and a version, in one word: '1 2.0.0'": [
         "--needs=", "--needs=1", "--needs=1 ", "--needs=1  2.0.0", "--needs= 1 2.0.0", "--needs=256 2.0.0",
         "--needs=1 2.0.0 2 2.0.0", "--needs=1 2.0.x", "--needs=1,2.0.0",

@@ -8,6 +8,7 @@ ghost use Rattle.command_line.specs.Orders.{HasTrialBoots, IsNumber, SaysDevice}
 ghost use Rattle.command_line.specs.Orders.{number_at, words_of};
 
 use crate::order_fault_texts;
+use crate::size_words::size_in;
 use crate::word_values::{WordReader, values_of};
 use clap::ArgMatches;
 use command_line::{NewDevice, name_in, named};
@@ -22,7 +23,7 @@ pub fn device_in<'a>(
 ) -> Result<Option<NewDevice<'a>>, AllocError>
     ensures { IfOk result (Finds (SaysDevice (rows_of (found_of names.now)))) }
 {
-    let Some(sector_size) = number_in(names, named::SECTOR) else {
+    let Some(sector_size) = size_in(names, named::SECTOR) else {
         return Ok(None);
     };
     let Some(slots) = name_in(names, named::SLOTS) else {
@@ -51,7 +52,7 @@ pub fn device_in<'a>(
 
 /// Returns the text of the first fault of arguments that describe no device.
 pub fn invalid_device(names: &ArgMatches<'_>) -> &'static str {
-    if number_in(names, named::SECTOR).is_none() {
+    if size_in(names, named::SECTOR).is_none() {
         order_fault_texts::NO_SECTOR
     } else if trial_boots_in(names).is_none() {
         order_fault_texts::NO_TRIAL_BOOTS

@@ -11,6 +11,7 @@ ghost use Rattle.command_line.specs.Orders.{texts_at, version_at};
 use crate::bracketed_words::bracketed_in;
 use crate::device_words::number_in;
 use crate::order_fault_texts;
+use crate::size_words::{header_size_in, size_said};
 use crate::word_values::{WordReader, values_in};
 use clap::ArgMatches;
 use command_line::{NewImage, name_in, named};
@@ -40,10 +41,10 @@ pub fn image_values_in(
     let Some(header_size) = header_size_in(names) else {
         return Ok(None);
     };
-    let Some(load_address) = number_said(names, named::LOAD_ADDRESS) else {
+    let Some(load_address) = size_said(names, named::LOAD_ADDRESS) else {
         return Ok(None);
     };
-    let Some(flags) = number_said(names, named::FLAGS) else {
+    let Some(flags) = size_said(names, named::FLAGS) else {
         return Ok(None);
     };
     Ok(Some(NewImage {
@@ -68,10 +69,10 @@ pub fn invalid_image(alloc: Global, names: &ArgMatches<'_>) -> Result<&'static s
     if header_size_in(names).is_none() {
         return Ok(order_fault_texts::NO_HEADER_SIZE);
     }
-    if number_said(names, named::LOAD_ADDRESS).is_none() {
+    if size_said(names, named::LOAD_ADDRESS).is_none() {
         return Ok(order_fault_texts::NO_LOAD_ADDRESS);
     }
-    if number_said(names, named::FLAGS).is_none() {
+    if size_said(names, named::FLAGS).is_none() {
         return Ok(order_fault_texts::NO_FLAGS);
     }
     if needs_in_words(alloc, names)?.is_none() {
@@ -99,19 +100,6 @@ pub fn number_said(names: &ArgMatches<'_>, argument: &str) -> Option<Option<u32>
         return Some(None);
     }
     Some(Some(number_in(names, argument)?))
-}
-
-/// Returns the size of the header in bytes, if it is given. Returns `None` if it isn't a number
-/// below 65536.
-fn header_size_in(names: &ArgMatches<'_>) -> Option<Option<u16>>
-    ensures { Finds (HasNumber (codes "header-size") (2 ^ 16) (rows_of (found_of names.now)))
-        result }
-{
-    if name_in(names, named::HEADER_SIZE).is_none() {
-        return Some(None);
-    }
-    let size = u16::try_from(number_in(names, named::HEADER_SIZE)?).ok()?;
-    Some(Some(size))
 }
 
 /// Returns the dependencies that are given: those of `--needs`, then those in brackets. Returns

@@ -26,6 +26,7 @@ mod orders;
 mod program;
 mod progress;
 mod requests;
+mod size_words;
 mod sweep_words;
 mod sweeping;
 mod until_failed;

@@ -27,13 +27,15 @@ pub const NO_VERSION: &str = "`--version` is `major.minor.revision+build`, such 
 pub const NO_COUNTER: &str = "`--counter` is a number, in digits, below 4294967296";
 
 /// The size of the header isn't valid.
-pub const NO_HEADER_SIZE: &str = "`--header-size` is a number of bytes, in digits, below 65536";
+pub const NO_HEADER_SIZE: &str =
+    "`--header-size` is a number of bytes, 32 to 65535, such as 512, 0x200 or 1k";
 
-/// The load address isn't a number.
-pub const NO_LOAD_ADDRESS: &str = "`--load-address` is a number, in digits, below 4294967296";
+/// The load address isn't valid.
+pub const NO_LOAD_ADDRESS: &str =
+    "`--load-address` is an address, 0 to 4294967295, such as 131072, 0x20000 or 128k";
 
-/// The flags aren't a number.
-pub const NO_FLAGS: &str = "`--flags` is a number, in digits, below 4294967296";
+/// The flags aren't valid.
+pub const NO_FLAGS: &str = "`--flags` is a number, 0 to 4294967295, such as 16 or 0x10";
 
 /// A dependency isn't valid.
 pub const NO_NEEDS: &str =
@@ -47,8 +49,9 @@ pub const NO_DEPENDENCIES: &str =
 pub const NO_NEEDS_ONE: &str =
     "`--needs-one` is numbers of images, each with a version, in one word: '1 2.0.0 2 2.0.0'";
 
-/// The size of a sector isn't a number.
-pub const NO_SECTOR: &str = "`--sector` is a number of bytes, in digits, below 4294967296";
+/// The size of a sector isn't valid.
+pub const NO_SECTOR: &str =
+    "`--sector` is a number of bytes, 512 to 131072, such as 4096, 0x1000 or 4k";
 
 /// The slots aren't numbers.
 pub const NO_SLOTS: &str =

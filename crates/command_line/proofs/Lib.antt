@@ -3,3 +3,4 @@ pub mod Folds
 pub mod Names
 pub mod OrderLaws
 pub mod Program
+mod SizesLaws

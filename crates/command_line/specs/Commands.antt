@@ -48,6 +48,11 @@ also_named rule other = record rule { aliases = other ∷ [] }
 abbrev pub counter_option : Rule
 counter_option = also_named (one_option (codes "counter") false) (codes "security-counter")
 
+-- The option of a load address.
+abbrev pub load_address_option : Rule
+load_address_option =
+    also_named (one_option (codes "load-address") false) (codes "load-addr")
+
 -- The rule of an argument.
 abbrev pub rule_for : Argument → Rule
 rule_for (argument.File name help) = one_name name.now
@@ -97,7 +102,7 @@ rules_of sub.MakeImage =
     one_name (codes "OUT") ∷ one_name (codes "BODY") ∷ one_option (codes "version") true
     ∷ counter_option ∷ options (codes "needs") ∷ options (codes "dependencies")
     ∷ options (codes "needs-one")
-    ∷ one_option (codes "header-size") false ∷ one_option (codes "load-address") false
+    ∷ one_option (codes "header-size") false ∷ load_address_option
     ∷ one_option (codes "flags") false ∷ one_flag (codes "force") ∷ []
 rules_of sub.MakeManifest =
     one_name (codes "DEVICE") ∷ one_option (codes "sequence") true

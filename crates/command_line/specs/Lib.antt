@@ -6,4 +6,5 @@ pub mod Given
 pub mod Needs
 pub mod OrderFaults
 pub mod Orders
+pub mod Sizes
 pub mod Status

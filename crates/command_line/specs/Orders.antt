@@ -20,6 +20,7 @@ use Rattle.command_line.specs.declared.commands.Subcommand.{Subcommand}
 use Rattle.command_line.specs.declared.commands.Subcommand.TheVariants as sub
 use Rattle.command_line.specs.Given.{IsNamed, is_given, is_standard_input, misuse_kind, standard_inputs}
 use Rattle.command_line.specs.Needs.{AreNeeds, IsBracketed, IsNeed}
+use Rattle.command_line.specs.Sizes.{size_of}
 use Rattle.command_line.specs.declared.orders.NewDevice.{NewDevice}
 use Rattle.command_line.specs.declared.orders.NewComponent.{NewComponent}
 use Rattle.command_line.specs.declared.orders.NewFile.{NewFile}
@@ -59,6 +60,10 @@ IsNumber word number = number_of word ≡ Some number
 abbrev pub number_at : Text → List Row → Option ℕ
 number_at argument rows = option_and_then number_of (first_of argument rows)
 
+-- The size or address that the matches have for an argument.
+abbrev pub size_at : Text → List Row → Option ℕ
+size_at argument rows = option_and_then size_of (first_of argument rows)
+
 -- The words of a text that are separated by commas.
 abbrev pub words_of : Text → List Text
 words_of text = slice_split (λ byte. byte == 44) text
@@ -72,7 +77,7 @@ HasTrialBoots rows (Some boots) =
 
 -- The matches of `make-device` describe this device.
 pub record SaysDevice (rows : List Row) (device : NewDevice) : Type 0 where
-  pub sector_size : number_at (codes "sector") rows ≡ Some device.sector_size
+  pub sector_size : size_at (codes "sector") rows ≡ Some device.sector_size
   pub sectors : IsSomeAnd (first_of (codes "slots") rows)
       (λ text. AllZip IsNumber (words_of text) device.sectors.items)
   pub vendor : IsNamed rows (codes "vendor") device.vendor.now
@@ -84,6 +89,12 @@ abbrev pub HasNumber : Text → ℕ → List Row → Option ℕ → Type 0
 HasNumber argument limit rows None = first_of argument rows ≡ None
 HasNumber argument limit rows (Some number) =
     (number_at argument rows ≡ Some number) × (number < limit)
+
+-- The size or address below a limit that the matches have for an argument, if they have one.
+abbrev pub HasSize : Text → ℕ → List Row → Option ℕ → Type 0
+HasSize argument limit rows None = first_of argument rows ≡ None
+HasSize argument limit rows (Some size) =
+    (size_at argument rows ≡ Some size) × (size < limit)
 
 -- The version that the matches have.
 abbrev pub version_at : List Row → Option Version
@@ -108,9 +119,9 @@ pub record SaysImage (rows : List Row) (image : NewImage) : Type 0 where
   pub dependencies : SaysDependencies rows image.dependencies.items
   pub groups : AllZip (λ text group. AreNeeds text group.items)
       (texts_at (codes "needs-one") rows) image.groups.items
-  pub header_size : HasNumber (codes "header-size") (2 ^ 16) rows image.header_size
-  pub load_address : HasNumber (codes "load-address") (2 ^ 32) rows image.load_address
-  pub flags : HasNumber (codes "flags") (2 ^ 32) rows image.flags
+  pub header_size : HasSize (codes "header-size") (2 ^ 16) rows image.header_size
+  pub load_address : HasSize (codes "load-address") (2 ^ 32) rows image.load_address
+  pub flags : HasSize (codes "flags") (2 ^ 32) rows image.flags
 
 -- `=`, which separates the number of an image from the name of a file.
 abbrev pub is_equals_sign : ℕ → Bool

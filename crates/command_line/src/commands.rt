@@ -60,6 +60,8 @@ pub mod named {
 
     pub const LOAD_ADDRESS: &str = "load-address";
 
+    pub const LOAD_ADDR: &str = "load-addr";
+
     pub const FLAGS: &str = "flags";
 
     pub const SEQUENCE: &str = "sequence";
@@ -170,7 +172,11 @@ const MAKE_IMAGE: &Definition = &Definition {
         Argument::Repeated(named::DEPENDENCIES, argument_help::DEPENDENCIES),
         Argument::Repeated(named::NEEDS_ONE, argument_help::NEEDS_ONE),
         Argument::Optional(named::HEADER_SIZE, argument_help::HEADER_SIZE),
-        Argument::Optional(named::LOAD_ADDRESS, argument_help::LOAD_ADDRESS),
+        Argument::Aliased(
+            named::LOAD_ADDRESS,
+            named::LOAD_ADDR,
+            argument_help::LOAD_ADDRESS,
+        ),
         Argument::Optional(named::FLAGS, argument_help::FLAGS),
         FORCE,
         EXPLAIN,

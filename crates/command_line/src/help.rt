@@ -254,8 +254,9 @@ pub const MAKE_DEVICE: &Help = &Help {
     about: "Make a device file, and print where the flash's parts are",
     long_about: "Make a device file from the sizes of a device's flash and the names of its
 vendor and class. Print it on standard output, and where the parts of the flash
-are on standard error. A device of two images, whose slots have two sectors of
-512 bytes each:
+are on standard error. BYTES may be typed 4096, 0x1000 or 4k; `k` and `K` are
+1024 bytes, `M` is 1024 k. A device of two images, whose slots have two sectors
+of 512 bytes each:
   bootswap make-device --sector 512 --slots 2,2 --vendor python.org \\
       --class sensor > device.json
 
@@ -294,8 +295,7 @@ See `bootswap make-device --help` for what is printed.",
   0  the device file is printed
   1  the sizes make no map, and the refusal is printed; or standard error has
      the line `error: memory`; or the output could not be written
-  2  usage error, also for a number that isn't digits alone, or isn't below
-     4294967296
+  2  usage error, also for a value that is no number or is 4294967296 or more
 
 Examples:
   bootswap make-device --sector 4096 --slots 60 --vendor example.com \\
@@ -330,8 +330,9 @@ means that the image needs one of these 1 to 4 images; it may be given up to 4
 times. Quotes keep the words of one dependency together.
 
 A counter is 0 to 4294967295. Without `--counter` the image has none, which
-counts as 0. Zero bytes fill a header of more than 32 bytes. The image isn't
-signed.
+counts as 0. Zero bytes fill a header of more than 32 bytes. A load address is 0
+to 4294967295. It, `--header-size` and `--flags` may be typed 4096, 0x1000 or
+4k; `k` and `K` are 1024, `M` is 1024 k. The image isn't signed.
 
 OUT comes before BODY, unlike in `cp` and `imgtool`. The command replaces OUT if
 it is an image or empty, once the new image is complete. It replaces another

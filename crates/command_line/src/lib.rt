@@ -22,6 +22,7 @@ mod faults;
 mod help;
 mod matching;
 mod orders;
+mod sizes;
 mod standard_input;
 
 pub use argument_help::OptionHelp;
@@ -37,4 +38,5 @@ pub use orders::{
     NewComponent, NewDevice, NewFile, NewImage, NewManifest, Order, ReadOrder, Request,
     SweepChoices,
 };
+pub use sizes::size_of;
 pub use standard_input::{inputs_with, is_standard_input, standard_inputs};
