@@ -3,7 +3,7 @@
 from support.commands import make_device
 from support.files import EXAMPLES, ONE, PAIR, read, report, table
 from support.flashes import expect_unchanged, flash_of
-from support.printed import IMAGE_USAGE, OF_ABC, OF_SENSOR, PARTS, UNREADABLE
+from support.printed import IMAGE_USAGE, OF_ABC, OF_SENSOR, PARTS, RUN_USAGE, UNREADABLE
 from support.program import ProgramTest, short, shown
 from support.stories import new_device
 
@@ -205,7 +205,7 @@ FIRST_WRONG = [
 ]
 
 DEVICE_USAGES = {
-    "run": "run <DEVICE> <FLASH> <SCRIPT>",
+    "run": RUN_USAGE,
     "show": "show <DEVICE> <FLASH>",
     "provision": "provision <DEVICE> <FLASH> <IMAGE>...",
 }
@@ -276,7 +276,7 @@ USAGES = {
         "unexpected argument 'c' found": ["slots a b c"],
         ONE_FILE: ["slots - -"],
     },
-    "run <DEVICE> <FLASH> <SCRIPT>": {
+    RUN_USAGE: {
         f"{MISSING}\n  <FLASH>\n  <SCRIPT>": ["run a"],
         "unexpected argument 'd' found": ["run a b c d"],
         "the argument '--durable' cannot be used multiple times": ["run --durable --durable a b c"],

@@ -16,6 +16,7 @@ ALIKE = [
     (["provision", PAIR, "flash", ONE, ONE], b""),
     (["run", PAIR, "flash", SCRIPT], b""),
     (["run", "--durable", PAIR, "flash", "-"], b"boot\nreset\nboot\n"),
+    (["run", "--strict", PAIR, "flash", "-"], b"confirm 0\nboot\n"),
     (["run", PAIR, "flash", "-"], b"cut 1\nboot\n"),
     (["run", PAIR, "flash", "-"], b"confirm 7\nboot 7\n"),
     (["run", "-", "flash", SCRIPT], b"no device"),

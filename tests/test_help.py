@@ -164,8 +164,9 @@ HELPS = {
         "  bootswap slots device.json flash.bin\n",
     ],
     "run -h": [
-        "Usage: bootswap run <DEVICE> <FLASH> <SCRIPT>\n",
+        "Usage: bootswap run <DEVICE> <FLASH> <SCRIPT> [--durable] [--strict]\n           [--explain]\n",
         "  --durable ",
+        "  --strict ",
         "Exit status: 0 ",
         "Example: bootswap run ",
     ],

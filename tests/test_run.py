@@ -39,19 +39,25 @@ DURABLY = ": --durable"
 # How many boots a killed run has in its script. Their replies are far longer than a pipe's buffer.
 MANY = 20_000
 
-# Events on a new device, their replies, and the status.
+# Events on a new device, their replies, the status, and that with `--strict`.
 LAST_REPLIES = [
     (
         "boot, accept text.json, piece 0 abcd, finish 0",
         [PLAIN, "done", "refused upload 4 TooMuch", NO_SESSION],
         1,
+        1,
     ),
-    ("boot, piece 2 abc", [PLAIN, NO_SESSION], 1),
-    ("boot, withdraw 2", [PLAIN, NOTHING_REQUESTED], 1),
-    ("boot, reset, accept text.json", [PLAIN, "done", NOT_UP], 1),
-    ("finish 0, reset", [NOT_UP, "done"], 0),
-    ("cut 1 keep, boot, accept trial.json", [PLAIN, "cut"], 3),
-    ("reset, reset", ["done", "done"], 0),
+    ("boot, piece 2 abc", [PLAIN, NO_SESSION], 1, 1),
+    ("boot, withdraw 2", [PLAIN, NOTHING_REQUESTED], 1, 1),
+    ("boot, reset, accept text.json", [PLAIN, "done", NOT_UP], 1, 1),
+    ("finish 0, reset", [NOT_UP, "done"], 0, 1),
+    ("finish 0, boot, reset", [NOT_UP, PLAIN, "done"], 0, 1),
+    ("cut 1 keep, boot, accept trial.json", [PLAIN, "cut"], 3, 3),
+    ("cut 1 keep, finish 0, boot, accept trial.json", [NOT_UP, PLAIN, "cut"], 3, 3),
+    ("cut 1 keep, finish 0, boot, accept trial.json, boot", [NOT_UP, PLAIN, "cut", PLAIN], 0, 1),
+    ("cut 1 keep, boot, accept trial.json, boot", [PLAIN, "cut", PLAIN], 0, 0),
+    ("cut 1 keep, boot, accept trial.json, finish 0", [PLAIN, "cut", NOT_UP], 1, 1),
+    ("reset, reset", ["done", "done"], 0, 0),
 ]
 
 
@@ -124,8 +130,10 @@ class RunTest(ProgramTest):
 
     def test_last_reply_decides_the_status(self):
         """The last reply decides the status, and all replies before it are printed whole."""
-        for events, replies, status in LAST_REPLIES:
+        for events, replies, status, strictly in LAST_REPLIES:
             expect_story(self, f"the last reply: {events}", [runs(events, replies, status)])
+            step = runs(events, replies, strictly, ["--strict"])
+            expect_story(self, f"any reply, with --strict: {events}", [step])
 
 
 ON_TRIAL = "accept examples/manifests/trial.json, piece 0 needing, piece 1 partner, finish 0, finish 1, boot"

@@ -43,6 +43,8 @@ Usage: bootswap make-image <OUT> <BODY> --version <VERSION> [--counter <N>]
 For more information, try '--help'.
 """
 
+RUN_USAGE = "run <DEVICE> <FLASH> <SCRIPT> [--durable] [--strict]\n           [--explain]"
+
 # Error lines.
 CANNOT_MAKE = b"error: flash file\n"
 IN_USE = b"error: flash in use\n"

@@ -96,10 +96,10 @@ def script_of(events):
     return "".join(f"{event}\n" for event in events.split(", ")).encode()
 
 
-def run_of(test, events, device=PAIR, cuts=()):
-    """How a run of these events ends, with power cuts at these writes."""
+def run_of(test, events, device=PAIR, cuts=(), options=()):
+    """How a run of these events ends, with power cuts at these writes, and with these options."""
     given = "".join(f"cut {number} {torn}\n" for number, torn in cuts).encode() + script_of(events)
-    return test.run_program(["run", device, "flash", "-"], given=given)
+    return test.run_program(["run", *options, device, "flash", "-"], given=given)
 
 
 def state(kind, images, sequence, floors, swaps, left=0):
@@ -115,10 +115,10 @@ def other_than(wanted, got, what):
     return [] if got == wanted else [f"{what}: {short(got)}, and not {short(wanted)}"]
 
 
-def runs(events, replies, status=0):
-    """A step: the events get these replies, and the run has this status."""
+def runs(events, replies, status=0, options=()):
+    """A step: the events get these replies, and the run with these options has this status."""
     return lambda test, device: other_than(
-        (status, numbered(replies), b""), run_of(test, events, device), short(events)
+        (status, numbered(replies), b""), run_of(test, events, device, options=options), short(events)
     )
 
 

@@ -117,7 +117,7 @@ rules_of sub.Show = one_name (codes "DEVICE") ∷ one_name (codes "FLASH") ∷ [
 rules_of sub.Slots = one_name (codes "DEVICE") ∷ one_name (codes "FLASH") ∷ []
 rules_of sub.Run =
     one_name (codes "DEVICE") ∷ one_name (codes "FLASH") ∷ one_name (codes "SCRIPT")
-    ∷ one_flag (codes "durable") ∷ []
+    ∷ one_flag (codes "durable") ∷ one_flag (codes "strict") ∷ []
 rules_of sub.Sweep =
     one_name (codes "DEVICE") ∷ one_name (codes "SCRIPT") ∷ all_names (codes "IMAGE")
     ∷ one_flag (codes "twice") ∷ one_option (codes "sample") false

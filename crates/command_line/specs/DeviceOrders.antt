@@ -11,23 +11,24 @@ use Rattle.command_line.specs.declared.device_orders.DeviceOrder.TheVariants.{Pr
 -- The subcommand of an order.
 abbrev pub subcommand_for : DeviceOrder → Subcommand
 subcommand_for (Provision device flash images) = sub.Provision
-subcommand_for (Run device flash script durable) = sub.Run
+subcommand_for (Run device flash script durable strict) = sub.Run
 
--- The names and the option of an order are those that the matches of its subcommand have.
+-- The names and the options of an order are those that the matches of its subcommand have.
 abbrev pub HasNames : List Row → DeviceOrder → Type 0
 HasNames rows (Provision device flash images) =
     IsNamed rows (codes "DEVICE") device.now × IsNamed rows (codes "FLASH") flash.now
     × (all_of (codes "IMAGE") rows ≡ Some (map (λ image. image.now) images.items))
-HasNames rows (Run device flash script durable) =
+HasNames rows (Run device flash script durable strict) =
     IsNamed rows (codes "DEVICE") device.now × IsNamed rows (codes "FLASH") flash.now
     × IsNamed rows (codes "SCRIPT") script.now × (durable ≡ is_given (codes "durable") rows)
+    × (strict ≡ is_given (codes "strict") rows)
 
 -- All the names of an order.
 abbrev pub names_of : DeviceOrder → List (Bor Text)
 names_of (Provision device flash images) = device ∷ flash ∷ images.items
-names_of (Run device flash script durable) = device ∷ flash ∷ script ∷ []
+names_of (Run device flash script durable strict) = device ∷ flash ∷ script ∷ []
 
 -- The file that an order writes is standard input.
 abbrev pub writes_to_standard_input : DeviceOrder → Bool
 writes_to_standard_input (Provision device flash images) = is_standard_input flash
-writes_to_standard_input (Run device flash script durable) = is_standard_input flash
+writes_to_standard_input (Run device flash script durable strict) = is_standard_input flash

@@ -83,6 +83,8 @@ pub const PERMANENT: OptionHelp = OptionHelp(
 
 pub const STRICT: &str = "End with status 1 if the device will not take a file";
 
+pub const STRICT_RUN: &str = "End with status 1 if any reply is a refusal";
+
 pub const TWICE: &str = "Also cut each write of the boot after a cut";
 
 pub const SAMPLE: OptionHelp = OptionHelp(

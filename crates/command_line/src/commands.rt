@@ -250,6 +250,7 @@ const RUN: &Definition = &Definition {
         Argument::File(named::FLASH, argument_help::FLASH_FILE),
         Argument::File(named::SCRIPT, argument_help::SCRIPT_FILE),
         Argument::Flag(named::DURABLE, argument_help::DURABLE),
+        Argument::Flag(named::STRICT, argument_help::STRICT_RUN),
         EXPLAIN,
     ],
 };

@@ -43,6 +43,8 @@ pub enum DeviceOrder<'a> {
         script: &'a str,
         /// Whether each write is on the medium before the next write, also of a plain file.
         durable: bool,
+        /// Whether the exit status is 1 if any reply is a refusal, and not only the last one.
+        strict: bool,
     },
 }
 
@@ -198,11 +200,13 @@ pub fn run_in<'a>(names: &ArgMatches<'a>) -> Option<DeviceOrder<'a>>
     let flash = name_in(names, named::FLASH)?;
     let script = name_in(names, named::SCRIPT)?;
     let durable = is_given(names, named::DURABLE);
+    let strict = is_given(names, named::STRICT);
     Some(DeviceOrder::Run {
         device,
         flash,
         script,
         durable,
+        strict,
     })
 }
 

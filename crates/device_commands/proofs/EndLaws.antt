@@ -1,5 +1,5 @@
 -- The answers of `provision` and `run`, from what was read in turn and what was written.
-use Rattle.std.proofs.Common.{◌≡◌, ℕ, List, [], ◌∷◌, Option, Result, Ok, Err, IfErr, IfOk, ap, arith, inl, refl, subst}
+use Rattle.std.proofs.Common.{◌≡◌, ℕ, Bool, List, [], ◌∷◌, Option, Result, Ok, Err, IfErr, IfOk, ap, arith, inl, refl, subst}
 use Rattle.std.specs.Borrow.{Bor}
 use Rattle.host.specs.declared.answer.Answer.{Answer}
 use Rattle.host.specs.declared.answer.Answer.TheVariants.{Done, Refused, Cut}
@@ -91,16 +91,16 @@ KeepsFiles-told (Ok Cut) (made.Refused fault) files new_files old new answered l
 KeepsFiles-told (Err refusal) (made.Refused fault) files new_files old new answered late kept ends =
     kept (not_done fault)
 
-AnswersRun-runs : (answer : Answer) (device flash script : Source) (input : Option (List ℕ))
+AnswersRun-runs : (is_strict : Bool) (answer : Answer) (device flash script : Source) (input : Option (List ℕ))
     (file : FileBytes) (old new : Option (List ℕ))
-    → RunsDevice answer (device ∷ flash ∷ script ∷ []) input file old new
-    → AnswersRun answer device flash script input file old new
-AnswersRun-runs Done device flash script input file old new runs = runs
-AnswersRun-runs Refused device flash script input file old new runs = inl runs
-AnswersRun-runs Cut device flash script input file old new runs = runs
+    → RunsDevice is_strict answer (device ∷ flash ∷ script ∷ []) input file old new
+    → AnswersRun is_strict answer device flash script input file old new
+AnswersRun-runs is_strict Done device flash script input file old new runs = runs
+AnswersRun-runs is_strict Refused device flash script input file old new runs = inl runs
+AnswersRun-runs is_strict Cut device flash script input file old new runs = runs
 
 -- `run` read a device file, then its flash, and then a script with the files that it names.
-pub AnswersRun-read : (answer : Answer) (device : Source) (flash : Bor (List ℕ)) (script : Source)
+pub AnswersRun-read : (is_strict : Bool) (answer : Answer) (device : Source) (flash : Bor (List ℕ)) (script : Source)
     (input second_input third_input fourth_input : Option (List ℕ))
     (file second_file third_file fourth_file : FileBytes)
     (old mid new : Option (List ℕ)) (bytes text : List ℕ) (cuts : List Armed) (came : List (Event (List ℕ)))
@@ -111,16 +111,16 @@ pub AnswersRun-read : (answer : Answer) (device : Source) (flash : Bor (List ℕ
     → Gives script third_input third_file text
     → KeepsOthers script third_input third_file fourth_input fourth_file
     → ((known : Known) → StaysKnown known fourth_input fourth_file → IsScript text known cuts came)
-    → IsFlashOf of_device.map bytes → mid ≡ old → Plays answer of_device bytes cuts came mid new
-    → AnswersRun answer device (source.File flash) script input file old new
-AnswersRun-read answer device flash script input second_input third_input fourth_input file second_file third_file
+    → IsFlashOf of_device.map bytes → mid ≡ old → Plays is_strict answer of_device bytes cuts came mid new
+    → AnswersRun is_strict answer device (source.File flash) script input file old new
+AnswersRun-read is_strict answer device flash script input second_input third_input fourth_input file second_file third_file
     fourth_file old mid new bytes text cuts came of_device given kept flash_given flash_kept script_given script_kept says
     whole same plays =
     let first : Known = record { input = input; files = file } in
     let second = known_after device first in
     let stays = StaysKnown-read device first input second_input file second_file (StaysKnown-itself input file) kept in
     let still = StaysKnown-read (source.File flash) second second_input third_input second_file third_file stays flash_kept in
-    AnswersRun-runs answer device (source.File flash) script input file old new (record {
+    AnswersRun-runs is_strict answer device (source.File flash) script input file old new (record {
       device_bytes = given.0;
       of_device = of_device;
       bytes = bytes;
@@ -135,5 +135,5 @@ AnswersRun-read answer device flash script input second_input third_input fourth
       whole = whole;
       script = says (known_after script second)
           (StaysKnown-read script second third_input fourth_input third_file fourth_file still script_kept);
-      plays = subst (λ o. Plays answer of_device bytes cuts came o new) same plays;
+      plays = subst (λ o. Plays is_strict answer of_device bytes cuts came o new) same plays;
     })

@@ -1,5 +1,5 @@
 -- A flush after the answer of a command changes nothing.
-use Rattle.std.proofs.Common.{ℕ, List, Option}
+use Rattle.std.proofs.Common.{ℕ, Bool, List, Option}
 use Rattle.std.proofs.KnownBytes.{Appends-kept}
 use Rattle.std.specs.Io.KnownBytes.{Keeps}
 use Rattle.command_line.specs.declared.device_orders.DeviceOrder.{DeviceOrder}
@@ -40,11 +40,11 @@ AnswersProvision-kept device names input file held old mid new answered kept = r
   answered = AnswersMade-kept answered.outcome old mid new answered.answered kept;
 }
 
-AnswersRun-kept : (device flash script : Source) (input : Option (List ℕ)) (file : FileBytes)
+AnswersRun-kept : (is_strict : Bool) (device flash script : Source) (input : Option (List ℕ)) (file : FileBytes)
     (old mid new : Option (List ℕ))
-    → AnswersRun Done device flash script input file old mid → Keeps mid new
-    → AnswersRun Done device flash script input file old new
-AnswersRun-kept device flash script input file old mid new answered kept = record {
+    → AnswersRun is_strict Done device flash script input file old mid → Keeps mid new
+    → AnswersRun is_strict Done device flash script input file old new
+AnswersRun-kept is_strict device flash script input file old mid new answered kept = record {
   device_bytes = answered.device_bytes;
   of_device = answered.of_device;
   bytes = answered.bytes;
@@ -75,9 +75,9 @@ AnswersCore-kept (Provision device flash images) input file then old mid new ans
   answered.1,
   AnswersProvision-kept answered.0 (names_of images.items) input file (then flash.now) old mid new answered.2 kept,
 )
-AnswersCore-kept (Run device flash script durable) input file then old mid new answered kept = (
+AnswersCore-kept (Run device flash script durable strict) input file then old mid new answered kept = (
   answered.0,
   answered.1,
   answered.2,
-  AnswersRun-kept answered.0 (source.File flash) answered.1 input file old mid new answered.3 kept,
+  AnswersRun-kept strict answered.0 (source.File flash) answered.1 input file old mid new answered.3 kept,
 )

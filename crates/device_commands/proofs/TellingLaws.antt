@@ -1,10 +1,13 @@
 -- Replies that are written one by one: what all of them give, and what was written if one could not
 -- be.
-use Rattle.std.proofs.Common.{◌≡◌, ℕ, ◌+◌, ◌-◌, Bool, false, List, [], ◌∷◌, ◌++◌, Option, Some, Result, Ok, Err, IfErr, IfOk, ap, append-nil, arith, get_or, length, length-append, map, refl, subst, sym, take, ◌∙◌}
+use Rattle.std.proofs.Common.{◌≡◌, ℕ, ◌+◌, ◌-◌, ◌||◌, Bool, false, List, [], ◌∷◌, ◌++◌, Option, Some, Result, Ok, Err, IfErr, IfOk, ap, append-nil, arith, get_or, length, length-append, map, refl, subst, sym, take, ◌∙◌}
 use Rattle.std.specs.Io.KnownBytes.{Appends}
+use Rattle.std.specs.List.{list_any}
 use Rattle.std.proofs.KnownBytes.{Appends-nil, Appends-trans}
+use Rattle.std.proofs.Math.Bool.{or-false}
 use Rattle.std.proofs.Math.Seq.{get_or-append_seam}
 use Rattle.std.proofs.lemmas.List.{length-map, map-append}
+use Rattle.std.proofs.lemmas.List.Folds.{list_any-append}
 use Rattle.std.proofs.lemmas.Option.{slice_get-get_or}
 use Rattle.common.specs.declared.event.Event.{Event}
 use Rattle.flash_model.specs.declared.torn.Armed.{Armed}
@@ -14,6 +17,7 @@ use Rattle.machine.specs.Intake.{Setup}
 use Rattle.machine.specs.Passing.{StepsTo}
 use Rattle.machine.specs.Steps.{DeviceEvent}
 use Rattle.machine.specs.declared.reply.Reply.{Reply}
+use Rattle.machine.specs.declared.reply.Reply.TheVariants as reply
 use Rattle.machine.proofs.Runs.{runs_more, runs_none}
 use Rattle.boot_core.specs.CutEvents.{IsCutAsDue, IsCutByWrite}
 use Rattle.boot_core.specs.Device.{seen}
@@ -30,20 +34,33 @@ use Rattle.device_texts.proofs.ReplyLaws.{replies_text-push}
 use Rattle.common.specs.Lines.{lines_of}
 use Rattle.host.specs.Input.{FileBytes}
 use Rattle.inputs.specs.declared.checking.BufferedInput.{BufferedInput}
-use Rattle.device_commands.specs.RunEnd.{IsMadeOf, answer_after, answer_of, came_by}
+use Rattle.device_commands.specs.RunEnd.{IsMadeOf, answer_after, came_by, ending, is_refusal, last_answer}
 use Rattle.device_texts.specs.DeviceFile.{setup_of}
-use Rattle.device_commands.specs.Telling.{BreaksEvent, BreaksText, PlaysRun, PlaysText, RepliesTo, RepliesToAll, TellsAll, TellsEvent, TellsFirst, TellsSome, TellsText}
+use Rattle.device_commands.specs.Telling.{BreaksEvent, BreaksText, PlaysRun, PlaysText, RepliesTo, RepliesToAll, TellsAll, TellsEvent, TellsFirst, TellsSome, TellsText, is_refused}
 use Rattle.inputs.specs.Loading.{LoadsAll}
 use Rattle.inputs.proofs.ScriptLaws.{AreTaken, LoadsFirst-none, LoadsFirst-taken}
 
 -- The last reply gives the answer of a run.
-answer_of-push : (replies : List Reply) (reply : Reply) → answer_of (replies ++ reply ∷ []) ≡ answer_after (Some reply)
-answer_of-push replies reply =
+last_answer-push : (replies : List Reply) (reply : Reply)
+    → last_answer (replies ++ reply ∷ []) ≡ answer_after (Some reply)
+last_answer-push replies reply =
     let all = replies ++ reply ∷ [] in
     let count : length all ≡ length replies + 1 = length-append replies (reply ∷ []) in
     let last : length all - 1 ≡ length replies = omega (arith, count) in
     ap answer_after (slice_get-get_or all (length all - 1) reply (omega (arith, count))
     ∙ ap Some (ap (λ k. get_or all k reply) last ∙ get_or-append_seam replies reply [] reply))
+
+-- A reply is a refusal exactly if its answer says so.
+is_refused-after : (reply : Reply) → is_refused (answer_after (Some reply)) ≡ is_refusal reply
+is_refused-after (reply.Refused fault) = refl
+is_refused-after _ = refl
+
+-- One more reply may be a refusal.
+any_refusal-push : (replies : List Reply) (reply : Reply)
+    → list_any is_refusal (replies ++ reply ∷ []) ≡ (list_any is_refusal replies || is_refusal reply)
+any_refusal-push replies reply =
+    list_any-append is_refusal replies (reply ∷ [])
+    ∙ ap (λ (b : Bool). list_any is_refusal replies || b) (or-false (is_refusal reply))
 
 -- The number of replies is that of the events.
 replied : (events : List DeviceEvent) (replies : List Reply) (came : List (Event (List ℕ)))
@@ -69,26 +86,28 @@ RepliesToAll-more setup here old mid new came one replies so_far same step =
 
 -- There was no event yet.
 pub TellsAll-none : (setup : Setup) (here : DeviceView) (written : Option (List ℕ))
-    → here.flash.faults ≡ 0 → TellsAll Done false setup here here [] written written
+    → here.flash.faults ≡ 0 → TellsAll Done false false setup here here [] written written
 TellsAll-none setup here written sound = record {
   replies = [];
   run = record { events = []; come = refl; runs = runs_none setup here; each = refl; due = refl };
   sound = λ none. (sound, refl);
   answered = refl;
+  is_refused = refl;
   written = Appends-nil written;
 }
 
 -- The reply to one more event was written.
 pub TellsAll-more : (setup here : Setup) (old mid new : DeviceView) (came : List (Event (List ℕ)))
-    (one : Event (List ℕ)) (number : ℕ) (answer next : Answer) (failed fails : Bool)
+    (one : Event (List ℕ)) (number : ℕ) (answer next : Answer) (refused refuses failed fails : Bool)
     (before between after : Option (List ℕ))
-    → TellsAll answer failed setup old mid came before between → number ≡ length came + 1 → here ≡ setup
+    → TellsAll answer refused failed setup old mid came before between → number ≡ length came + 1 → here ≡ setup
     → TellsEvent next number here mid new one between after
+    → refuses ≡ (refused || is_refused next)
     → (fails ≡ false → (failed ≡ false) × (new.flash.faults ≡ 0))
-    → TellsAll next fails setup old new (came ++ one ∷ []) before after
+    → TellsAll next refuses fails setup old new (came ++ one ∷ []) before after
 unfolding RepliesToAll-more
-TellsAll-more setup here old mid new came one number answer next failed fails before between after so_far counted same
-    told sound =
+TellsAll-more setup here old mid new came one number answer next refused refuses failed fails before between after
+    so_far counted same told refusing sound =
     let run = so_far.run in
     let step = told.step in
     let count = replied run.events so_far.replies came run.come run.each in
@@ -104,7 +123,11 @@ TellsAll-more setup here old mid new came one number answer next failed fails be
                 (subst (λ s. StepsTo s mid new step.event step.reply) same step.steps)
                 (cut_by_due mid.flash new.flash step.reply before_it.0 now.1 step.due),
           );
-      answered = told.answered ∙ sym (answer_of-push so_far.replies step.reply);
+      answered = told.answered ∙ sym (last_answer-push so_far.replies step.reply);
+      is_refused = refusing ∙ ap (λ (b : Bool). b || is_refused next) so_far.is_refused
+          ∙ ap (λ (b : Bool). list_any is_refusal so_far.replies || b)
+          (ap is_refused told.answered ∙ is_refused-after step.reply)
+          ∙ sym (any_refusal-push so_far.replies step.reply);
       written = subst (Appends before after) (sym (replies_text-push 1 so_far.replies step.reply))
           (Appends-trans before between after _ _ so_far.written
           (subst (λ k. Appends between after (reply_text k step.reply)) place told.written));
@@ -112,12 +135,13 @@ TellsAll-more setup here old mid new came one number answer next failed fails be
 
 -- The reply to one more event was not written.
 pub TellsSome-more : (refusal : Refusal) (setup here : Setup) (old mid new : DeviceView)
-    (came : List (Event (List ℕ))) (one : Event (List ℕ)) (number : ℕ) (answer : Answer) (failed : Bool)
+    (came : List (Event (List ℕ))) (one : Event (List ℕ)) (number : ℕ) (answer : Answer) (refused failed : Bool)
     (before between after : Option (List ℕ))
-    → TellsAll answer failed setup old mid came before between → number ≡ length came + 1 → here ≡ setup
+    → TellsAll answer refused failed setup old mid came before between → number ≡ length came + 1 → here ≡ setup
     → BreaksEvent refusal number here mid new one between after
     → TellsSome refusal setup old new (came ++ one ∷ []) before after
-TellsSome-more refusal setup here old mid new came one number answer failed before between after so_far counted same told =
+TellsSome-more refusal setup here old mid new came one number answer refused failed before between after so_far counted
+    same told =
     let run = so_far.run in
     let reply = told.step.reply in
     let count = replied run.events so_far.replies came run.come run.each in
@@ -143,9 +167,10 @@ not_of_file refusal one file =
 
 -- All replies so far were written. Then the next line could not be read, or the flash file failed.
 pub TellsSome-all : (refusal : Refusal) (setup : Setup) (old new : DeviceView) (came : List (Event (List ℕ)))
-    (answer : Answer) (failed : Bool) (before after : Option (List ℕ))
-    → TellsAll answer failed setup old new came before after → TellsSome refusal setup old new came before after
-TellsSome-all refusal setup old new came answer failed before after told = record {
+    (answer : Answer) (refused failed : Bool) (before after : Option (List ℕ))
+    → TellsAll answer refused failed setup old new came before after
+    → TellsSome refusal setup old new came before after
+TellsSome-all refusal setup old new came answer refused failed before after told = record {
   told = told.replies;
   untold = [];
   count = 0;
@@ -171,24 +196,24 @@ BreaksText-some refusal setup old new text rest line_order taken buffered files 
 
 -- A run reached the end of its script, and the flash file failed.
 pub BreaksText-all : (setup : Setup) (old new : DeviceView) (text : List ℕ) (buffered : List BufferedInput) (files : FileBytes)
-    (came : List (Event (List ℕ))) (answer : Answer) (failed : Bool) (before after : Option (List ℕ))
-    → LoadsAll text buffered files came → TellsAll answer failed setup old new came before after
+    (came : List (Event (List ℕ))) (answer : Answer) (refused failed : Bool) (before after : Option (List ℕ))
+    → LoadsAll text buffered files came → TellsAll answer refused failed setup old new came before after
     → BreaksText FlashFile setup old new text buffered files before after
-BreaksText-all setup old new text buffered files came answer failed before after comes told = record {
+BreaksText-all setup old new text buffered files came answer refused failed before after comes told = record {
   lines = length (lines_of text);
   came = came;
   comes = comes;
-  tells = TellsSome-all FlashFile setup old new came answer failed before after told;
+  tells = TellsSome-all FlashFile setup old new came answer refused failed before after told;
   whole = λ file. refl;
 }
 
 -- All replies of a new device were written.
-PlaysText-told : (device : DeviceFile) (bytes : List ℕ) (cuts : List Armed) (text : List ℕ)
+PlaysText-told : (is_strict : Bool) (device : DeviceFile) (bytes : List ℕ) (cuts : List Armed) (text : List ℕ)
     (buffered : List BufferedInput) (files : FileBytes) (old new : DeviceView) (answer : Answer)
     (before after : Option (List ℕ)) → IsMadeOf device.map bytes cuts old
-    → TellsText answer (setup_of device) old new text buffered files before after
-    → PlaysText answer device bytes cuts text buffered files before after
-PlaysText-told device bytes cuts text buffered files old new answer before after made all =
+    → TellsText is_strict answer (setup_of device) old new text buffered files before after
+    → PlaysText is_strict answer device bytes cuts text buffered files before after
+PlaysText-told is_strict device bytes cuts text buffered files old new answer before after made all =
     let told = all.tells in
     let run = told.run in
     record {
@@ -200,7 +225,8 @@ PlaysText-told device bytes cuts text buffered files old new answer before after
         come = run.come;
         played = record { old = old; new = new; made = made; runs = run.runs; each = run.each };
         cut = (told.sound refl).1;
-        answered = told.answered;
+        answered = all.ends ∙ ap (λ (b : Bool). ending is_strict b all.last) told.is_refused
+            ∙ ap (ending is_strict (list_any is_refusal told.replies)) told.answered;
         written = told.written;
       };
     }
@@ -220,24 +246,24 @@ TellsFirst-none device bytes cuts text buffered files written =
         lines = 0;
         came = [];
         comes = LoadsFirst-none text buffered files;
-        tells = TellsSome-all NoMemory setup here here [] Done false written written
+        tells = TellsSome-all NoMemory setup here here [] Done false false written written
             (TellsAll-none setup here written refl);
         whole = λ file. absurd (not_of_file NoMemory refl file);
       };
     }
 
 -- A run of a new device was answered, or ended without an answer.
-pub PlaysRun-made : (device : DeviceFile) (bytes : List ℕ) (cuts : List Armed) (text : List ℕ)
+pub PlaysRun-made : (is_strict : Bool) (device : DeviceFile) (bytes : List ℕ) (cuts : List Armed) (text : List ℕ)
     (buffered : List BufferedInput) (files : FileBytes) (old new : DeviceView) (before after : Option (List ℕ))
     → IsMadeOf device.map bytes cuts old → (result : Result Answer Refusal)
-    → IfOk result (λ answer. TellsText answer (setup_of device) old new text buffered files before after)
+    → IfOk result (λ answer. TellsText is_strict answer (setup_of device) old new text buffered files before after)
     → IfErr result (λ refusal. BreaksText refusal (setup_of device) old new text buffered files before after)
-    → PlaysRun result device bytes cuts text buffered files before after
-PlaysRun-made device bytes cuts text buffered files old new before after made (Ok answer) all some = record {
-  plays = PlaysText-told device bytes cuts text buffered files old new answer before after made all;
+    → PlaysRun is_strict result device bytes cuts text buffered files before after
+PlaysRun-made is_strict device bytes cuts text buffered files old new before after made (Ok answer) all some = record {
+  plays = PlaysText-told is_strict device bytes cuts text buffered files old new answer before after made all;
   tells = tt;
 }
-PlaysRun-made device bytes cuts text buffered files old new before after made (Err refusal) all some = record {
+PlaysRun-made is_strict device bytes cuts text buffered files old new before after made (Err refusal) all some = record {
   plays = tt;
   tells = record { old = old; new = new; made = made; breaks = some };
 }

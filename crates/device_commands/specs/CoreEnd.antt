@@ -16,6 +16,6 @@ abbrev pub AnswersCore : Answer → DeviceOrder → Option (List ℕ) → FileBy
 AnswersCore answer (Provision device flash images) input file then old new =
     (source : Source) × IsNamed device.now source
     × AnswersProvision answer source (names_of images.items) input file (then flash.now) old new
-AnswersCore answer (Run device flash script durable) input file then old new =
+AnswersCore answer (Run device flash script durable strict) input file then old new =
     (one other : Source) × AreNamed device.now script.now one other
-    × AnswersRun answer one (source.File flash) other input file old new
+    × AnswersRun strict answer one (source.File flash) other input file old new

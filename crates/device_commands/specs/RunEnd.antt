@@ -1,5 +1,6 @@
 -- The result of `run`.
-use Rattle.std.specs.Prelude.{◌≡◌, ◌⊎◌, ℕ, ◌-◌, false, List, [], ◌∷◌, length, Option, None, Some, map, slice_get}
+use Rattle.std.specs.Prelude.{◌≡◌, ◌⊎◌, ◌&&◌, ℕ, ◌-◌, Bool, false, true, List, [], ◌∷◌, if◌then◌else◌, length, Option, None, Some, map, slice_get}
+use Rattle.std.specs.List.{list_any}
 use Rattle.std.specs.Io.KnownBytes.{Appends}
 use Rattle.common.specs.declared.event.Event.{Event}
 use Rattle.common.specs.Event.{event_map}
@@ -54,8 +55,28 @@ answer_after (Some (reply.TrialAgain set left)) = Done
 answer_after (Some (reply.Refused fault)) = Refused
 answer_after (Some reply.Cut) = Cut
 
-abbrev pub answer_of : List Reply → Answer
-answer_of replies = answer_after (slice_get replies (length replies - 1))
+-- The answer of the last of some replies.
+abbrev pub last_answer : List Reply → Answer
+last_answer replies = answer_after (slice_get replies (length replies - 1))
+
+-- Whether a reply is a refusal.
+abbrev pub is_refusal : Reply → Bool
+is_refusal (reply.Refused fault) = true
+is_refusal other = false
+
+-- The answer that a refused reply makes of this one. A power cut in the last event stays the answer.
+abbrev pub once_refused : Answer → Answer
+once_refused Done = Refused
+once_refused Refused = Refused
+once_refused Cut = Cut
+
+-- The answer of a run: that of its last reply. With `--strict` it is `Refused` if any reply is a
+-- refusal, unless the power failed in the last event.
+abbrev pub ending : Bool → Bool → Answer → Answer
+ending is_strict has_refused last = if is_strict && has_refused then once_refused last else last
+
+abbrev pub answer_of : Bool → List Reply → Answer
+answer_of is_strict replies = ending is_strict (list_any is_refusal replies) (last_answer replies)
 
 -- The event of a device, with the bytes that it borrows.
 abbrev pub came_by : DeviceEvent → Event (List ℕ)
@@ -64,21 +85,21 @@ came_by lent = event_map (λ bytes. bytes.now) lent
 -- The answer of a run of these events on a device of this file, whose flash has these bytes and is
 -- armed with these cuts. A writer took the replies. Event by event, the reply is Cut exactly if the
 -- flash took an armed write in it.
-pub record Plays (answer : Answer) (device : DeviceFile) (bytes : List ℕ) (cuts : List Armed)
-    (came : List (Event (List ℕ))) (old new : Option (List ℕ)) : Type 0 where
+pub record Plays (is_strict : Bool) (answer : Answer) (device : DeviceFile) (bytes : List ℕ)
+    (cuts : List Armed) (came : List (Event (List ℕ))) (old new : Option (List ℕ)) : Type 0 where
   pub events : List DeviceEvent
   pub replies : List Reply
   pub come : map came_by events ≡ came
   pub played : IsPlayed device bytes cuts events replies
   pub cut : CutsEach (setup_of device) played.old events replies played.new
-  pub answered : answer ≡ answer_of replies
+  pub answered : answer ≡ answer_of is_strict replies
   pub written : Appends old new (replies_text 1 replies)
 
 -- `run` read a device file, its flash and a script with the files that it names. It wrote the
 -- replies of the device to the events of the script. Exactly the writes of the flash that the
 -- script names were cut.
-pub record RunsDevice (answer : Answer) (sources : List Source) (input : Option (List ℕ))
-    (files : FileBytes) (old new : Option (List ℕ)) : Type 0 where
+pub record RunsDevice (is_strict : Bool) (answer : Answer) (sources : List Source)
+    (input : Option (List ℕ)) (files : FileBytes) (old new : Option (List ℕ)) : Type 0 where
   pub device_bytes : List ℕ
   pub of_device : DeviceFile
   pub bytes : List ℕ
@@ -90,16 +111,16 @@ pub record RunsDevice (answer : Answer) (sources : List Source) (input : Option 
   pub whole : IsFlashOf of_device.map bytes
   pub script : IsScript text (known_after_each sources (record { input = input; files = files }))
       cuts came
-  pub plays : Plays answer of_device bytes cuts came old new
+  pub plays : Plays is_strict answer of_device bytes cuts came old new
 
 -- The answer of `run`: it ran the device, or wrote why the sizes of the device file make no map. In
 -- the second case the other files don't matter.
-abbrev pub AnswersRun : Answer → Source → Source → Source → Option (List ℕ) → FileBytes
+abbrev pub AnswersRun : Bool → Answer → Source → Source → Source → Option (List ℕ) → FileBytes
     → Option (List ℕ) → Option (List ℕ) → Type 0
-AnswersRun Done device flash script input files old new =
-    RunsDevice Done (device ∷ flash ∷ script ∷ []) input files old new
-AnswersRun Refused device flash script input files old new =
-    RunsDevice Refused (device ∷ flash ∷ script ∷ []) input files old new
+AnswersRun is_strict Done device flash script input files old new =
+    RunsDevice is_strict Done (device ∷ flash ∷ script ∷ []) input files old new
+AnswersRun is_strict Refused device flash script input files old new =
+    RunsDevice is_strict Refused (device ∷ flash ∷ script ∷ []) input files old new
     ⊎ RefusesMap device input files old new
-AnswersRun Cut device flash script input files old new =
-    RunsDevice Cut (device ∷ flash ∷ script ∷ []) input files old new
+AnswersRun is_strict Cut device flash script input files old new =
+    RunsDevice is_strict Cut (device ∷ flash ∷ script ∷ []) input files old new

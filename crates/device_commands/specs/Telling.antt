@@ -1,6 +1,7 @@
 -- The result of writing the replies of a device one by one, for the private contracts of `run`.
-use Rattle.std.specs.Prelude.{◌≡◌, ℕ, ◌+◌, ◌≤◌, Bool, false, List, [], ◌++◌, length, Option, Some, Result, IfErr, IfOk, map, take}
+use Rattle.std.specs.Prelude.{◌≡◌, ℕ, ◌+◌, ◌≤◌, Bool, false, true, List, [], ◌++◌, length, Option, Some, Result, IfErr, IfOk, map, take}
 use Rattle.std.specs.Io.KnownBytes.{Appends}
+use Rattle.std.specs.List.{list_any}
 use Rattle.common.specs.Lines.{lines_of}
 use Rattle.common.specs.declared.event.Event.{Event}
 use Rattle.flash_model.specs.declared.torn.Armed.{Armed}
@@ -11,6 +12,7 @@ use Rattle.machine.specs.Steps.{DeviceEvent}
 use Rattle.machine.specs.declared.reply.Reply.{Reply}
 use Rattle.boot_core.specs.CutEvents.{CutsEach, IsCutAsDue, StepsEach}
 use Rattle.host.specs.declared.answer.Answer.{Answer}
+use Rattle.host.specs.declared.answer.Answer.TheVariants.{Refused}
 use Rattle.host.specs.declared.error.Refusal.{Refusal}
 use Rattle.host.specs.declared.error.Refusal.TheVariants.{FlashFile}
 use Rattle.host.specs.Input.{FileBytes}
@@ -19,7 +21,7 @@ use Rattle.device_texts.specs.DeviceFile.{setup_of}
 use Rattle.device_texts.specs.ReplyText.{replies_text, reply_text}
 use Rattle.inputs.specs.declared.checking.BufferedInput.{BufferedInput}
 use Rattle.inputs.specs.Loading.{LoadsAll, LoadsFirst}
-use Rattle.device_commands.specs.RunEnd.{IsMadeOf, Plays, answer_after, answer_of, came_by}
+use Rattle.device_commands.specs.RunEnd.{IsMadeOf, Plays, answer_after, came_by, ending, is_refusal, last_answer}
 
 -- A writer took a prefix of a text and no more, or there was no memory for the text. The refusal
 -- isn't that of the flash file.
@@ -62,15 +64,22 @@ pub record RepliesToAll (setup : Setup) (old new : DeviceView) (came : List (Eve
   -- Event by event, the reply is Cut exactly if the flash took an armed write in it, or had a fault.
   pub due : StepsEach IsCutAsDue setup old events replies new
 
--- A device replied to all events, and a writer took the replies. The last of them gives the answer.
--- `failed` is false only if no write of the flash file failed.
-pub record TellsAll (answer : Answer) (failed : Bool) (setup : Setup) (old new : DeviceView)
+-- Whether this is the answer of a refused reply.
+abbrev pub is_refused : Answer → Bool
+is_refused Refused = true
+is_refused other = false
+
+-- A device replied to all events, and a writer took the replies. `last` is the answer of the last of
+-- them, and `refused` says whether one is a refusal. `failed` is false only if no write of the flash
+-- file failed.
+pub record TellsAll (last : Answer) (refused failed : Bool) (setup : Setup) (old new : DeviceView)
     (came : List (Event (List ℕ))) (before after : Option (List ℕ)) : Type 0 where
   pub replies : List Reply
   pub run : RepliesToAll setup old new came replies
   -- The flash had no fault if no write of its file has failed.
   pub sound : failed ≡ false → (new.flash.faults ≡ 0) × CutsEach setup old run.events replies new
-  pub answered : answer ≡ answer_of replies
+  pub answered : last ≡ last_answer replies
+  pub is_refused : refused ≡ list_any is_refusal replies
   pub written : Appends before after (replies_text 1 replies)
 
 -- A device replied to these events. A writer took all replies, or all but the last and a prefix of
@@ -89,12 +98,15 @@ pub record TellsSome (refusal : Refusal) (setup : Setup) (old new : DeviceView)
 
 -- A device replied to all events of a text, and a writer took the replies. No write of the flash
 -- file failed.
-pub record TellsText (answer : Answer) (setup : Setup) (old new : DeviceView)
+pub record TellsText (is_strict : Bool) (answer : Answer) (setup : Setup) (old new : DeviceView)
     (text : List ℕ) (buffered : List BufferedInput) (files : FileBytes)
     (before after : Option (List ℕ)) : Type 0 where
   pub came : List (Event (List ℕ))
+  pub last : Answer
+  pub refused : Bool
   pub comes : LoadsAll text buffered files came
-  pub tells : TellsAll answer false setup old new came before after
+  pub tells : TellsAll last refused false setup old new came before after
+  pub ends : answer ≡ ending is_strict refused last
 
 -- A run of a text broke off. A device replied to the events of the first lines. Then a reply could
 -- not be written, or the next line could not be read; or all lines were run, and the flash file
@@ -110,12 +122,12 @@ pub record BreaksText (refusal : Refusal) (setup : Setup) (old new : DeviceView)
 
 -- The answer of a run of all events of a text, whose replies a writer took. The device is of this
 -- file. Its flash has these bytes and is armed with these cuts.
-pub record PlaysText (answer : Answer) (device : DeviceFile) (bytes : List ℕ)
+pub record PlaysText (is_strict : Bool) (answer : Answer) (device : DeviceFile) (bytes : List ℕ)
     (cuts : List Armed) (text : List ℕ) (buffered : List BufferedInput) (files : FileBytes)
     (old new : Option (List ℕ)) : Type 0 where
   pub came : List (Event (List ℕ))
   pub comes : LoadsAll text buffered files came
-  pub plays : Plays answer device bytes cuts came old new
+  pub plays : Plays is_strict answer device bytes cuts came old new
 
 -- What a writer took of a run of a text that ended without an answer. The device is of this file.
 -- Its flash has these bytes and is armed with these cuts.
@@ -129,9 +141,10 @@ pub record TellsFirst (refusal : Refusal) (device : DeviceFile) (bytes : List �
 
 -- How a run of a text ends, on a device of this file, whose flash has these bytes and is armed with
 -- these cuts: with an answer, or without one.
-pub record PlaysRun (result : Result Answer Refusal) (device : DeviceFile) (bytes : List ℕ)
-    (cuts : List Armed) (text : List ℕ) (buffered : List BufferedInput) (files : FileBytes)
-    (old new : Option (List ℕ)) : Type 0 where
-  pub plays : IfOk result (λ answer. PlaysText answer device bytes cuts text buffered files old new)
+pub record PlaysRun (is_strict : Bool) (result : Result Answer Refusal) (device : DeviceFile)
+    (bytes : List ℕ) (cuts : List Armed) (text : List ℕ) (buffered : List BufferedInput)
+    (files : FileBytes) (old new : Option (List ℕ)) : Type 0 where
+  pub plays : IfOk result (λ answer.
+      PlaysText is_strict answer device bytes cuts text buffered files old new)
   pub tells : IfErr result (λ refusal.
       TellsFirst refusal device bytes cuts text buffered files old new)

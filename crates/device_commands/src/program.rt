@@ -85,6 +85,7 @@ pub fn run_device_order<H: Host, O: Write, N: RunNotes>(
             flash,
             script,
             durable,
+            strict,
         } => {
             let files = RunFiles {
                 device: Source::named(device),
@@ -92,7 +93,7 @@ pub fn run_device_order<H: Host, O: Write, N: RunNotes>(
                 access: access_of(durable),
                 script: Source::named(script),
             };
-            run_device(alloc, files, host, out, notes)
+            run_device(alloc, files, strict, host, out, notes)
         }
     }
 }

@@ -6,8 +6,8 @@ ghost use Rattle.device_texts.specs.DeviceFile.{IsOfFile};
 ghost use Rattle.device_texts.specs.FlashOf.{IsFlashOf, armed_in};
 ghost use Rattle.device_texts.specs.ReplyText.{reply_text};
 ghost use Rattle.inputs.specs.Loading.{came_of};
-ghost use Rattle.device_commands.specs.RunEnd.{AnswersRun, answer_after};
-ghost use Rattle.device_commands.specs.Telling.{BreaksEvent, BreaksOff, BreaksText, PlaysRun, TellsEvent, TellsText};
+ghost use Rattle.device_commands.specs.RunEnd.{AnswersRun, answer_after, ending};
+ghost use Rattle.device_commands.specs.Telling.{BreaksEvent, BreaksOff, BreaksText, PlaysRun, TellsEvent, TellsText, is_refused};
 ghost use Rattle.host.specs.declared.source.Source.TheVariants as source;
 
 use crate::host_file::HostFile;
@@ -51,11 +51,16 @@ struct Run<'d, 't> {
     cuts: Vec<CutWrite>,
     /// The text of the script.
     text: &'t [u8],
+    /// Whether any refused reply makes the answer `Refused`.
+    is_strict: bool,
 }
 
 /// Runs the events of a script on a device, and writes each reply to `out` when its event is done.
 /// The device file, the flash and the script are read from `host`. Each change of the flash is
 /// written to its file immediately. `notes` is called after each reply.
+///
+/// The answer is that of the last reply. With `is_strict` it is `Refused` if any reply is a refusal,
+/// unless the last one is that the power failed.
 ///
 /// All files are checked before the first event, and the file of the flash is locked from then on.
 /// The file that a line names is read when its event comes. So memory of `alloc` holds only the
@@ -67,11 +72,12 @@ struct Run<'d, 't> {
 pub fn run_device<H: Host, O: Write, N: RunNotes>(
     alloc: Global,
     files: RunFiles<'_>,
+    is_strict: bool,
     host: &mut H,
     out: &mut O,
     notes: &mut N,
 ) -> Result<Answer, Refusal>
-    ensures answers { IfOk result (λ answer. AnswersRun answer files.entry.device
+    ensures answers { IfOk result (λ answer. AnswersRun is_strict answer files.entry.device
         (source.File files.entry.flash) files.entry.script
         (H.input host.old) (H.file host.old) (O.contents out.old) (O.contents out.new)) }
     ensures synced { IfOk result (λ answer. answer ≡ Answer.Done → IsTrue (H.synced host.new)) }
@@ -103,6 +109,7 @@ pub fn run_device<H: Host, O: Write, N: RunNotes>(
         bytes,
         cuts,
         text: &text,
+        is_strict,
     };
     let (blank, memory_blank) = (Blank::new(2), Blank::new(2));
     let played = play::<Brand, Brand, _, _, _>(blank, memory_blank, run, &sources, out, notes);
@@ -131,7 +138,7 @@ fn play<L: Ledger, M: Ledger, H: Host, O: Write, N: RunNotes>(
     requires memory_two { M.parts ≡ 2 }
     requires device { IsOfFile run.device.now }
     requires whole { IsFlashOf run.device.now.map run.bytes.items }
-    ensures { PlaysRun result run.entry.device.now run.entry.bytes.items
+    ensures { PlaysRun run.entry.is_strict result run.entry.device.now run.entry.bytes.items
         (armed_in run.entry.cuts.items) run.entry.text.now sources.now.buffered.now
         (H.file sources.now.host.now) (O.contents out.old) (O.contents out.new) }
 {
@@ -140,6 +147,7 @@ fn play<L: Ledger, M: Ledger, H: Host, O: Write, N: RunNotes>(
         bytes,
         cuts,
         text,
+        is_strict,
     } = run;
     let alloc = sources.alloc;
     let mut memory = flash_of::<M>(alloc, memory_blank, &device.map, bytes);
@@ -149,7 +157,7 @@ fn play<L: Ledger, M: Ledger, H: Host, O: Write, N: RunNotes>(
     let file = HostFile { host: sources.host };
     let flash = FileFlash::<_, L, M>::over(memory, blank, file);
     let mut device = Device::with_trial(flash, device.map, device.identity, device.trial_boots);
-    run_events(alloc, &mut device, text, sources, out, notes)
+    run_events(alloc, &mut device, text, is_strict, sources, out, notes)
 }
 
 /// Runs the events of a script's lines on a device, in order. Writes each reply to `out` when its
@@ -161,6 +169,7 @@ fn run_events<L: Ledger, M: Ledger, F: FlashFile + Drop, H: Host, O: Write, N: R
     alloc: Global,
     device: &mut Device<FileFlash<F, L, M>>,
     text: &[u8],
+    is_strict: bool,
     sources: &Sources<'_, '_, '_, H>,
     out: &mut O,
     notes: &mut N,
@@ -168,7 +177,7 @@ fn run_events<L: Ledger, M: Ledger, F: FlashFile + Drop, H: Host, O: Write, N: R
     requires on { device.old.here.flash.is_on ≡ true }
     requires sound { device.old.here.flash.faults ≡ 0 }
     ensures all { IfOk result (λ answer.
-        TellsText answer device.old.setup device.old.here device.new.here text.now
+        TellsText is_strict answer device.old.setup device.old.here device.new.here text.now
         sources.now.buffered.now (H.file sources.now.host.now)
         (O.contents out.old) (O.contents out.new)) }
     ensures some { IfErr result (λ refusal.
@@ -176,7 +185,8 @@ fn run_events<L: Ledger, M: Ledger, F: FlashFile + Drop, H: Host, O: Write, N: R
         sources.now.buffered.now (H.file sources.now.host.now)
         (O.contents out.old) (O.contents out.new)) }
 {
-    let mut answer = Answer::Done;
+    let mut last = Answer::Done;
+    let mut has_refused = false;
     let mut has_failed = false;
     let mut lines = Lines::of(text);
     let mut used = 0;
@@ -185,7 +195,8 @@ fn run_events<L: Ledger, M: Ledger, F: FlashFile + Drop, H: Host, O: Write, N: R
         if let Line::Event(event) = lines.next_line()? {
             let event = sources.load_event(&mut used, lines.number, event)?;
             number += 1;
-            answer = run_event(alloc, device, number, event, out, notes)?;
+            last = run_event(alloc, device, number, event, out, notes)?;
+            has_refused |= is_refused(last);
             // Checked after each event: while no write has failed, only an armed write is cut.
             has_failed |= device.flash().has_failed();
         }
@@ -193,7 +204,25 @@ fn run_events<L: Ledger, M: Ledger, F: FlashFile + Drop, H: Host, O: Write, N: R
     if has_failed {
         return Err(Refusal::FlashFile);
     }
-    Ok(answer)
+    Ok(ending(is_strict, has_refused, last))
+}
+
+/// Whether this is the answer of a refused reply.
+fn is_refused(answer: Answer) -> bool
+    ensures { result ≡ is_refused answer }
+{
+    matches!(answer, Answer::Refused)
+}
+
+/// The answer of a run whose last reply has the answer `last`. With `is_strict` a refused reply
+/// makes it `Refused`, unless the power failed last.
+fn ending(is_strict: bool, has_refused: bool, last: Answer) -> Answer
+    ensures { result ≡ ending is_strict has_refused last }
+{
+    match last {
+        Answer::Done if is_strict && has_refused => Answer::Refused,
+        _ => last,
+    }
 }
 
 /// Runs an event on a device, and writes the reply to `out`.

@@ -27,7 +27,7 @@ returns-in-Ok-clause-answers g c =
     IfOk-weaker c.play-played.result _ _ (λ answer plays.
     let loads = subst (λ text. LoadsAll text buffered files plays.came) c.deref-3.ensures.value
     (subst (λ buffered. LoadsAll c.deref-3.result.now buffered files plays.came) c.deref-2.ensures.value plays.comes) in
-    AnswersRun-read answer c.args.files.device c.args.files.flash c.args.files.script _ _ _ _ _ _ _ _ _ _ _
+    AnswersRun-read c.args.is_strict answer c.args.files.device c.args.files.flash c.args.files.script _ _ _ _ _ _ _ _ _ _ _
     c.in_ok-bytes.bytes.items text cuts plays.came c.in-Some.device
     read.0 c.in_ok-device.ensures.others
     c.in_ok-bytes.ensures.bytes c.in_ok-bytes.ensures.others

@@ -1,4 +1,4 @@
-use Rattle.std.proofs.Common.{◌≡◌, ◌+◌, ◌∷◌, ◌++◌, [], ap, arith, eqb-true, length, length-append, refl, rules, subst, sym, ◌∙◌}
+use Rattle.std.proofs.Common.{◌≡◌, ◌+◌, ◌∷◌, ◌++◌, ◌||◌, Bool, [], ap, arith, eqb-true, length, length-append, refl, rules, subst, sym, ◌∙◌}
 use Rattle.std.proofs.lemmas.Bool.{or_parts}
 use Rattle.flash_model.specs.Chip.{Chip}
 use Rattle.common.proofs.Results.{IfErr-passed}
@@ -31,7 +31,7 @@ returns-in_err-event-clause-some g c =
     IfErr-passed _ _ _ c.from_residual.ensures.1
     (BreaksText-some _ c.args.device.now.setup _ _ c.args.text.now c.loop-lines.lines.rest.now c.loop-lines.lines.order
     before.taken c.args.sources.now.buffered.now (g.H.Host.file c.args.sources.now.host.now) before.came _ _ before.are
-    (TellsSome-all _ c.args.device.now.setup _ _ before.came c.loop-lines.answer c.loop-lines.has_failed _ _ before.told)
+    (TellsSome-all _ c.args.device.now.setup _ _ before.came c.loop-lines.last c.loop-lines.has_refused c.loop-lines.has_failed _ _ before.told)
     (not_of_file _ c.in_err-event.ensures.refused))
 
 -- The file of the next line can't be read any more.
@@ -41,16 +41,16 @@ returns-in_err-event-2-clause-some g c =
     IfErr-passed _ _ _ c.from_residual-in_err-event-2.ensures.1
     (BreaksText-some _ c.args.device.now.setup _ _ c.args.text.now c.loop-lines.lines.rest.now c.loop-lines.lines.order
     before.taken c.args.sources.now.buffered.now (g.H.Host.file c.args.sources.now.host.now) before.came _ _ before.are
-    (TellsSome-all _ c.args.device.now.setup _ _ before.came c.loop-lines.answer c.loop-lines.has_failed _ _ before.told)
+    (TellsSome-all _ c.args.device.now.setup _ _ before.came c.loop-lines.last c.loop-lines.has_refused c.loop-lines.has_failed _ _ before.told)
     (not_of_file _ c.in_err-event-2.ensures.refused))
 
 -- The reply to the next event was written in part or not at all.
-pub returns-in_err-answer-clause-some : goal.returns-in_err-answer-clause-some
-returns-in_err-answer-clause-some g c =
+pub returns-in_err-last-clause-some : goal.returns-in_err-last-clause-some
+returns-in_err-last-clause-some g c =
     let before = c.loop-lines.invariant in
     let next = rw c.in-Event.is at c.in_ok-event.ensures.next in
     let one = came_of c.in_ok-event-2.event in
-    IfErr-passed _ _ _ c.from_residual-in_err-answer.ensures.1
+    IfErr-passed _ _ _ c.from_residual-in_err-last.ensures.1
     (BreaksText-some _ c.args.device.now.setup _ _ c.args.text.now c.next_line.new.self.rest.now
     c.next_line.new.self.order (before.taken + 1) c.args.sources.now.buffered.now
     (g.H.Host.file c.args.sources.now.host.now) (before.came ++ one ∷ []) _ _
@@ -58,9 +58,9 @@ returns-in_err-answer-clause-some g c =
     c.args.sources.now.buffered.now (g.H.Host.file c.args.sources.now.host.now) before.came one next
     c.in_ok-event-2.ensures.loaded before.are)
     (TellsSome-more _ c.args.device.now.setup c.loop-lines.device.setup _ _ _ before.came one (c.loop-lines.number + 1)
-    c.loop-lines.answer c.loop-lines.has_failed _ _ _ before.told (omega (arith, before.counted)) before.setup
-    c.in_err-answer.ensures.begun)
-    c.in_err-answer.ensures.begun.broken.output)
+    c.loop-lines.last c.loop-lines.has_refused c.loop-lines.has_failed _ _ _ before.told (omega (arith, before.counted)) before.setup
+    c.in_err-last.ensures.begun)
+    c.in_err-last.ensures.begun.broken.output)
 
 -- The reply to one more event was written.
 pub loop-lines-preserved-in-Event : goal.loop-lines-preserved-in-Event
@@ -69,8 +69,8 @@ loop-lines-preserved-in-Event g c =
     let next = rw c.in-Event.is at c.in_ok-event.ensures.next in
     let one = came_of c.in_ok-event-2.event in
     record {
-      setup = c.in_ok-answer.ensures.setup ∙ before.setup;
-      on = c.in_ok-answer.ensures.on;
+      setup = c.in_ok-last.ensures.setup ∙ before.setup;
+      on = c.in_ok-last.ensures.on;
       few = omega (arith, before.few, c.in_ok-event.ensures.shorter);
       taken = before.taken + 1;
       came = before.came ++ one ∷ [];
@@ -79,8 +79,9 @@ loop-lines-preserved-in-Event g c =
           c.args.sources.now.buffered.now (g.H.Host.file c.args.sources.now.host.now) before.came one next
           c.in_ok-event-2.ensures.loaded before.are;
       told = TellsAll-more c.args.device.now.setup c.loop-lines.device.setup _ _ _ before.came one
-          (c.loop-lines.number + 1) c.loop-lines.answer _ c.loop-lines.has_failed _ _ _ _ before.told
-          (omega (arith, before.counted)) before.setup c.in_ok-answer.ensures.told
+          (c.loop-lines.number + 1) c.loop-lines.last _ c.loop-lines.has_refused _ c.loop-lines.has_failed _ _ _ _ before.told
+          (omega (arith, before.counted)) before.setup c.in_ok-last.ensures.told
+          (ap (λ (b : Bool). c.loop-lines.has_refused || b) c.is_refused-has_refused.ensures)
           (λ none.
           let parts = or_parts c.loop-lines.has_failed c.has_failed-has_failed.result none in (
             parts.0,
@@ -111,7 +112,7 @@ pub returns-then-has_failed-clause-some : goal.returns-then-has_failed-clause-so
 returns-then-has_failed-clause-some g c =
     let before = c.loop-lines.invariant in
     BreaksText-all c.args.device.now.setup _ _ c.args.text.now c.args.sources.now.buffered.now
-    (g.H.Host.file c.args.sources.now.host.now) before.came c.loop-lines.answer c.loop-lines.has_failed _ _
+    (g.H.Host.file c.args.sources.now.host.now) before.came c.loop-lines.last c.loop-lines.has_refused c.loop-lines.has_failed _ _
     (LoadsAll-taken c.args.text.now c.loop-lines.lines.rest.now c.loop-lines.lines.order before.taken
     c.args.sources.now.buffered.now (g.H.Host.file c.args.sources.now.host.now) before.came
     (eqb-true _ _ (sym c.loop-lines-test.ensures)) before.are)
@@ -127,9 +128,12 @@ returns-clause-all g c =
     let written = g.O.Write.contents c.loop-lines.out in
     record {
       came = before.came;
+      last = c.loop-lines.last;
+      refused = c.loop-lines.has_refused;
       comes = LoadsAll-taken c.args.text.now c.loop-lines.lines.rest.now c.loop-lines.lines.order before.taken
           c.args.sources.now.buffered.now (g.H.Host.file c.args.sources.now.host.now) before.came
           (eqb-true _ _ (sym c.loop-lines-test.ensures)) before.are;
-      tells = subst (λ failed. TellsAll c.loop-lines.answer failed setup old new before.came
+      tells = subst (λ failed. TellsAll c.loop-lines.last c.loop-lines.has_refused failed setup old new before.came
           (g.O.Write.contents c.args.out.now) written) c.if-has_failed.false before.told;
+      ends = c.ending.ensures;
     }
