@@ -37,6 +37,10 @@ class ProgramTest(CaseTest):
         self.program = os.environ.get("BOOTSWAP_PROGRAM") or f"{ROOT}/out/bootswap"
         if not os.access(self.program, os.X_OK):
             self.fail(f"there is no {self.program}: run `./bootswap codes`, or name a program in BOOTSWAP_PROGRAM")
+        self.new_folder()
+
+    def new_folder(self):
+        """Makes an empty folder, in which the program runs from now on."""
         self.folder = tempfile.mkdtemp(prefix="bootswap-test-")
         self.addCleanup(shutil.rmtree, self.folder, ignore_errors=True)
         # Scripts name files relative to the root of the repository.

@@ -54,13 +54,17 @@ MANIFESTS = {
 }
 
 
+def digest_of(whole):
+    """The SHA-256 of a file, as a manifest has it."""
+    return hashlib.sha256(whole).hexdigest()
+
+
 def manifest_of(sequence, *files):
     """The bytes of a manifest of these files."""
     components = []
     for number, kind, name in map(str.split, files):
         whole = {**IMAGES, **TEXTS}[name]
-        digest = hashlib.sha256(whole).hexdigest()
-        components.append(component(component_id=int(number), kind=kind, size=len(whole), payload_digest=digest))
+        components.append(component(component_id=int(number), kind=kind, size=len(whole), payload_digest=digest_of(whole)))
     return manifest(sequence_number=sequence, components=components)
 
 

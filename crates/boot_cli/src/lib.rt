@@ -6,12 +6,11 @@
 //!   write failed.
 //! - Main calls: `cli`, `order`, `run_order`
 //! - Allocates: the order, a flash in memory, events.
-//! - Callers: `bootswap`, and tests.
+//! - Callers: `bootswap`
 //!
 //! `order` and `request` read the orders of all commands from their arguments. `sweep` and the choice
 //! of the command are here too. The read-only commands are in `inspecting`, those that make files in
-//! `creating`, and `provision` and `run` in `device_commands`. The program passes the arguments, the
-//! system's files and the standard streams; a test passes others.
+//! `creating`, and `provision` and `run` in `device_commands`.
 #![tactic(auto)]
 
 mod bracketed_words;
