@@ -1,6 +1,6 @@
 -- Laws of searches through lists, one after another.
-use Rattle.std.proofs.Common.{◌≡◌, ◌⊎◌, Bool, Bor, true, false, cond, ◌||◌, List, [], ◌∷◌, Option, Some, None, inl, inr, refl, sym, ap, ◌∙◌}
-use Rattle.std.specs.Prelude.{find, is_some, option_copied, option_map}
+use Rattle.std.proofs.Common.{◌≡◌, ◌⊎◌, Bool, true, false, cond, ◌||◌, List, [], ◌∷◌, Option, Some, None, inl, inr, refl, sym, ap, ◌∙◌}
+use Rattle.std.specs.Prelude.{find, is_some, option_map}
 use Rattle.std.specs.List.{list_any}
 use Rattle.std.specs.Option.{option_or}
 use Rattle.std.proofs.lemmas.Bool.{or_parts}
@@ -28,11 +28,6 @@ is_some-option_or : {X : Type 0} (first second : Option X)
     → is_some (option_or first second) ≡ (is_some first || is_some second)
 is_some-option_or None second = refl
 is_some-option_or (Some x) second = refl
-
--- A search for a borrowed element finds something exactly if an element passes.
-pub is_some-lent : {X : Type 0} (p : X → Bool) (xs : List X) (found : Option (Bor X)) → option_copied found ≡ find p xs
-    → is_some found ≡ list_any p xs
-is_some-lent p xs found is = sym (is_some-option_map _ found) ∙ ap is_some is ∙ is_some-find p xs
 
 -- One of two searches finds something exactly if an element of its list passes.
 pub is_some-first_found : {X Y Z : Type 0} (f : X → Z) (g : Y → Z) (p : X → Bool) (q : Y → Bool) (xs : List X)

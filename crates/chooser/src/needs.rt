@@ -2,7 +2,7 @@
 
 ghost use Rattle.std.specs.List.{list_any};
 ghost use Rattle.std.specs.Option.{option_copied};
-ghost use Rattle.std.specs.Prelude.{◌≡◌, ℕ, false, IfNone, IfSome, None, find, is_some, position};
+ghost use Rattle.std.specs.Prelude.{◌≡◌, ℕ, false, IfNone, IfSome, None, is_some, position};
 ghost use Rattle.certificate.specs.Combination.{intact_entry};
 ghost use Rattle.certificate.specs.Reasons.{best_version, is_group_out_of_reach, is_in_reach, is_out_of_reach, is_refused, newest_version, requested_version};
 ghost use Rattle.certificate.specs.StandardOrder.{IsNextNeed, needs_reason, needs_reason_of_entry, unmet_dependency, unmet_group};
@@ -79,13 +79,15 @@ fn has_unmet_dependency(
 ) -> bool
     ensures { result ≡ list_any (is_out_of_reach table.now before.now own) dependencies.now }
 {
-    first_out_of_reach(table, before, own, dependencies).is_some()
+    dependencies.iter().any(|dependency| is_out_of_reach(table, before, own, dependency))
 }
 
 fn has_unmet_group(table: &Table, before: &[Refusal], own: u8, groups: &[Group]) -> bool
     ensures { result ≡ list_any (is_group_out_of_reach table.now before.now own) groups.now }
 {
-    first_group_out_of_reach(table, before, own, groups).is_some()
+    groups
+        .iter()
+        .any(|group| is_group_out_of_reach(table, before, own, group))
 }
 
 /// Returns as a reason the first dependency out of reach of an image's intact request after these
@@ -117,7 +119,10 @@ fn needs_reason_of_entry(
 fn unmet_dependency(table: &Table, before: &[Refusal], own: u8, entry: &Entry) -> Option<Reason>
     ensures { result ≡ unmet_dependency table.now before.now own entry.now }
 {
-    let dependency = first_out_of_reach(table, before, own, &entry.dependencies)?;
+    let needs = entry.dependencies.as_slice();
+    let dependency = needs
+        .iter()
+        .find(|need| is_out_of_reach(table, before, own, need))?;
     Some(Reason::Needs(dependency.image, dependency.minimum))
 }
 
@@ -125,34 +130,11 @@ fn unmet_dependency(table: &Table, before: &[Refusal], own: u8, entry: &Entry) -
 fn unmet_group(table: &Table, before: &[Refusal], own: u8, entry: &Entry) -> Option<Reason>
     ensures { result ≡ unmet_group table.now before.now own entry.now }
 {
-    let group = first_group_out_of_reach(table, before, own, &entry.groups)?;
-    Some(Reason::NeedsOne(group.copied()))
-}
-
-fn first_out_of_reach<'a>(
-    table: &Table,
-    before: &[Refusal],
-    own: u8,
-    dependencies: &'a [Dependency],
-) -> Option<&'a Dependency>
-    ensures { option_copied result
-        ≡ find (is_out_of_reach table.now before.now own) dependencies.now }
-{
-    dependencies.iter().find(|dependency| is_out_of_reach(table, before, own, dependency))
-}
-
-fn first_group_out_of_reach<'a>(
-    table: &Table,
-    before: &[Refusal],
-    own: u8,
-    groups: &'a [Group],
-) -> Option<&'a Group>
-    ensures { option_copied result
-        ≡ find (is_group_out_of_reach table.now before.now own) groups.now }
-{
-    groups
+    let groups = entry.groups.as_slice();
+    let group = groups
         .iter()
-        .find(|group| is_group_out_of_reach(table, before, own, group))
+        .find(|group| is_group_out_of_reach(table, before, own, group))?;
+    Some(Reason::NeedsOne(group.copied()))
 }
 
 /// Returns whether a group of the request of image `own` has no alternative in reach.
