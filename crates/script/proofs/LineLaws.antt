@@ -172,28 +172,31 @@ first_word-spelled read text found is =
     subst (λ (f : _ × List ℕ). (word : List ℕ) × (read word ≡ Some f.0) × (text ≡ word ␣ f.1))
     (same_Some (first, rest) found made) ((cut 32 text).0, is_first, cut-parts 32 text rest is_rest)))
 
-two_words-spelled : {A B : Type 0} (read : List ℕ → Option A) (read_rest : List ℕ → Option B) (text : List ℕ)
-    (found : A × B) → two_words read read_rest text ≡ Some found
-    → (word : List ℕ) × (rest : List ℕ) × (read word ≡ Some found.0) × (read_rest rest ≡ Some found.1)
-    × (text ≡ word ␣ rest)
-two_words-spelled read read_rest text found is =
+-- What two words say, if `Says` and `SaysRest` tie each of them to what is read of it.
+two_words-spelled : {A B : Type 0} (read : List ℕ → Option A) (read_rest : List ℕ → Option B)
+    (Says : List ℕ → A → Type 0) (SaysRest : List ℕ → B → Type 0)
+    → ((word : List ℕ) (a : A) → read word ≡ Some a → Says word a)
+    → ((rest : List ℕ) (b : B) → read_rest rest ≡ Some b → SaysRest rest b)
+    → (text : List ℕ) (found : A × B) → two_words read read_rest text ≡ Some found
+    → (word : List ℕ) × (rest : List ℕ) × Says word found.0 × SaysRest rest found.1 × (text ≡ word ␣ rest)
+two_words-spelled read read_rest Says SaysRest says says_rest text found is =
     option_and_then_some _ (first_word read text) found is (λ words is_words after_words.
     option_and_then_some _ (read_rest words.1) found after_words (λ last is_last made.
     let (word, is_word, parts) = first_word-spelled read text words is_words in
-    subst (λ (f : _ × _). (word : List ℕ) × (rest : List ℕ) × (read word ≡ Some f.0) × (read_rest rest ≡ Some f.1)
-    × (text ≡ word ␣ rest)) (same_Some (words.0, last) found made) (word, words.1, is_word, is_last, parts)))
+    subst (λ (f : _ × _). (word : List ℕ) × (rest : List ℕ) × Says word f.0 × SaysRest rest f.1 × (text ≡ word ␣ rest))
+    (same_Some (words.0, last) found made)
+    (word, words.1, says word words.0 is_word, says_rest words.1 last is_last, parts)))
 
 part_of-spelled : (text : List ℕ) (part : PartWords) → part_of text ≡ Some part
     → FitsPart (Some part) × (text ≡ part.from ␣ part.count)
 unfolding part_of
 part_of-spelled text part read =
     option_and_then_some _ (two_words word_of word_of text) part read (λ words is_words made.
-    let (word, rest, is_from, is_count, parts) = two_words-spelled word_of word_of text words is_words in
-    let from_found = word_of-spelled word words.0 is_from in
-    let count_found = word_of-spelled rest words.1 is_count in
+    let (word, rest, from, count, parts) =
+    two_words-spelled word_of word_of _ _ word_of-spelled word_of-spelled text words is_words in
     subst (λ (p : PartWords). FitsPart (Some p) × (text ≡ p.from ␣ p.count))
     (same_Some (record { from = words.0; count = words.1 }) part made)
-    ((from_found.0, count_found.0), parts ∙ ap (λ t. t ␣ rest) from_found.1 ∙ ap (λ t. words.0 ␣ t) count_found.1))
+    ((from.0, count.0), parts ∙ ap (λ t. t ␣ rest) from.1 ∙ ap (λ t. words.0 ␣ t) count.1))
 
 hex_of-spelled : (digits : List ℕ) (torn : SaidTorn) → hex_of digits ≡ Some torn
     → FitsTorn torn × (codes "hex:" ++ digits ≡ torn_text torn)
@@ -233,18 +236,17 @@ cut_line_of-spelled : (fields : List ℕ) (found : Said) → cut_line_of fields 
 unfolding cut_line_of
 cut_line_of-spelled fields found read =
     option_and_then_some _ (two_words number_of torn_of fields) found read (λ words is_words made.
-    let (word, rest, is_write, is_torn, parts) = two_words-spelled number_of torn_of fields words is_words in
-    let write_found = number_of-spelled word words.0 is_write in
-    let torn_found = torn_of-spelled rest words.1 is_torn in
+    let (word, rest, write, torn, parts) =
+    two_words-spelled number_of torn_of _ _ number_of-spelled torn_of-spelled fields words is_words in
     let whole : fields ≡ decimal words.0 ␣ torn_text words.1 =
-    parts ∙ ap (λ t. t ␣ rest) write_found.0 ∙ ap (λ t. decimal words.0 ␣ t) torn_found.1 in
+    parts ∙ ap (λ t. t ␣ rest) write.0 ∙ ap (λ t. decimal words.0 ␣ t) torn.1 in
     elim (cases_Bool (eqb words.0 0)) [
       | inl zero ↦ absurd (none-some found (rw zero at made))
       | inr some ↦
           let counted : 1 ≤ words.0 = omega (arith, eqb-false words.0 0 some) in
           subst (λ (s : Said). IsLineText (codes "cut" ␣ fields) s)
           (same_Some (Cut words.0 words.1) found (rw some at made))
-          ((counted, write_found.1, torn_found.0), ap (λ t. codes "cut" ␣ t) whole)
+          ((counted, write.1, torn.0), ap (λ t. codes "cut" ␣ t) whole)
     ])
 
 -- A text is that of an event, which fits.
