@@ -281,8 +281,7 @@ class NoteOfManifestTest(ProgramTest):
         self.case("make-manifest: the next boot: what runs doesn't fit", faults)
 
     def test_strict(self):
-        """With `--strict`, the status is 1 if a note reports a file that the device won't take. Nothing else
-        changes."""
+        """With `--strict`, the status is 1 if there is a note. Nothing else changes."""
         new_device(self)
         self.file("abc", b"abc")
         self.file("long.img", image([], body=bytes(1024)))
@@ -291,8 +290,8 @@ class NoteOfManifestTest(ProgramTest):
             ("a damaged file", ["--test=0=abc"], 1),
             ("a file longer than its slot", ["--test=0=long.img"], 1),
             ("a file that the next boot would refuse", ["--test=0=needing.img", "--precursor=flash"], 1),
-            ("files of both kinds", both, 0),
-            ("files of both kinds that the next boot takes", [*both, "--precursor=flash"], 0),
+            ("files of both kinds", both, 1),
+            ("files of both kinds that the next boot takes", [*both, "--precursor=flash"], 1),
             ("a file for a test", ["--test=0=one.img"], 0),
         ]:
             plain, strict = (self.run_program(make_manifest(*options, *more)) for more in ([], ["--strict"]))

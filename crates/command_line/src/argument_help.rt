@@ -81,7 +81,7 @@ pub const PERMANENT: OptionHelp = OptionHelp(
     "Request it permanently; beside --test it may revert",
 );
 
-pub const STRICT: &str = "End with status 1 if the device will not take a file";
+pub const STRICT: &str = "End with status 1 if there is a note";
 
 pub const STRICT_RUN: &str = "End with status 1 if any reply is a refusal";
 

@@ -398,7 +398,7 @@ don't depend on it. All revert unless each is confirmed.
 A line `note: ..` on standard error names a file that the device will not take,
 since it is no intact image or is longer than its slot, and says if the manifest
 has files of both kinds. The manifest is made nevertheless. With `--strict` the
-exit status is 1 if the device will not take a file.
+exit status is 1 if there is a note.
 
 Refusals:
   refused 6 NoComponent               the device has no such image
@@ -410,12 +410,11 @@ Example: bootswap make-manifest device.json --sequence 2 --test 0=a.img
 See `bootswap make-manifest --help` for what is printed.",
     long_after: "Exit status:
   0  the manifest is printed
-  1  a refusal is printed; or, with `--strict`, the manifest is printed, and a
-     note names a file that the device will not take; or standard error has a
-     line `error: ..`: `device file` if DEVICE is none, `flash size` if FLASH
-     isn't as long as the device's flash, `flash in use` if another program
-     writes to FLASH, `cannot read NAME`, or `memory`; or the output could not
-     be written
+  1  a refusal is printed; or, with `--strict`, the manifest and a note are; or
+     standard error has a line `error: ..`: `device file` if DEVICE is none,
+     `flash size` if FLASH isn't as long as the device's flash, `flash in use`
+     if another program writes to FLASH, `cannot read NAME`, or `memory`; or the
+     output could not be written
   2  usage error
 
 Examples:

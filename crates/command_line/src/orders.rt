@@ -67,7 +67,7 @@ pub struct NewManifest<'a> {
     pub precursor: Option<&'a str>,
     /// The files: those for a test in the order of the arguments, and then the permanent ones.
     pub components: Vec<NewComponent<'a>>,
-    /// Whether the exit status is 1 if the device will not take a file.
+    /// Whether the exit status is 1 if there is a note.
     pub is_strict: bool,
 }
 

@@ -1,6 +1,7 @@
 -- The result of `make-manifest`, from the results of its steps.
-use Rattle.std.proofs.Common.{◌≡◌, ℕ, List, [], ◌∷◌, ◌++◌, Option, ap, length, refl, subst, suc}
+use Rattle.std.proofs.Common.{◌≡◌, ◌==◌, ◌<◌, ◌∙◌, ℕ, Bool, List, [], ◌∷◌, ◌++◌, Option, ap, arith, false, length, refl, subst, suc, sym, true}
 use Rattle.std.proofs.KnownBytes.{Appends-kept}
+use Rattle.std.proofs.lemmas.Bool.{eqb-false, eqb-true}
 use Rattle.std.specs.Io.KnownBytes.{Appends, Keeps}
 use Rattle.manifest.specs.Codes.{code_of, name_of}
 use Rattle.manifest.specs.declared.error.ManifestError.{ManifestError}
@@ -17,8 +18,8 @@ use Rattle.host.specs.declared.source.Source.{Source}
 use Rattle.inputs.specs.DeviceInput.{GivesDevice}
 use Rattle.host.specs.Input.{FileBytes, KeepsOthers}
 use Rattle.host.proofs.InputLaws.{GiveEach-read}
-use Rattle.creating.specs.NewManifestEnd.{AnswersNewManifest, IsFault, RefusesAsked, RefusesRunning, WritesManifest}
-use Rattle.creating.specs.NewManifestSteps.{ArePrecursors, ReadsDamaged, ReadsFlash, Writes}
+use Rattle.creating.specs.NewManifestEnd.{AnswersNewManifest, IsFault, Notes, RefusesAsked, RefusesRunning, WritesManifest}
+use Rattle.creating.specs.NewManifestSteps.{ArePrecursors, ReadsDamaged, ReadsFlash, Writes, WritesNotes}
 use Rattle.creating.proofs.NewManifestLaws.{asked_for}
 
 -- There is one precursor for each file.
@@ -128,3 +129,25 @@ AnswersNewManifest-kept device asked input files old mid new answered kept = rec
   is_manifest = answered.is_manifest;
   told = Appends-kept old mid new _ answered.told kept;
 }
+
+-- ---- notes
+
+no_text : (text : List ℕ) → (length text == 0) ≡ true → text ≡ []
+no_text [] none = refl
+no_text (b ∷ bs) none = absurd (omega (arith, eqb-true (length (b ∷ bs)) 0 none))
+
+some_text : (text : List ℕ) → (length text == 0) ≡ false → 0 < length text
+some_text [] some = absurd (eqb-false 0 0 some refl)
+some_text (b ∷ bs) some = omega arith
+
+-- There is no note.
+pub no_notes : (is_quiet : Bool) (old new : Option (List ℕ)) → WritesNotes is_quiet old new → is_quiet ≡ true
+    → Appends old new []
+no_notes is_quiet old new writes quiet =
+    subst (Appends old new) (no_text writes.notes (sym writes.quiet ∙ quiet)) writes.told
+
+-- There is one.
+pub some_notes : (is_quiet : Bool) (old new : Option (List ℕ)) → WritesNotes is_quiet old new → is_quiet ≡ false
+    → Notes old new
+some_notes is_quiet old new writes loud =
+    (writes.notes, some_text writes.notes (sym writes.quiet ∙ loud), writes.told)

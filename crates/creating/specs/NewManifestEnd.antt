@@ -148,3 +148,18 @@ AnswersNewManifest Refused device asked input files old new =
     ⊎ RefusesRunning device asked input files old new
     ⊎ WritesStrictly device asked input files old new
 AnswersNewManifest Cut device asked input files old new = ⊥
+
+-- Notes were written.
+abbrev pub Notes : Option (List ℕ) → Option (List ℕ) → Type 0
+Notes old new = (notes : List ℕ) × (0 < length notes) × Appends old new notes
+
+-- What standard error got with this answer. With `--strict`, `Done` means that there was no note. And
+-- `Refused` means that there was one, if no refusal was printed.
+abbrev pub EndsNoted : Answer → Source → NewManifest → Option (List ℕ) → FileBytes
+    → Option (List ℕ) → Option (List ℕ) → Option (List ℕ) → Option (List ℕ) → Type 0
+EndsNoted Done device asked input files old new err_old err_new =
+    asked.is_strict ≡ true → Appends err_old err_new []
+EndsNoted Refused device asked input files old new err_old err_new =
+    RefusesMap device input files old new ⊎ RefusesAsked device asked input files old new
+    ⊎ RefusesRunning device asked input files old new ⊎ Notes err_old err_new
+EndsNoted Cut device asked input files old new err_old err_new = ⊥

@@ -1,5 +1,5 @@
 -- The results of the steps of `make-manifest`: reading the running images, and the files.
-use Rattle.std.specs.Prelude.{◌≡◌, ℕ, Any, List, [], ◌∷◌, ◌++◌, map, Option, Some, None}
+use Rattle.std.specs.Prelude.{◌≡◌, ◌==◌, ℕ, Any, Bool, List, [], ◌∷◌, ◌++◌, length, map, Option, Some, None}
 use Rattle.std.specs.Io.KnownBytes.{Appends}
 use Rattle.std.specs.List.{AllZip}
 use Rattle.flash_model.specs.Chip.{Chip}
@@ -136,3 +136,9 @@ pub record Writes (device : DeviceFile) (asked : NewManifest)
       manifest.components.items
   pub is_manifest : IsManifest device.identity text manifest
   pub told : Appends old new text
+
+-- A writer took the notes. `is_quiet` says whether there are none.
+pub record WritesNotes (is_quiet : Bool) (old new : Option (List ℕ)) : Type 0 where
+  pub notes : List ℕ
+  pub quiet : is_quiet ≡ (length notes == 0)
+  pub told : Appends old new notes

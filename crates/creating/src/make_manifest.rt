@@ -5,9 +5,9 @@ ghost use Rattle.std.specs.Io.KnownBytes.{Appends};
 ghost use Rattle.device_texts.specs.AnswerText.{refused_text};
 ghost use Rattle.device_texts.specs.ReplyText.{refused_fault_text};
 ghost use Rattle.machine.specs.declared.error.Fault.TheVariants.{RunningDamaged};
-ghost use Rattle.creating.specs.NewManifestEnd.{AnswersNewManifest, HaveImages, IsFault};
+ghost use Rattle.creating.specs.NewManifestEnd.{AnswersNewManifest, EndsNoted, HaveImages, IsFault};
 ghost use Rattle.creating.specs.NewManifestEnd.{Repeats};
-ghost use Rattle.creating.specs.NewManifestSteps.{IsReadBack, Writes};
+ghost use Rattle.creating.specs.NewManifestSteps.{IsReadBack, Writes, WritesNotes};
 ghost use Rattle.host.specs.Input.{KeepsFiles};
 ghost use Rattle.manifest.specs.Codes.{code_of, name_of};
 
@@ -32,7 +32,7 @@ use std::io::Write;
 ///
 /// After the manifest, notes are written to `err`: which of the files the device will not take, and
 /// whether it boots files on trial that are requested permanently. `out` is flushed before. With
-/// `--strict` the answer is `Refused` if the device will not take one of the files.
+/// `--strict` the answer is `Refused` if there is a note.
 ///
 /// # Errors
 /// `DeviceFile`, `FlashSize`, `FlashInUse` or `OfSource` for an input that is wrong, in use or
@@ -48,6 +48,9 @@ pub fn run_make_manifest<H: Host, O: Write, E: Write>(
 ) -> Result<Answer, Refusal>
     ensures answers { IfOk result (λ answer. AnswersNewManifest answer device.entry asked.now
         (H.input host.old) (H.file host.old) (O.contents out.old) (O.contents out.new)) }
+    ensures noted { IfOk result (λ answer. EndsNoted answer device.entry asked.now
+        (H.input host.old) (H.file host.old) (O.contents out.old) (O.contents out.new)
+        (E.contents err.old) (E.contents err.new)) }
     ensures files { KeepsFiles (H.file host.old) (H.file host.new) }
     ensures to_read { (H.opened host.new).to_write ≡ (H.opened host.old).to_write }
 {
@@ -60,8 +63,8 @@ pub fn run_make_manifest<H: Host, O: Write, E: Write>(
     }
     match read_precursors(alloc, &of_device.map, asked, host)? {
         Precursors::Are(running) => {
-            let takes_all = write_manifest(alloc, &of_device, asked, running, host, out, err)?;
-            if asked.is_strict && !takes_all {
+            let is_quiet = write_manifest(alloc, &of_device, asked, running, host, out, err)?;
+            if asked.is_strict && !is_quiet {
                 return Ok(Answer::Refused);
             }
             Ok(Answer::Done)
@@ -115,8 +118,7 @@ pub(crate) fn is_named(asked: &[NewComponent<'_>], image: u8) -> bool
 
 /// Reads the files to upload, writes to `out` the manifest that admits them, with these precursors,
 /// and writes notes to `err`: which of the files the device or its next boot will not take, and
-/// whether it boots files on trial that are requested permanently. Returns whether it will take all
-/// of them, as far as that is known.
+/// whether it boots files on trial that are requested permanently. Returns whether there is no note.
 fn write_manifest<H: Host, O: Write, E: Write>(
     alloc: Global,
     device: &DeviceFile,
@@ -130,6 +132,8 @@ fn write_manifest<H: Host, O: Write, E: Write>(
     requires there { HaveImages device.now.map.images asked.now.components.items }
     ensures written { OnOk result (Writes device.now asked.now running.digests.items
         (H.input host.old) (H.file host.old) (O.contents out.old) (O.contents out.new)) }
+    ensures noted { IfOk result (λ is_quiet.
+        WritesNotes is_quiet (E.contents err.old) (E.contents err.new)) }
     ensures files { KeepsFiles (H.file host.old) (H.file host.new) }
     ensures opened { H.opened host.new ≡ H.opened host.old }
 {
@@ -137,8 +141,7 @@ fn write_manifest<H: Host, O: Write, E: Write>(
     let Running { digests, mut table } = running;
     let (map, files, follow) = (&device.map, asked.components.as_slice(), digests.as_slice());
     let components = read_components(alloc, map, files, follow, host, &mut table, &mut notes)?;
-    let fit = notes.is_empty();
-    let Ok(are_bootable) = write_decisions(&mut notes, files, &table) else {
+    let Ok(()) = write_decisions(&mut notes, files, &table) else {
         return Err(Refusal::NoMemory);
     };
     let manifest = Manifest {
@@ -151,7 +154,7 @@ fn write_manifest<H: Host, O: Write, E: Write>(
     expect_manifest(alloc, text.as_bytes(), &device.identity, &manifest)?;
     tell(text.as_bytes(), out)?;
     tell(notes.as_bytes(), err)?;
-    Ok(fit && are_bootable)
+    Ok(notes.is_empty())
 }
 
 /// Refuses a text that isn't this manifest for a device of this identity.

@@ -24,13 +24,12 @@ pub fn request(table: &mut Option<Table>, image: u8, file: Result<Desc, ImageErr
 }
 
 /// Adds to the notes what a boot decides about the files: that it boots some on trial that are
-/// requested permanently, and a line for each file that it would refuse by this table. Returns
-/// whether it would refuse none.
+/// requested permanently, and a line for each file that it would refuse by this table.
 pub fn write_decisions(
     notes: &mut String,
     asked: &[NewComponent<'_>],
     table: &Option<Table>,
-) -> Result<bool, AllocError> {
+) -> Result<(), AllocError> {
     if asks_for_both(asked) {
         writeln!(
             notes,
@@ -38,9 +37,7 @@ pub fn write_decisions(
              is confirmed"
         )?;
     }
-    let before = notes.len();
-    write_refusals(notes, asked, table)?;
-    Ok(notes.len() == before)
+    write_refusals(notes, asked, table)
 }
 
 /// Whether there are files of both kinds: for a test, and permanent.
