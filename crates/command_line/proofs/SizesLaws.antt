@@ -1,5 +1,5 @@
 -- Laws of the digits of sizes, and of texts of them.
-use Rattle.std.proofs.Common.{◌≡◌, ℕ, zero, suc, ◌-◌, ◌||◌, eqb, ◌<◌, ◌≤◌, ◌^◌, List, [], ◌∷◌, length, get_or, Option, Some, None, Bor, Result, Ok, Err, false, leb, lit<, ltb, true, refl, sym, ap, ◌∙◌, inl, inr, arith}
+use Rattle.std.proofs.Common.{◌≡◌, ℕ, zero, suc, ◌-◌, ◌||◌, eqb, ◌<◌, ◌≤◌, ◌^◌, [], ◌∷◌, length, get_or, Some, None, Bor, Result, Ok, Err, false, leb, lit<, ltb, true, refl, ap, ◌∙◌, inl, inr, arith}
 use Rattle.std.specs.Prelude.{IsUtf8, decimal}
 use Rattle.std.specs.Char.{digit_value, is_ascii_hexdigit}
 use Rattle.std.specs.Int.{is_in_range}

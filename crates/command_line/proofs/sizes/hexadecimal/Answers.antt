@@ -1,6 +1,5 @@
-use Rattle.std.proofs.Common.{◌≡◌, ◌∙◌, ap, sym}
+use Rattle.std.proofs.Common.{◌∙◌, sym}
 use Rattle.common.proofs.Numbers.{same_text_at_some}
-use Rattle.command_line.specs.Sizes.{hexadecimal_of}
 use Rattle.command_line.proofs.SizesLaws.{digits_parsed, is_decoded, no_digits}
 use Rattle.command_line.proofs.sizes.hexadecimal.Goals as goal
 
