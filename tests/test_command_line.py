@@ -279,6 +279,9 @@ USAGES = {
     RUN_USAGE: {
         f"{MISSING}\n  <FLASH>\n  <SCRIPT>": ["run a"],
         "unexpected argument 'd' found": ["run a b c d"],
+        "unexpected argument '--explian' found\n\n  tip: a similar argument exists: '--explain'": [
+            "run --explian a b c"
+        ],
         "the argument '--durable' cannot be used multiple times": ["run --durable --durable a b c"],
         "unexpected value 'true' for '--durable' found; no more were expected": ["run --durable=true a b c"],
         ONE_FILE: ["run - f -"],
