@@ -1,4 +1,4 @@
-"""What a terminal shows besides the output. `--explain` says more, and that a table is read."""
+"""What a terminal shows besides the output. Words are colored. `--explain` says more, and that a table is read."""
 
 import fcntl
 import os
@@ -14,13 +14,23 @@ NOTE = b"note: reading a table from standard input; `bootswap --help` tells more
 HINT = b"note: --explain says more\n"
 
 
-def at_terminal(test, arguments, **how):
+# The environment without colors, and others.
+PLAIN = {**os.environ, "NO_COLOR": "1", "TERM": "xterm"}
+EMPTY = {**PLAIN, "NO_COLOR": ""}
+DUMB = {**EMPTY, "TERM": "dumb"}
+UNSET = {name: value for name, value in EMPTY.items() if name != "NO_COLOR"}
+BARE = {name: value for name, value in UNSET.items() if name != "TERM"}
+
+ERROR, CYAN_NOTE = b"\x1b[1;31merror:\x1b[0m", b"\x1b[1;36mnote:\x1b[0m"
+
+
+def at_terminal(test, arguments, env=PLAIN, **how):
     """Returns the status and the output of a run, and what it prints on a terminal as standard error."""
     ours, theirs = pty.openpty()
     settings = termios.tcgetattr(theirs)
     settings[1] &= ~termios.OPOST
     termios.tcsetattr(theirs, termios.TCSANOW, settings)
-    status, out, _ = test.run_program(arguments, stderr=theirs, **how)
+    status, out, _ = test.run_program(arguments, stderr=theirs, env=env, **how)
     os.close(theirs)
     message = b""
     try:
@@ -123,3 +133,62 @@ class TerminalTest(ProgramTest):
             self.expect(f"a table from a terminal: {shown(arguments)}", arguments, 0, wanted, message, stdin=theirs)
             os.close(ours)
             os.close(theirs)
+
+
+BAD_COLOR = b"""error: `--color` is `always`, `never` or `auto`
+
+Usage: bootswap [COMMAND]
+
+For more information, try '--help'.
+"""
+
+
+class ColorTest(ProgramTest):
+    """Colors on standard error."""
+
+    def test_colors(self):
+        """The words `error:` and `note:` at the start of lines are colored if a terminal shows them."""
+        self.file("bad", b"no\n")
+        plain, colored = b"error: table line 1\n" + HINT, ERROR + b" table line 1\n" + CYAN_NOTE + HINT[5:]
+        for name, more, env, wanted in [
+            ("NO_COLOR unset", [], UNSET, colored),
+            ("NO_COLOR empty", [], EMPTY, colored),
+            ("NO_COLOR and TERM unset", [], BARE, colored),
+            ("NO_COLOR set", [], PLAIN, plain),
+            ("TERM dumb", [], DUMB, plain),
+            ("auto", ["--color=auto"], UNSET, colored),
+            ("auto, NO_COLOR set", ["--color", "auto"], PLAIN, plain),
+            ("never", ["--color=never"], UNSET, plain),
+            ("always, NO_COLOR set", ["--color=always"], PLAIN, colored),
+            ("always, TERM dumb", ["--color", "always"], DUMB, colored),
+        ]:
+            found = at_terminal(self, ["choose", "bad", *more], env=env)
+            self.case(f"colors at a terminal: {name}", [] if found == (1, b"", wanted) else [short(found)])
+
+    def test_colors_at_no_terminal(self):
+        """Without a terminal only `--color=always` colors, and never standard output."""
+        flash_of(self)
+        self.file("bad", b"no\n")
+        line, after = b"error: table line 1\n", ERROR + b" table line 1\n"
+        for arguments, err in [([], line), (["--color=auto"], line), (["--color=never"], line), (["--color=always"], after)]:
+            self.expect(f"colors at no terminal: {arguments}", ["choose", "bad", *arguments], 1, b"", err, env=UNSET)
+        out = read(report("pair"))
+        self.expect("colors: of a report", ["choose", table("pair"), "--color=always"], 0, out)
+        replies = b"1 refused boot 1 NotBooted\n"
+        arguments = ["run", "--color=always", PAIR, "flash", "-"]
+        self.expect("colors: of replies", arguments, 1, replies, given=b"finish 0\n")
+        status, out, err = self.run_program(["choose", "bad", "--explain", "--color=always"])
+        lines = err.split(b"\n")
+        faults = [] if lines[0] + b"\n" == after and lines[-1] == b"" and len(lines) > 2 else [short(err)]
+        faults += [] if all(it.startswith(CYAN_NOTE + b" ") for it in lines[1:-1]) else [short(err)]
+        self.case("colors: of notes", faults)
+        status, out, err = self.run_program(["choose", "--color=always"])
+        is_so = (status, out) == (2, b"") and err.startswith(ERROR + b" the following")
+        self.case("colors: of wrong arguments", [] if is_so else [short((status, out, err))])
+
+    def test_wrong_colors(self):
+        """Other values of `--color` are refused. After `--` it is a name."""
+        self.file("--color=blue", read(table("pair")))
+        for value in (["--color=blue"], ["--color", "Always"], ["--color="]):
+            self.expect(f"colors: {value}", ["choose", table("pair"), *value], 2, b"", BAD_COLOR)
+        self.expect("colors: a name", ["choose", "--", "--color=blue"], 0, read(report("pair")))

@@ -7,7 +7,7 @@
 #![tactic(auto)]
 
 use boot_cli::{cli, note_reading};
-use device_commands::{refuse_words, words_of};
+use device_commands::{Colored, coloring_in, is_colored, refuse_coloring, refuse_words, words_of};
 use host::{Output, STANDARD_ERROR, STANDARD_OUTPUT, SystemHost, reserve_stack};
 use manual::{answer, asked_in};
 use std::io;
@@ -32,7 +32,12 @@ fn run(rt: HostRuntime) -> u8 {
         Err(error) => return refuse(rt, &error),
     };
     let mut out = Output::new(rt, rt.stdout(), STANDARD_OUTPUT);
-    let mut err = Output::new(rt, rt.stderr(), STANDARD_ERROR);
+    let mut plain = Output::new(rt, rt.stderr(), STANDARD_ERROR);
+    let Some(coloring) = coloring_in(words.as_slice()) else {
+        return refuse_coloring(alloc, &mut plain);
+    };
+    let is_terminal = rt.stderr().is_terminal();
+    let mut err = Colored::over(&mut plain, is_colored(&rt, coloring, is_terminal));
     let input = rt.reader();
     if let Some(asked) = asked_in(words.as_slice()) {
         return answer(alloc, asked, &mut out, &mut err);
@@ -41,7 +46,7 @@ fn run(rt: HostRuntime) -> u8 {
         note_reading(&mut err);
         let _ = err.flush();
     }
-    let mut host = SystemHost::new(&rt, input, rt.stderr().is_terminal());
+    let mut host = SystemHost::new(&rt, input, is_terminal);
     cli(alloc, words.as_slice(), &mut host, &mut out, &mut err)
 }
 

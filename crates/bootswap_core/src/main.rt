@@ -5,7 +5,9 @@
 //! It makes and runs a device on a file that boots, takes uploads and survives power cuts.
 #![tactic(auto)]
 
-use device_commands::{core_cli, refuse_words, words_of};
+use device_commands::{
+    Colored, coloring_in, core_cli, is_colored, refuse_coloring, refuse_words, words_of,
+};
 use host::{Output, STANDARD_ERROR, STANDARD_OUTPUT, SystemHost, reserve_stack};
 use std::io;
 use std::io::{ErrorKind, IsTerminal};
@@ -29,8 +31,13 @@ fn run(rt: HostRuntime) -> u8 {
         Err(error) => return refuse(rt, &error),
     };
     let mut out = Output::new(rt, rt.stdout(), STANDARD_OUTPUT);
-    let mut err = Output::new(rt, rt.stderr(), STANDARD_ERROR);
-    let mut host = SystemHost::new(&rt, rt.reader(), rt.stderr().is_terminal());
+    let mut plain = Output::new(rt, rt.stderr(), STANDARD_ERROR);
+    let Some(coloring) = coloring_in(words.as_slice()) else {
+        return refuse_coloring(alloc, &mut plain);
+    };
+    let is_terminal = rt.stderr().is_terminal();
+    let mut err = Colored::over(&mut plain, is_colored(&rt, coloring, is_terminal));
+    let mut host = SystemHost::new(&rt, rt.reader(), is_terminal);
     core_cli(alloc, words.as_slice(), &mut host, &mut out, &mut err)
 }
 

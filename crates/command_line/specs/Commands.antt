@@ -124,10 +124,13 @@ rules_of sub.Sweep =
     ∷ one_option (codes "seed") false ∷ one_option (codes "svg") false ∷ []
 rules_of sub.Codes = []
 
--- The shape of a subcommand: its name, its names and options, and the option that each has.
+-- The options that each subcommand has.
+abbrev pub options_of_all : List Rule
+options_of_all = one_flag (codes "explain") ∷ one_option (codes "color") false ∷ []
+
+-- The shape of a subcommand: its name, its names and options, and the options that each has.
 abbrev pub shape_for : Subcommand → Shape
-shape_for one =
-    record (new_shape (name_for one)) { rules = rules_of one ++ one_flag (codes "explain") ∷ [] }
+shape_for one = record (new_shape (name_for one)) { rules = rules_of one ++ options_of_all }
 
 -- The subcommands, in the order of the help.
 abbrev pub subcommands : List Subcommand

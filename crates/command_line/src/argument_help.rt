@@ -32,6 +32,8 @@ pub const DURABLE: &str = "Sync each write of a plain file before the next one";
 
 pub const EXPLAIN: &str = "Print the reasons on standard error";
 
+pub const COLOR: OptionHelp = OptionHelp("WHEN", "Color messages: always, never [default: auto]");
+
 pub const SECTOR: OptionHelp = OptionHelp(
     "BYTES",
     "Bytes of a sector, 512 to 131072, such as 4096 or 4k",
@@ -66,7 +68,7 @@ pub const HEADER_SIZE: OptionHelp = OptionHelp(
     "Bytes of the header, 32 to 65535 [default: 32]",
 );
 
-pub const LOAD_ADDRESS: OptionHelp = OptionHelp("N", "Address [default: 0]");
+pub const LOAD_ADDRESS: OptionHelp = OptionHelp("N", "Load address [default: 0]");
 
 pub const FLAGS: OptionHelp = OptionHelp("N", "Sum of the flags 1, 16 and 256 [default: 0]");
 

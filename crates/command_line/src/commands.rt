@@ -82,6 +82,8 @@ pub mod named {
 
     pub const EXPLAIN: &str = "explain";
 
+    pub const COLOR: &str = "color";
+
     pub const FORCE: &str = "force";
 
     pub const STRICT: &str = "strict";
@@ -89,8 +91,11 @@ pub mod named {
     pub const DEPENDENCIES: &str = "dependencies";
 }
 
-/// The option that each subcommand has.
+/// An option that each subcommand has.
 const EXPLAIN: Argument = Argument::Flag(named::EXPLAIN, argument_help::EXPLAIN);
+
+/// The other option that each subcommand has.
+const COLOR: Argument = Argument::Optional(named::COLOR, argument_help::COLOR);
 
 /// The option that each subcommand has that makes an image file.
 const FORCE: Argument = Argument::Flag(named::FORCE, argument_help::FORCE);
@@ -111,6 +116,7 @@ const CHOOSE: &Definition = &Definition {
     arguments: &[
         Argument::File(named::TABLE, argument_help::TABLE_FILE),
         EXPLAIN,
+        COLOR,
     ],
 };
 
@@ -121,6 +127,7 @@ const CHECK: &Definition = &Definition {
         Argument::File(named::TABLE, argument_help::TABLE_FILE),
         Argument::File(named::REPORT, argument_help::REPORT_FILE),
         EXPLAIN,
+        COLOR,
     ],
 };
 
@@ -130,6 +137,7 @@ const IMAGE: &Definition = &Definition {
     arguments: &[
         Argument::File(named::FILE, argument_help::IMAGE_FILE),
         EXPLAIN,
+        COLOR,
     ],
 };
 
@@ -140,6 +148,7 @@ const MANIFEST: &Definition = &Definition {
         Argument::File(named::DEVICE, argument_help::DEVICE_FILE),
         Argument::File(named::FILE, argument_help::MANIFEST_FILE),
         EXPLAIN,
+        COLOR,
     ],
 };
 
@@ -153,6 +162,7 @@ const MAKE_DEVICE: &Definition = &Definition {
         Argument::Required(named::CLASS, argument_help::CLASS),
         Argument::Optional(named::TRIAL_BOOTS, argument_help::TRIAL_BOOTS),
         EXPLAIN,
+        COLOR,
     ],
 };
 
@@ -180,6 +190,7 @@ const MAKE_IMAGE: &Definition = &Definition {
         Argument::Optional(named::FLAGS, argument_help::FLAGS),
         FORCE,
         EXPLAIN,
+        COLOR,
     ],
 };
 
@@ -194,6 +205,7 @@ const MAKE_MANIFEST: &Definition = &Definition {
         Argument::Repeated(named::PERMANENT, argument_help::PERMANENT),
         Argument::Flag(named::STRICT, argument_help::STRICT),
         EXPLAIN,
+        COLOR,
     ],
 };
 
@@ -205,6 +217,7 @@ const PROVISION: &Definition = &Definition {
         Argument::File(named::FLASH, argument_help::NEW_FLASH_FILE),
         Argument::Files(named::IMAGE, argument_help::IMAGE_FILES),
         EXPLAIN,
+        COLOR,
     ],
 };
 
@@ -219,6 +232,7 @@ const EXTRACT: &Definition = &Definition {
         Argument::File(named::OUT, argument_help::NEW_IMAGE_FILE),
         FORCE,
         EXPLAIN,
+        COLOR,
     ],
 };
 
@@ -229,6 +243,7 @@ const SHOW: &Definition = &Definition {
         Argument::File(named::DEVICE, argument_help::DEVICE_FILE),
         Argument::File(named::FLASH, argument_help::SHOWN_FLASH_FILE),
         EXPLAIN,
+        COLOR,
     ],
 };
 
@@ -239,6 +254,7 @@ const SLOTS: &Definition = &Definition {
         Argument::File(named::DEVICE, argument_help::DEVICE_FILE),
         Argument::File(named::FLASH, argument_help::SHOWN_FLASH_FILE),
         EXPLAIN,
+        COLOR,
     ],
 };
 
@@ -252,6 +268,7 @@ const RUN: &Definition = &Definition {
         Argument::Flag(named::DURABLE, argument_help::DURABLE),
         Argument::Flag(named::STRICT, argument_help::STRICT_RUN),
         EXPLAIN,
+        COLOR,
     ],
 };
 
@@ -267,13 +284,14 @@ const SWEEP: &Definition = &Definition {
         Argument::Optional(named::SEED, argument_help::SEED),
         Argument::Optional(named::SVG, argument_help::SVG),
         EXPLAIN,
+        COLOR,
     ],
 };
 
 const CODES: &Definition = &Definition {
     name: "codes",
     usage_name: "bootswap codes",
-    arguments: &[EXPLAIN],
+    arguments: &[EXPLAIN, COLOR],
 };
 
 /// A subcommand of the program.

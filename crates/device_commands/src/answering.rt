@@ -5,7 +5,7 @@ ghost use Rattle.clap.specs.Words.{kind_of};
 ghost use Rattle.command_line.specs.Status.{EndsWords, is_help, status_of_fault};
 
 use clap::error::ErrorKind;
-use command_line::{OrderError, fault_of, no_text};
+use command_line::{OrderError, fault_of, no_text, program_error};
 use host::{Refusal, refuse, status_after};
 use std::alloc::Global;
 use std::convert::AsStr;
@@ -21,6 +21,9 @@ const USAGE: u8 = 2;
 
 /// The exit status if the answer could not be written.
 const NOT_WRITTEN: u8 = 1;
+
+/// The text of a value of `--color` that isn't valid.
+const NO_COLORING: &str = "`--color` is `always`, `never` or `auto`";
 
 /// Returns the arguments, the program's own name first, in memory of `rt`.
 ///
@@ -75,6 +78,18 @@ pub fn refuse_words<E: Write>(alloc: Global, error: &io::Error, err: &mut E) -> 
         io::ErrorKind::OutOfMemory => refuse(&Refusal::NoMemory, err),
         _ => status_of_written(write_fault(&no_text(alloc), err)),
     }
+}
+
+/// Reports that the value of `--color` isn't valid, and returns the exit status: 2, or 1 if memory ran
+/// out or the report could not be written. The report is in memory of `alloc`.
+pub fn refuse_coloring<E: Write>(alloc: Global, err: &mut E) -> u8
+    ensures { (result ≡ 2) ⊎ (result ≡ 1) }
+{
+    let error = match program_error(alloc, ErrorKind::InvalidValue, NO_COLORING) {
+        Ok(error) => OrderError::from(error),
+        Err(error) => OrderError::from(error),
+    };
+    status_of_written(write_fault(&error, err))
 }
 
 /// Writes a fault in the arguments, or that memory ran out, and returns the exit status.
