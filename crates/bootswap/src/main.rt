@@ -7,8 +7,11 @@
 #![tactic(auto)]
 
 use boot_cli::{cli, note_reading};
-use device_commands::{Colored, coloring_in, is_colored, refuse_coloring, refuse_words, words_of};
-use host::{Output, STANDARD_ERROR, STANDARD_OUTPUT, SystemHost, reserve_stack};
+use device_commands::{refuse_coloring, refuse_words, words_of};
+use host::{
+    Colored, Output, STANDARD_ERROR, STANDARD_OUTPUT, SystemHost, coloring_in, is_colored,
+    reserve_stack,
+};
 use manual::{answer, asked_in};
 use std::io;
 use std::io::{ErrorKind, IsTerminal, Write};

@@ -5,10 +5,11 @@
 //! It makes and runs a device on a file that boots, takes uploads and survives power cuts.
 #![tactic(auto)]
 
-use device_commands::{
-    Colored, coloring_in, core_cli, is_colored, refuse_coloring, refuse_words, words_of,
+use device_commands::{core_cli, refuse_coloring, refuse_words, words_of};
+use host::{
+    Colored, Output, STANDARD_ERROR, STANDARD_OUTPUT, SystemHost, coloring_in, is_colored,
+    reserve_stack,
 };
-use host::{Output, STANDARD_ERROR, STANDARD_OUTPUT, SystemHost, reserve_stack};
 use std::io;
 use std::io::{ErrorKind, IsTerminal};
 use std::process::ExitCode;

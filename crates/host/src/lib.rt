@@ -4,7 +4,7 @@
 //!   Status 0 is returned only after an answer `Done` was flushed. A new file of the system takes
 //!   its name only after a sync, and an output passes on exactly what it is given.
 //! - Main calls: `Source::read`, `Source::read_start`, `Source::is_file`, `finish`, `SystemHost` as
-//!   a `Host`, `Output` as a `Write`
+//!   a `Host`, `Output` and `Colored` as a `Write`
 //! - Allocates: the input, the name of a new file, and briefly twice the stack's reserve.
 //! - Callers: any command; `system` is for programs alone.
 //!
@@ -15,6 +15,7 @@
 #![tactic(auto)]
 
 mod answer;
+mod coloring;
 mod error;
 mod host;
 mod limits;
@@ -22,6 +23,7 @@ mod source;
 mod system;
 
 pub use answer::{Answer, finish, refuse, status_after};
+pub use coloring::{Colored, Coloring, coloring_in, is_colored};
 pub use error::{Refusal, SourceFault, SourceRefusal};
 pub use host::{Access, FilePart, FlashFault, Host, Replaced};
 pub use limits::{MOST_FILE, MOST_JSON, MOST_SCRIPT, MOST_TABLE};
