@@ -29,7 +29,18 @@ PLACES = [
 ]
 
 # Says what a clone's tools know of its commit.
-ASKS = "import sys; sys.path.insert(0, 'tools'); sys.dont_write_bytecode = True; import commits; print(commits.commit_here())"
+ASKS = """
+import sys
+sys.path.insert(0, "tools")
+sys.dont_write_bytecode = True
+import commits
+print(commits.commit_here())
+"""
+
+
+def text_of(file):
+    """Returns the text of a file of the repository."""
+    return read(f"{ROOT}/{file}").decode()
 
 
 class VersionTest(CaseTest):
@@ -38,15 +49,15 @@ class VersionTest(CaseTest):
     def test_places(self):
         """The version of the header is in each of these places."""
         for file, before, after in PLACES:
-            text = read(f"{ROOT}/{file}").decode()
-            self.case(f"the version in {file}", [] if before + version() + after in text else [f"no {before}{version()}{after}"])
-        shared = re.search(r'^SHARED_NAME = "(.*)"$', read(f"{ROOT}/bindings/python/bootswap.py").decode(), re.MULTILINE)[1]
+            wanted = before + version() + after
+            self.case(f"the version in {file}", [] if wanted in text_of(file) else [f"no {wanted}"])
+        shared = re.search(r'^SHARED_NAME = "(.*)"$', text_of("bindings/python/bootswap.py"), re.MULTILINE)[1]
         self.case("Python's name of the library", [shared] * (shared != f"libbootswap.so.{major()}"))
 
     def test_changelog(self):
         """The last release of the changelog is this version, on the day that manual pages have."""
-        day = re.search(r'^const EDITION: &str = " 1 (\S*) ', read(f"{ROOT}/crates/manual/src/page.rt").decode(), re.M)[1]
-        last = re.search(r"^## \[\d.*$", read(f"{ROOT}/CHANGELOG.md").decode(), re.MULTILINE)[0]
+        day = re.search(r'^const EDITION: &str = " 1 (\S*) ', text_of("crates/manual/src/page.rt"), re.MULTILINE)[1]
+        last = re.search(r"^## \[\d.*$", text_of("CHANGELOG.md"), re.MULTILINE)[0]
         self.case("the last release", [last] * (last != f"## [{version()}] - {day}"))
 
 
@@ -137,7 +148,7 @@ class CommitTest(CaseTest):
         self.addCleanup(shutil.rmtree, self.folder, ignore_errors=True)
         self.clone = f"{self.folder}/clone"
         for name in ("tools/commits.py", "docs/page", "crates/one/src/lib.rt", "crates.txt", ".gitignore"):
-            self.write(name, read(f"{ROOT}/{name}").decode() if name.startswith("tools/") else "out/\n")
+            self.write(name, text_of(name) if name.startswith("tools/") else "out/\n")
 
     def write(self, name, text):
         path = f"{self.clone}/{name}"
@@ -157,7 +168,7 @@ class CommitTest(CaseTest):
         self.case(case, [got] * (got != str(wanted)))
 
     def test_commit(self):
-        """The commit of a clone is known, and whether the crates differ from it. That of a folder around it doesn't count."""
+        """The commit is known, and whether the crates differ from it. That of a folder around the clone doesn't count."""
         self.expect("no clone", None)
         self.git("init", "--quiet")
         self.expect("no commit", None)

@@ -11,6 +11,7 @@ import time
 from builder import ROOT, text_of
 from commits import version_in
 from results import Counts, report
+from sealed_archives import paths_below
 from tutorial import commands_of
 
 # Debian 12, and what one needs there beside the packages: a C compiler, Python, `man`, and completion.
@@ -90,7 +91,7 @@ class CleanSystem:
 
     def state(self):
         """Returns what is there: the files outside of caches, and the packages that `dpkg` knows."""
-        files = {f"{at}/{name}".removeprefix(self.root) for at, folders, names in os.walk(self.root) for name in [*folders, *names]}
+        files = {it.removeprefix(self.root) for it in paths_below(self.root)}
         _, known = self.call("dpkg-query --show --showformat '${Package} ${db:Status-Status}\\n'", 0)
         return {it for it in files if not CHANGING.match(it)} | {*known.splitlines()}
 
@@ -134,7 +135,10 @@ class CleanSystem:
         shell = subprocess.Popen(words, env=ENVIRONMENT, stdin=end, stdout=end, stderr=end)
         try:
             os.write(terminal, b"PS1='rea''dy '\n")
-            return appears(terminal, b"ready ") and bool(os.write(terminal, line.encode())) and appears(terminal, wanted.encode())
+            if not appears(terminal, b"ready "):
+                return False
+            os.write(terminal, line.encode())
+            return appears(terminal, wanted.encode())
         finally:
             shell.kill()
             shell.wait()
