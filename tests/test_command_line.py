@@ -288,7 +288,7 @@ USAGES = {
         IS_WRITTEN: ["run d - s", "run - - s"],
     },
     """sweep <DEVICE> <SCRIPT> <IMAGE>... [--twice] [--sample <N>]
-           [--seed <N>] [--svg <FILE>] [--explain]""": {
+           [--seed <N>] [--svg <FILE>] [--json] [--explain]""": {
         f"{MISSING}\n  <IMAGE>...": ["sweep a b"],
         "the argument '--twice' cannot be used multiple times": ["sweep --twice --twice a b c"],
         "the argument '--sample <N>' cannot be used multiple times": ["sweep a b c --sample=1 --sample=1"],

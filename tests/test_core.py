@@ -57,6 +57,7 @@ MORE = [
     ["sweep", PAIR, SCRIPT, ONE, ONE],
     ["sweep", PAIR, SCRIPT, ONE, "--sample", "many"],
     ["run", PAIR, "flash", SCRIPT, "--explain"],
+    ["run", PAIR, "flash", SCRIPT, "--json"],
 ]
 
 

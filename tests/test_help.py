@@ -200,7 +200,7 @@ HELPS = {
     ],
     "sweep -h": [
         "Usage: bootswap sweep <DEVICE> <SCRIPT> <IMAGE>... [--twice] [--sample <N>]\n"
-        "           [--seed <N>] [--svg <FILE>] [--explain]\n",
+        "           [--seed <N>] [--svg <FILE>] [--json] [--explain]\n",
         "  --twice ",
         "  --sample <N> ",
         "  --seed <N> ",

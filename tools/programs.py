@@ -12,12 +12,12 @@ from builder import OUT, NotBuilt, asked_of_rt, build, crates_of, text_of
 
 WHOLE, CORE = "bootswap", "bootswap_core"
 
-# The commands that the core lacks, and the option that it doesn't accept.
+# The commands that the core lacks, and the options that it doesn't accept.
 OF_WHOLE = (
     *("choose", "check", "image", "manifest", "show", "slots", "codes"),
     *("make-device", "make-image", "make-manifest", "extract", "sweep"),
 )
-EXPLAIN = "--explain"
+OPTIONS = ("--explain", "--json")
 
 # The options for the help of a command. The core has the help of all commands.
 HELP = ("--help", "-h")
@@ -33,7 +33,7 @@ class NoToolchain(NotBuilt):
 def needed_for(words):
     """Returns the name of the smallest program that does what these arguments ask for. Without arguments that is `choose`."""
     command, rest = words[:1], words[1:2]
-    if EXPLAIN in words or not command:
+    if not command or any(it in words for it in OPTIONS):
         return WHOLE
     if command == ["help"] and rest and rest[0] in TOPICS:
         return WHOLE

@@ -6,7 +6,7 @@ ghost use Rattle.clap.specs.declared.error.kind.ErrorKind.TheVariants.{InvalidVa
 ghost use Rattle.clap.specs.declared.error.kind.ErrorKind.TheVariants.{MissingSubcommand};
 ghost use Rattle.command_line.specs.Commands.{bootswap};
 ghost use Rattle.command_line.specs.Faults.{IsUsage};
-ghost use Rattle.command_line.specs.Given.{Finds, is_explained};
+ghost use Rattle.command_line.specs.Given.{Finds, is_explained, is_json};
 ghost use Rattle.command_line.specs.OrderFaults.{IsRefusal};
 ghost use Rattle.command_line.specs.Orders.{GiveOrder, IsOrder, IsOrderOf, misuse_of};
 
@@ -22,8 +22,8 @@ use crate::sweep_words::invalid_choices;
 use clap::error::ErrorKind;
 use clap::{ArgMatches, Error};
 use command_line::{
-    Order, OrderError, Request, Subcommand, is_explained, matches_of, misuse_error, named_in,
-    program_error, subcommand_error,
+    Order, OrderError, Request, Subcommand, is_explained, is_json, matches_of, misuse_error,
+    named_in, program_error, subcommand_error,
 };
 use std::alloc::{AllocError, Global};
 use std::convert::AsStr;
@@ -43,8 +43,8 @@ pub fn order<'a, S: AsStr>(alloc: Global, words: &'a [S]) -> Result<Order<'a>, O
     Ok(asked.order)
 }
 
-/// Returns the order that `words` give, and whether to explain its answer. The first of `words` is
-/// the program's own name. The order is in memory of `alloc`.
+/// Returns the order that `words` give, whether to explain its answer, and whether the answer is to
+/// be JSON. The first of `words` is the program's own name. The order is in memory of `alloc`.
 ///
 /// # Errors
 /// - `Usage` if the words ask for help or the version, or have a fault: `clap` refuses them; a
@@ -55,11 +55,13 @@ pub fn request<'a, S: AsStr>(alloc: Global, words: &'a [S]) -> Result<Request<'a
     ensures order { IfOk result (λ request. GiveOrder (map S.text words.entry.now) request.order) }
     ensures explained { IfOk result (λ request.
         request.is_explained ≡ is_explained (map S.text words.entry.now)) }
+    ensures json { IfOk result (λ request.
+        request.is_json ≡ is_json (map S.text words.entry.now)) }
     ensures refused { IfErr result (IsRefusal (map S.text words.entry.now)) }
 {
     let matches = matches_of(alloc, words)?;
     match order_in(alloc, &matches)? {
-        Some(order) => request_of(alloc, order, is_explained(&matches)),
+        Some(order) => request_of(alloc, order, is_explained(&matches), is_json(&matches)),
         None => Err(no_order(alloc, &matches)),
     }
 }
@@ -69,9 +71,10 @@ fn request_of<'a>(
     alloc: Global,
     order: Order<'a>,
     is_explained: bool,
+    is_json: bool,
 ) -> Result<Request<'a>, OrderError>
     ensures given { IfOk result (λ request. (request.order ≡ order.entry)
-        × (request.is_explained ≡ is_explained)) }
+        × (request.is_explained ≡ is_explained) × (request.is_json ≡ is_json)) }
     ensures sound { IfOk result (λ request. misuse_of request.order ≡ None) }
     ensures refused { (words : _) → fault_of bootswap words ≡ [] → IsOrder words order.entry
         → IfErr result (IsRefusal words) }
@@ -81,6 +84,7 @@ fn request_of<'a>(
         None => Ok(Request {
             order,
             is_explained,
+            is_json,
         }),
     }
 }

@@ -1,5 +1,6 @@
 //! Reads the order that the arguments give, or the default order if there are none.
-ghost use Rattle.std.specs.Prelude.{IfErr, IfOk, map};
+ghost use Rattle.std.specs.Prelude.{◌≡◌, IfErr, IfOk, map};
+ghost use Rattle.command_line.specs.Given.{is_json};
 ghost use Rattle.command_line.specs.OrderFaults.{IsRefusal};
 ghost use Rattle.boot_cli.specs.WordsEnd.{AskFor};
 
@@ -18,8 +19,11 @@ const READING: &[u8] = b"note: reading a table from standard input; `bootswap --
 ///
 /// # Errors
 /// The errors of [`request`].
+#[tactic(auto, using(crate::proofs::WordsLaws::no_json))]
 pub fn request_in<'a, S: AsStr>(alloc: Global, words: &'a [S]) -> Result<Request<'a>, OrderError>
     ensures order { IfOk result (λ request. AskFor (map S.text words.entry.now) request.order) }
+    ensures json { IfOk result (λ request.
+        request.is_json ≡ is_json (map S.text words.entry.now)) }
     ensures refused { IfErr result (IsRefusal (map S.text words.entry.now)) }
 {
     if words.len() <= 1 {
@@ -28,6 +32,7 @@ pub fn request_in<'a, S: AsStr>(alloc: Global, words: &'a [S]) -> Result<Request
                 table: STANDARD_INPUT,
             }),
             is_explained: false,
+            is_json: false,
         });
     }
     request(alloc, words)

@@ -90,10 +90,12 @@ name_for sub.Codes = codes "codes"
 
 -- The rules of its names and options, in this order.
 abbrev pub rules_of : Subcommand → List Rule
-rules_of sub.Choose = one_name (codes "TABLE") ∷ []
-rules_of sub.Check = one_name (codes "TABLE") ∷ one_name (codes "REPORT") ∷ []
-rules_of sub.Image = one_name (codes "FILE") ∷ []
-rules_of sub.Manifest = one_name (codes "DEVICE") ∷ one_name (codes "FILE") ∷ []
+rules_of sub.Choose = one_name (codes "TABLE") ∷ one_flag (codes "json") ∷ []
+rules_of sub.Check =
+    one_name (codes "TABLE") ∷ one_name (codes "REPORT") ∷ one_flag (codes "json") ∷ []
+rules_of sub.Image = one_name (codes "FILE") ∷ one_flag (codes "json") ∷ []
+rules_of sub.Manifest =
+    one_name (codes "DEVICE") ∷ one_name (codes "FILE") ∷ one_flag (codes "json") ∷ []
 rules_of sub.MakeDevice =
     one_option (codes "sector") true ∷ one_option (codes "slots") true
     ∷ one_option (codes "vendor") true ∷ one_option (codes "class") true
@@ -113,16 +115,18 @@ rules_of sub.Provision =
 rules_of sub.Extract =
     one_name (codes "DEVICE") ∷ one_name (codes "FLASH") ∷ one_name (codes "IMAGE")
     ∷ one_name (codes "SIDE") ∷ one_name (codes "OUT") ∷ one_flag (codes "force") ∷ []
-rules_of sub.Show = one_name (codes "DEVICE") ∷ one_name (codes "FLASH") ∷ []
-rules_of sub.Slots = one_name (codes "DEVICE") ∷ one_name (codes "FLASH") ∷ []
+rules_of sub.Show =
+    one_name (codes "DEVICE") ∷ one_name (codes "FLASH") ∷ one_flag (codes "json") ∷ []
+rules_of sub.Slots =
+    one_name (codes "DEVICE") ∷ one_name (codes "FLASH") ∷ one_flag (codes "json") ∷ []
 rules_of sub.Run =
     one_name (codes "DEVICE") ∷ one_name (codes "FLASH") ∷ one_name (codes "SCRIPT")
-    ∷ one_flag (codes "durable") ∷ one_flag (codes "strict") ∷ []
+    ∷ one_flag (codes "durable") ∷ one_flag (codes "strict") ∷ one_flag (codes "json") ∷ []
 rules_of sub.Sweep =
     one_name (codes "DEVICE") ∷ one_name (codes "SCRIPT") ∷ all_names (codes "IMAGE")
     ∷ one_flag (codes "twice") ∷ one_option (codes "sample") false
-    ∷ one_option (codes "seed") false ∷ one_option (codes "svg") false ∷ []
-rules_of sub.Codes = []
+    ∷ one_option (codes "seed") false ∷ one_option (codes "svg") false ∷ one_flag (codes "json") ∷ []
+rules_of sub.Codes = one_flag (codes "json") ∷ []
 
 -- The options that each subcommand has.
 abbrev pub options_of_all : List Rule

@@ -30,6 +30,15 @@ has_explain (Some named) = is_given (codes "explain") named.1
 abbrev pub is_explained : List Text → Bool
 is_explained words = has_explain (subcommand_of bootswap words)
 
+-- Whether the matches of the named subcommand have `--json`.
+abbrev pub has_json : Option (Text × List Row) → Bool
+has_json None = false
+has_json (Some named) = is_given (codes "json") named.1
+
+-- Whether the arguments have `--json`.
+abbrev pub is_json : List Text → Bool
+is_json words = has_json (subcommand_of bootswap words)
+
 -- The value that was found has the property. If none was found, none has it.
 abbrev pub Finds : {T : Type 0} → (T → Type 0) → Option T → Type 0
 Finds IsSo None = (one : _) → IsSo one → ⊥

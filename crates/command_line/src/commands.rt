@@ -80,6 +80,8 @@ pub mod named {
 
     pub const SVG: &str = "svg";
 
+    pub const JSON: &str = "json";
+
     pub const EXPLAIN: &str = "explain";
 
     pub const COLOR: &str = "color";
@@ -96,6 +98,9 @@ const EXPLAIN: Argument = Argument::Flag(named::EXPLAIN, argument_help::EXPLAIN)
 
 /// The other option that each subcommand has.
 const COLOR: Argument = Argument::Optional(named::COLOR, argument_help::COLOR);
+
+/// The option that each subcommand has whose answer can be JSON.
+const JSON: Argument = Argument::Flag(named::JSON, argument_help::JSON);
 
 /// The option that each subcommand has that makes an image file.
 const FORCE: Argument = Argument::Flag(named::FORCE, argument_help::FORCE);
@@ -115,6 +120,7 @@ const CHOOSE: &Definition = &Definition {
     usage_name: "bootswap choose",
     arguments: &[
         Argument::File(named::TABLE, argument_help::TABLE_FILE),
+        JSON,
         EXPLAIN,
         COLOR,
     ],
@@ -126,6 +132,7 @@ const CHECK: &Definition = &Definition {
     arguments: &[
         Argument::File(named::TABLE, argument_help::TABLE_FILE),
         Argument::File(named::REPORT, argument_help::REPORT_FILE),
+        JSON,
         EXPLAIN,
         COLOR,
     ],
@@ -136,6 +143,7 @@ const IMAGE: &Definition = &Definition {
     usage_name: "bootswap image",
     arguments: &[
         Argument::File(named::FILE, argument_help::IMAGE_FILE),
+        JSON,
         EXPLAIN,
         COLOR,
     ],
@@ -147,6 +155,7 @@ const MANIFEST: &Definition = &Definition {
     arguments: &[
         Argument::File(named::DEVICE, argument_help::DEVICE_FILE),
         Argument::File(named::FILE, argument_help::MANIFEST_FILE),
+        JSON,
         EXPLAIN,
         COLOR,
     ],
@@ -242,6 +251,7 @@ const SHOW: &Definition = &Definition {
     arguments: &[
         Argument::File(named::DEVICE, argument_help::DEVICE_FILE),
         Argument::File(named::FLASH, argument_help::SHOWN_FLASH_FILE),
+        JSON,
         EXPLAIN,
         COLOR,
     ],
@@ -253,6 +263,7 @@ const SLOTS: &Definition = &Definition {
     arguments: &[
         Argument::File(named::DEVICE, argument_help::DEVICE_FILE),
         Argument::File(named::FLASH, argument_help::SHOWN_FLASH_FILE),
+        JSON,
         EXPLAIN,
         COLOR,
     ],
@@ -267,6 +278,7 @@ const RUN: &Definition = &Definition {
         Argument::File(named::SCRIPT, argument_help::SCRIPT_FILE),
         Argument::Flag(named::DURABLE, argument_help::DURABLE),
         Argument::Flag(named::STRICT, argument_help::STRICT_RUN),
+        JSON,
         EXPLAIN,
         COLOR,
     ],
@@ -283,6 +295,7 @@ const SWEEP: &Definition = &Definition {
         Argument::Optional(named::SAMPLE, argument_help::SAMPLE),
         Argument::Optional(named::SEED, argument_help::SEED),
         Argument::Optional(named::SVG, argument_help::SVG),
+        JSON,
         EXPLAIN,
         COLOR,
     ],
@@ -291,7 +304,7 @@ const SWEEP: &Definition = &Definition {
 const CODES: &Definition = &Definition {
     name: "codes",
     usage_name: "bootswap codes",
-    arguments: &[EXPLAIN, COLOR],
+    arguments: &[JSON, EXPLAIN, COLOR],
 };
 
 /// A subcommand of the program.

@@ -7,7 +7,8 @@ ghost use Rattle.command_line.specs.Commands.{bootswap};
 ghost use Rattle.command_line.specs.DeviceOrders.{names_of, subcommand_for};
 ghost use Rattle.command_line.specs.DeviceOrders.{writes_to_standard_input};
 ghost use Rattle.command_line.specs.Faults.{IsDeviceRefusal};
-ghost use Rattle.command_line.specs.Given.{Finds, HasImages, is_explained, standard_inputs};
+ghost use Rattle.command_line.specs.Given.{Finds, HasImages, is_explained, is_json};
+ghost use Rattle.command_line.specs.Given.{standard_inputs};
 ghost use Rattle.command_line.specs.Orders.{AsksDevice, IsOrder, IsOrderOf, misuse_of};
 ghost use Rattle.command_line.specs.declared.orders.Order.TheVariants.{Device};
 
@@ -15,7 +16,7 @@ use crate::commands::{Subcommand, named};
 use crate::error::OrderError;
 use crate::fault_texts;
 use crate::faults::misuse_error;
-use crate::matching::{images_in, is_explained, is_given, matches_of, name_in, named_in};
+use crate::matching::{images_in, is_explained, is_given, is_json, matches_of, name_in, named_in};
 use crate::standard_input::{inputs_with, is_standard_input, standard_inputs};
 use clap::{ArgMatches, Error};
 use std::alloc::{AllocError, Global};
@@ -55,6 +56,8 @@ pub struct DeviceRequest<'a> {
     pub order: DeviceOrder<'a>,
     /// Whether to explain the answer (`--explain`).
     pub is_explained: bool,
+    /// Whether the answer is to be JSON (`--json`).
+    pub is_json: bool,
 }
 
 impl DeviceOrder<'_> {
@@ -115,13 +118,15 @@ pub fn device_request<'a, S: AsStr>(
         (option_map (λ request. request.order) found)) }
     ensures explained { IfOk result (λ found. IfSome found (λ request.
         request.is_explained ≡ is_explained (map S.text words.entry.now))) }
+    ensures json { IfOk result (λ found. IfSome found (λ request.
+        request.is_json ≡ is_json (map S.text words.entry.now))) }
     ensures sound { IfOk result (λ found.
         IfSome found (λ request. misuse_of (Device request.order) ≡ None)) }
     ensures refused { IfErr result (IsDeviceRefusal (map S.text words.entry.now)) }
 {
     let matches = matches_of(alloc, words)?;
     match order_in(alloc, &matches)? {
-        Some(order) => request_of(alloc, order, is_explained(&matches)),
+        Some(order) => request_of(alloc, order, is_explained(&matches), is_json(&matches)),
         None => Ok(None),
     }
 }
@@ -131,9 +136,11 @@ fn request_of<'a>(
     alloc: Global,
     order: DeviceOrder<'a>,
     is_explained: bool,
+    is_json: bool,
 ) -> Result<Option<DeviceRequest<'a>>, OrderError>
     ensures given { IfOk result (λ found. IsSomeAnd found (λ request.
-        (request.order ≡ order.entry) × (request.is_explained ≡ is_explained))) }
+        (request.order ≡ order.entry) × (request.is_explained ≡ is_explained)
+        × (request.is_json ≡ is_json))) }
     ensures sound { IfOk result (λ found.
         IfSome found (λ request. misuse_of (Device request.order) ≡ None)) }
     ensures refused { (words : _) → fault_of bootswap words ≡ [] → IsOrder words (Device order.entry)
@@ -144,6 +151,7 @@ fn request_of<'a>(
         None => Ok(Some(DeviceRequest {
             order,
             is_explained,
+            is_json,
         })),
     }
 }

@@ -41,7 +41,9 @@ The greatest set is the one that contains every other set with these properties.
 Without arguments the program does `choose` on standard input. `-` as a file
 name is standard input. With `--explain` a command prints on standard error why
 its answer is as it is: what is wrong in a refused file, what may stand there,
-and why a request is refused.",
+and why a request is refused. With `--json` the commands `choose`, `check`,
+`image`, `manifest`, `show`, `slots`, `run`, `sweep` and `codes` print their
+answer as JSON.",
     after: "Exit status: 0 done, 1 refused, 2 usage error, 3 power cut, 4 flash file failed.
 See `bootswap --help` for more, `bootswap help run` for the lines of a script,
 and `bootswap codes` for the codes and names of refusals.",
@@ -676,7 +678,7 @@ Examples:
 
 pub const SWEEP: &Help = &Help {
     usage: "bootswap sweep <DEVICE> <SCRIPT> <IMAGE>... [--twice] [--sample <N>]
-           [--seed <N>] [--svg <FILE>] [--explain]",
+           [--seed <N>] [--svg <FILE>] [--json] [--explain]",
     about: "Cut power at each write of a script, and print how runs end",
     long_about: "Provision a device in memory with these images, as `provision` does, and run a
 script on it as `run` does: once for each write of its flash and each way to

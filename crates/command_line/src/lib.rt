@@ -33,7 +33,9 @@ pub use device_orders::{DeviceOrder, DeviceRequest, device_request, provision_in
 pub use error::OrderError;
 pub use faults::{fault_of, misuse_error, no_text, program_error, subcommand_error};
 pub use help::{Help, PROGRAM};
-pub use matching::{images_in, is_explained, is_given, matches_of, name_in, named_in, names_in};
+pub use matching::{
+    images_in, is_explained, is_given, is_json, matches_of, name_in, named_in, names_in,
+};
 pub use orders::{
     NewComponent, NewDevice, NewFile, NewImage, NewManifest, Order, ReadOrder, Request,
     SweepChoices,

@@ -4,7 +4,7 @@ ghost use Rattle.std.specs.Prelude.{◌≡◌, IfErr, IfOk, [], map, option_map}
 ghost use Rattle.clap.specs.Words.{HasKind, all_of, fault_of, first_of, found_of};
 ghost use Rattle.clap.specs.Words.{rows_of, subcommand_of, subcommand_rows_of};
 ghost use Rattle.command_line.specs.Commands.{bootswap};
-ghost use Rattle.command_line.specs.Given.{HasImages, has_explain, is_given};
+ghost use Rattle.command_line.specs.Given.{HasImages, has_explain, has_json, is_given};
 
 use crate::commands::{bootswap, named};
 use clap::{ArgMatches, Error};
@@ -40,6 +40,16 @@ pub fn is_explained(matches: &ArgMatches<'_>) -> bool
 {
     match named_in(matches) {
         Some((_, names)) => is_given(names, named::EXPLAIN),
+        None => false,
+    }
+}
+
+/// Returns whether the answer is to be JSON (`--json`).
+pub fn is_json(matches: &ArgMatches<'_>) -> bool
+    ensures { result ≡ has_json (subcommand_rows_of matches.now) }
+{
+    match named_in(matches) {
+        Some((_, names)) => is_given(names, named::JSON),
         None => false,
     }
 }

@@ -190,4 +190,6 @@ pub struct Request<'a> {
     pub order: Order<'a>,
     /// Whether to explain the answer (`--explain`).
     pub is_explained: bool,
+    /// Whether the answer is to be JSON (`--json`).
+    pub is_json: bool,
 }

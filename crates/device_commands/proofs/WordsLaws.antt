@@ -6,7 +6,6 @@ use Rattle.clap.specs.declared.error.kind.ErrorKind.TheVariants.{ArgumentConflic
 use Rattle.command_line.specs.Orders.{GiveOrder, writes_to_standard_input}
 use Rattle.command_line.specs.Faults.{IsAnswered, IsDeviceFault, IsDeviceRefusal}
 use Rattle.command_line.specs.Faults.IsDeviceFault.{misuse, of_clap}
-use Rattle.command_line.specs.Given.{is_explained}
 use Rattle.command_line.specs.Status.{AskHelp, EndsWords, is_help}
 use Rattle.command_line.specs.declared.device_orders.DeviceOrder.{DeviceOrder}
 use Rattle.command_line.specs.declared.orders.Order.TheVariants.{Device}
@@ -20,7 +19,7 @@ use Rattle.host.specs.Input.{FileBytes}
 use Rattle.host.specs.Status.{Ends, status_of, status_of_refusal}
 use Rattle.host.proofs.InputLaws.{KeepsFiles-itself}
 use Rattle.device_commands.specs.CoreEnd.{AnswersCore}
-use Rattle.device_commands.specs.WordsEnd.{AskNothing, EndsByCut, EndsCore, EndsWith}
+use Rattle.device_commands.specs.WordsEnd.{AskNothing, EndsByCut, EndsCore, EndsWith, IsPlain}
 
 -- The status of a refusal is 4 if the file of the flash failed, else 1.
 refusal_status : (refusal : Refusal) → (status_of_refusal refusal ≡ 1) ⊎ (status_of_refusal refusal ≡ 4)
@@ -160,7 +159,7 @@ EndsCore-other words status input file old new ends =
 
 -- An order of the core is answered.
 pub EndsCore-order : (words : List Text) (order : DeviceOrder) (status : ℕ) (input : Option (List ℕ))
-    (file after : FileBytes) (old new : Option (List ℕ)) → GiveOrder words (Device order) → is_explained words ≡ false
+    (file after : FileBytes) (old new : Option (List ℕ)) → GiveOrder words (Device order) → IsPlain words
     → (status ≡ 0 → AnswersCore Done order input file after old new) → status ≢ 2
     → (status ≡ 3 → EndsByCut order input file after old new)
     → EndsCore words status input file after old new

@@ -4,7 +4,7 @@ use Rattle.clap.specs.Words.{Text}
 use Rattle.clap.specs.declared.error.kind.ErrorKind.{ErrorKind}
 use Rattle.command_line.specs.Orders.{GiveOrder}
 use Rattle.command_line.specs.Faults.{IsDeviceFault}
-use Rattle.command_line.specs.Given.{is_explained}
+use Rattle.command_line.specs.Given.{is_explained, is_json}
 use Rattle.command_line.specs.Status.{AskHelp, is_help}
 use Rattle.command_line.specs.declared.device_orders.DeviceOrder.{DeviceOrder}
 use Rattle.command_line.specs.declared.orders.Order.TheVariants.{Device}
@@ -61,12 +61,16 @@ abbrev pub EndsByCut : DeviceOrder → Option (List ℕ) → FileBytes → FileB
 EndsByCut order input file then old new =
     IsCutAnswer (λ answer written. AnswersCore answer order input file then old written) new
 
+-- The answer isn't to be explained, and isn't to be JSON.
+abbrev pub IsPlain : List Text → Type 0
+IsPlain words = (is_explained words ≡ false) × (is_json words ≡ false)
+
 -- What the exit status of the core says about the arguments. Their order is one to a device that
--- isn't to be explained.
+-- isn't to be explained, and whose answer isn't to be JSON.
 abbrev pub EndsCore : List Text → ℕ → Option (List ℕ) → FileBytes → FileBytes
     → Option (List ℕ) → Option (List ℕ) → Type 0
 EndsCore words status input file then old new =
     EndsWith words (λ order. GiveOrder words (Device order)) (IsDeviceFault words)
-    (λ order. (is_explained words ≡ false) × AnswersCore Done order input file then old new)
-    (λ order. (is_explained words ≡ false) × EndsByCut order input file then old new)
+    (λ order. IsPlain words × AnswersCore Done order input file then old new)
+    (λ order. IsPlain words × EndsByCut order input file then old new)
     status file then

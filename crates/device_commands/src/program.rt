@@ -15,7 +15,7 @@ use std::io::Write;
 
 /// Runs the command that `words` ask for, and returns the exit status: 0 for done, 1 for refused, 2
 /// for wrong usage, 3 if the power failed last, 4 if the file of the flash failed. A command that
-/// the core doesn't have is refused, and so is `--explain`.
+/// the core doesn't have is refused, and so are `--explain` and `--json`.
 ///
 /// The first of `words` is the program's own name. Files are those of `host`. Answers are written
 /// to `out`, error lines and usage to `err`, and both are flushed. After a failed write nothing
@@ -31,7 +31,7 @@ pub fn core_cli<S: AsStr, H: Host, O: Write, E: Write>(
         (H.file host.new) (O.contents out.old) (O.contents out.new) }
 {
     match device_request(alloc, words) {
-        Ok(Some(request)) if !request.is_explained => {
+        Ok(Some(request)) if !request.is_explained && !request.is_json => {
             run_core_order(alloc, &request.order, host, out, err)
         }
         Ok(_) => finish(&Err(Refusal::NotOfCore), out, err),
