@@ -1,5 +1,6 @@
 mod ComponentLaws
 mod Found
+mod JsonLaws
 mod NeedLaws
 mod OrderLaws
 mod SweepLaws

@@ -1,3 +1,4 @@
+pub mod JsonEnd
 pub mod OrderEnd
 pub mod SweepEnd
 pub mod WordsEnd

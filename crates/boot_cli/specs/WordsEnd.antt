@@ -1,6 +1,7 @@
 -- How the program ends for its arguments.
-use Rattle.std.specs.Prelude.{◌≡◌, ℕ, ◌<◌, ◌≤◌, List, Option, codes, length}
+use Rattle.std.specs.Prelude.{◌≡◌, ℕ, ◌<◌, ◌≤◌, List, MatchBool, Option, codes, length}
 use Rattle.clap.specs.Words.{Text}
+use Rattle.command_line.specs.Given.{is_json}
 use Rattle.command_line.specs.OrderFaults.{IsFault}
 use Rattle.command_line.specs.Orders.{GiveOrder}
 use Rattle.command_line.specs.declared.orders.Order.{Order}
@@ -9,6 +10,7 @@ use Rattle.command_line.specs.declared.orders.ReadOrder.TheVariants as read
 use Rattle.host.specs.declared.answer.Answer.TheVariants.{Done}
 use Rattle.host.specs.Input.{FileBytes}
 use Rattle.device_commands.specs.WordsEnd.{EndsWith, IsCutAnswer}
+use Rattle.boot_cli.specs.JsonEnd.{AnswersJson, EndsJsonByCut}
 use Rattle.boot_cli.specs.OrderEnd.{AnswersOrder}
 
 -- The order is `choose` on standard input.
@@ -28,10 +30,14 @@ abbrev pub EndsByCut : Order → Option (List ℕ) → FileBytes → FileBytes
 EndsByCut asked input file then old new =
     IsCutAnswer (λ answer written. AnswersOrder answer asked input file then old written) new
 
--- What the exit status says about the arguments.
+-- What the exit status says about the arguments. The answer is JSON if they have `--json`.
 abbrev pub EndsProgram : List Text → ℕ → Option (List ℕ) → FileBytes → FileBytes
     → Option (List ℕ) → Option (List ℕ) → Type 0
 EndsProgram words status input file then old new =
     EndsWith words (AskFor words) (IsFault words)
-    (λ asked. AnswersOrder Done asked input file then old new)
-    (λ asked. EndsByCut asked input file then old new) status file then
+    (λ asked. MatchBool (is_json words)
+    (AnswersJson Done asked input file then old new)
+    (AnswersOrder Done asked input file then old new))
+    (λ asked. MatchBool (is_json words)
+    (EndsJsonByCut asked input file then old new)
+    (EndsByCut asked input file then old new)) status file then

@@ -19,6 +19,7 @@ mod device_words;
 mod explained;
 mod hint;
 mod image_words;
+mod json;
 mod manifest_words;
 mod order_fault_texts;
 mod orders;

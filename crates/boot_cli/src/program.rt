@@ -6,6 +6,7 @@ ghost use Rattle.boot_cli.specs.WordsEnd.{EndsByCut, EndsProgram};
 use crate::commands::run_command;
 use crate::explained::run_explained;
 use crate::hint::hint_at_notes;
+use crate::json::{run_json_explained, run_json_order};
 use crate::until_failed::UntilFailed;
 use crate::words::request_in;
 use command_line::Order;
@@ -33,6 +34,10 @@ pub fn cli<S: AsStr, H: Host, O: Write, E: Write>(
         (H.file host.old) (H.file host.new) (O.contents out.old) (O.contents out.new) }
 {
     match request_in(alloc, words) {
+        Ok(request) if request.is_json && request.is_explained => {
+            run_json_explained(alloc, request.order, host, out, err).status
+        }
+        Ok(request) if request.is_json => run_json_order(alloc, request.order, host, out, err),
         Ok(request) if request.is_explained => {
             run_explained(alloc, request.order, host, out, err).status
         }

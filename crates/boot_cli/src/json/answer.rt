@@ -1,0 +1,103 @@
+//! Writes the object of an answer.
+ghost use Rattle.std.specs.Prelude.{OnOk};
+ghost use Rattle.boot_cli.specs.JsonEnd.{WritesValue};
+
+use crate::json::code_list::code_list_members;
+use crate::json::fields::Members;
+use crate::json::grammar::Grammar;
+use crate::json::grammars;
+use crate::json::reading::members_of;
+use command_line::{Order, ReadOrder};
+use device_texts::write_all;
+use host::Refusal;
+use serde_json::{Value, push, put};
+use std::alloc::{AllocError, Global};
+use std::io::Write;
+
+/// How the text of an answer is read.
+#[derive(Clone, Copy)]
+pub enum Layout {
+    /// Line by line.
+    Lines(&'static Grammar),
+    /// As the list of `codes`.
+    CodeList,
+}
+
+/// Returns how the answer to an order is read. Commands that don't accept `--json` are read as
+/// `run` is.
+pub fn layout_of(order: &Order<'_>) -> Layout {
+    match order {
+        Order::Read(ReadOrder::Choose { .. }) => Layout::Lines(grammars::CHOOSE),
+        Order::Read(ReadOrder::Check { .. }) => Layout::Lines(grammars::CHECK),
+        Order::Read(ReadOrder::Image { .. }) => Layout::Lines(grammars::IMAGE),
+        Order::Read(ReadOrder::Manifest { .. }) => Layout::Lines(grammars::MANIFEST),
+        Order::Read(ReadOrder::Show { .. }) => Layout::Lines(grammars::SHOW),
+        Order::Read(ReadOrder::Slots { .. }) => Layout::Lines(grammars::SLOTS),
+        Order::Read(ReadOrder::Codes) => Layout::CodeList,
+        Order::Sweep { .. } => Layout::Lines(grammars::SWEEP),
+        _ => Layout::Lines(grammars::REPLY),
+    }
+}
+
+/// Writes the object of an answer, and a line feed, to `out`. `text` is the answer, and `notes` are
+/// the notes on it, with their prefixes.
+///
+/// # Errors
+/// - `NoMemory` if memory of `alloc` ran out. Nothing is written.
+/// - `CannotWrite` if the write failed, or if a text isn't UTF-8.
+pub fn write_object<O: Write>(
+    alloc: Global,
+    layout: Layout,
+    text: &[u8],
+    notes: &[u8],
+    out: &mut O,
+) -> Result<(), Refusal>
+    ensures { OnOk result (WritesValue (O.contents out.old) (O.contents out.new)) }
+{
+    let (Ok(text), Ok(notes)) = (str::from_utf8(text), str::from_utf8(notes)) else {
+        return Err(Refusal::CannotWrite);
+    };
+    match object_of(alloc, layout, text, notes) {
+        Ok(value) => write_value(alloc, &value, out),
+        Err(_) => Err(Refusal::NoMemory),
+    }
+}
+
+/// Writes the text of a value and a line feed.
+pub fn write_value<O: Write>(alloc: Global, value: &Value, out: &mut O) -> Result<(), Refusal>
+    ensures { OnOk result (WritesValue (O.contents out.old) (O.contents out.new)) }
+{
+    let Ok(mut line) = value.to_string(alloc) else {
+        return Err(Refusal::NoMemory);
+    };
+    let Ok(()) = line.push_str("\n") else {
+        return Err(Refusal::NoMemory);
+    };
+    match write_all(out, line.as_bytes()) {
+        Ok(()) => Ok(()),
+        Err(_) => Err(Refusal::CannotWrite),
+    }
+}
+
+/// Returns the object of an answer, with the member `notes` if there are notes.
+fn object_of(alloc: Global, layout: Layout, text: &str, notes: &str) -> Result<Value, AllocError> {
+    let mut members = match layout {
+        Layout::Lines(grammar) => members_of(alloc, grammar, text)?,
+        Layout::CodeList => code_list_members(alloc, text)?,
+    };
+    add_notes(alloc, notes, &mut members)?;
+    Ok(Value::Object(members))
+}
+
+/// Adds the member `notes`: the lines without their prefixes. Without a line there is none.
+pub fn add_notes(alloc: Global, notes: &str, members: &mut Members) -> Result<(), AllocError> {
+    if notes.is_empty() {
+        return Ok(());
+    }
+    let mut list = Vec::new(alloc);
+    for line in notes.lines() {
+        let note = line.strip_prefix("note: ").unwrap_or(line);
+        push(&mut list, Value::try_from_str(alloc, note)?)?;
+    }
+    put(members, alloc, "notes", Value::Array(list))
+}
