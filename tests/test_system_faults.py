@@ -79,6 +79,7 @@ def runs_with_faults():
     yield from [["frob"], [b"\xff"], ["check", "-", "-"], ["make-image", "a", "b", "--version=x"]]
     yield from [["--help"], ["--version"], ["help", "man", "run"], ["help", "man", "frob"]]
     yield from [["help", "completions", it] for it in ("bash", "zsh", "fish")]
+    yield from [["choose", table("groups"), "--json"], ["image", f"{EXAMPLES}/images/either.img", "--json"]]
 
 
 def is_explained_after(fault, got, usual):
