@@ -170,7 +170,8 @@ class ColorTest(ProgramTest):
         flash_of(self)
         self.file("bad", b"no\n")
         line, after = b"error: table line 1\n", ERROR + b" table line 1\n"
-        for arguments, err in [([], line), (["--color=auto"], line), (["--color=never"], line), (["--color=always"], after)]:
+        ways = [([], line), (["--color=auto"], line), (["--color=never"], line), (["--color=always"], after)]
+        for arguments, err in ways:
             self.expect(f"colors at no terminal: {arguments}", ["choose", "bad", *arguments], 1, b"", err, env=UNSET)
         out = read(report("pair"))
         self.expect("colors: of a report", ["choose", table("pair"), "--color=always"], 0, out)
