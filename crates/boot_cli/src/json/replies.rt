@@ -51,7 +51,8 @@ impl<'o, 'n, O: Write> ReplyObjects<'o, 'n, O> {
     /// flushed and the pending notes are written.
     ///
     /// # Errors
-    /// - The refusal of `outcome`, except that it is `NoMemory` if memory ran out for an object.
+    /// - The refusal of `outcome`, except that it is `NoMemory` if memory ran out for an object. The
+    ///   pending notes are written, unless a write failed before.
     /// - `NoMemory` and `CannotWrite` as for [`write_object`].
     pub fn end(&mut self, outcome: Result<Answer, Refusal>) -> Result<Answer, Refusal>
         ensures { IfOk result (λ answer. outcome ≡ Ok answer) }
@@ -59,7 +60,12 @@ impl<'o, 'n, O: Write> ReplyObjects<'o, 'n, O> {
         let answer = match outcome {
             Ok(answer) => answer,
             Err(Refusal::CannotWrite) if self.lacks_memory => return Err(Refusal::NoMemory),
-            Err(refusal) => return Err(refusal),
+            Err(Refusal::CannotWrite) => return Err(Refusal::CannotWrite),
+            Err(refusal) => {
+                // The refusal is the end, also if this write fails.
+                let _ = self.write_notes();
+                return Err(refusal);
+            }
         };
         self.write_held()?;
         self.write_notes()?;
