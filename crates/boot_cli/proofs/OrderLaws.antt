@@ -1,5 +1,5 @@
 -- The exit status and the answer of an order. A flush after the answer changes nothing.
-use Rattle.std.proofs.Common.{◌≡◌, ℕ, List, Ok, Option, Result}
+use Rattle.std.proofs.Common.{◌≡◌, ℕ, Bool, List, Ok, Option, Result, false, true}
 use Rattle.std.specs.Prelude.{IfOk}
 use Rattle.std.specs.Io.KnownBytes.{Keeps}
 use Rattle.command_line.specs.declared.orders.Order.{Order}
@@ -12,14 +12,16 @@ use Rattle.host.specs.Input.{FileBytes}
 use Rattle.inspecting.proofs.ReadingLaws.{AnswersReading-kept}
 use Rattle.device_commands.proofs.KeptLaws.{AnswersCore-kept}
 use Rattle.device_commands.proofs.WordsLaws.{only_cut}
+use Rattle.boot_cli.specs.JsonEnd.{AnswersIn}
 use Rattle.boot_cli.specs.OrderEnd.{AnswersOrder}
 use Rattle.boot_cli.specs.WordsEnd.{EndsByCut}
+use Rattle.boot_cli.proofs.JsonLaws.{AnswersJson-kept}
 use Rattle.creating.proofs.CopyLaws.{AnswersCopy-kept}
 use Rattle.creating.proofs.NewDeviceLaws.{AnswersNewDevice-kept}
 use Rattle.creating.proofs.NewImageLaws.{AnswersNewImage-kept}
 use Rattle.creating.proofs.NewManifestEnds.{AnswersNewManifest-kept}
 
-pub AnswersOrder-kept : (asked : Order) (input : Option (List ℕ)) (file then : FileBytes)
+AnswersOrder-kept : (asked : Order) (input : Option (List ℕ)) (file then : FileBytes)
     (old mid new : Option (List ℕ))
     → AnswersOrder Done asked input file then old mid → Keeps mid new
     → AnswersOrder Done asked input file then old new
@@ -47,23 +49,30 @@ AnswersOrder-kept (order.Device asked) input file then old mid new answered kept
 AnswersOrder-kept (order.Read asked) input file then old mid new answered kept =
     AnswersReading-kept asked input file old mid new answered kept
 
+AnswersIn-kept : (is_json : Bool) (asked : Order) (input : Option (List ℕ)) (file then : FileBytes)
+    (old mid new : Option (List ℕ))
+    → AnswersIn is_json Done asked input file then old mid → Keeps mid new
+    → AnswersIn is_json Done asked input file then old new
+AnswersIn-kept true = AnswersJson-kept
+AnswersIn-kept false = AnswersOrder-kept
+
 -- A command with an answer ends with status 0 only after `Done`. The output keeps what was written
 -- before the flush.
-pub done_after : (asked : Order) (outcome : Result Answer Refusal) (status : ℕ) (input : Option (List ℕ))
-    (file then : FileBytes) (old mid new : Option (List ℕ))
-    → IfOk outcome (λ answer. AnswersOrder answer asked input file then old mid)
+pub done_after : (is_json : Bool) (asked : Order) (outcome : Result Answer Refusal) (status : ℕ)
+    (input : Option (List ℕ)) (file then : FileBytes) (old mid new : Option (List ℕ))
+    → IfOk outcome (λ answer. AnswersIn is_json answer asked input file then old mid)
     → (status ≡ 0 → outcome ≡ Ok Done) → Keeps mid new
-    → status ≡ 0 → AnswersOrder Done asked input file then old new
-done_after asked outcome status input file then old mid new answers is_done kept zero =
+    → status ≡ 0 → AnswersIn is_json Done asked input file then old new
+done_after is_json asked outcome status input file then old mid new answers is_done kept zero =
     let done = is_done zero in
-    let answered = rw done at answers in AnswersOrder-kept asked input file then old mid new answered kept
+    let answered = rw done at answers in AnswersIn-kept is_json asked input file then old mid new answered kept
 
 -- A command with an answer ends with status 3 only after `Cut`.
-pub cut_after : (asked : Order) (outcome : Result Answer Refusal) (status : ℕ) (input : Option (List ℕ))
-    (file then : FileBytes) (old mid new : Option (List ℕ))
-    → IfOk outcome (λ answer. AnswersOrder answer asked input file then old mid)
+pub cut_after : (is_json : Bool) (asked : Order) (outcome : Result Answer Refusal) (status : ℕ)
+    (input : Option (List ℕ)) (file then : FileBytes) (old mid new : Option (List ℕ))
+    → IfOk outcome (λ answer. AnswersIn is_json answer asked input file then old mid)
     → Ends outcome status → Keeps mid new
-    → status ≡ 3 → EndsByCut asked input file then old new
-cut_after asked outcome status input file then old mid new answers ends kept three =
+    → status ≡ 3 → EndsByCut is_json asked input file then old new
+cut_after is_json asked outcome status input file then old mid new answers ends kept three =
     let is_cut = only_cut outcome status ends three in
     record { written = mid; answered = rw is_cut at answers; kept = kept }

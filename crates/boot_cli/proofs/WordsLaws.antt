@@ -1,6 +1,5 @@
 -- What the exit status says about the arguments.
 use Rattle.std.proofs.Common.{◌≡◌, ◌≢◌, ◌≤◌, ℕ, Bool, List, [], ◌∷◌, Option, ap, arith, false, inl, inr, length, map, refl, true}
-use Rattle.std.specs.Prelude.{MatchBool}
 use Rattle.clap.specs.Words.{Text}
 use Rattle.clap.specs.declared.error.kind.ErrorKind.{ErrorKind}
 use Rattle.command_line.specs.Status.{AskHelp, EndsWords, is_help}
@@ -13,8 +12,7 @@ use Rattle.host.specs.declared.answer.Answer.TheVariants.{Done}
 use Rattle.host.specs.Input.{FileBytes}
 use Rattle.device_commands.proofs.WordsLaws.{EndsWith-error, EndsWith-order, misuse_helps_none}
 use Rattle.command_line.specs.Given.{is_json}
-use Rattle.boot_cli.specs.JsonEnd.{AnswersJson, EndsJsonByCut}
-use Rattle.boot_cli.specs.OrderEnd.{AnswersOrder}
+use Rattle.boot_cli.specs.JsonEnd.{AnswersIn}
 use Rattle.boot_cli.specs.WordsEnd.{AskFor, EndsByCut, EndsProgram}
 
 -- A fault that the program itself finds isn't a request for help.
@@ -27,15 +25,6 @@ helped words kind helps (no_order taken none (inl same)) = absurd (no_order_help
 helped words kind helps (no_order taken none (inr same)) = absurd (no_order_helps_none kind _ refl same helps)
 helped words kind helps (misuse order taken asks is_misuse) =
     absurd (misuse_helps_none (writes_to_standard_input order) _ kind is_misuse helps)
-
--- Of two statements, the one that a test selects.
-if_so : (b : Bool) (A B : Type 0) → b ≡ true → A → MatchBool b A B
-if_so true A B same holds = holds
-if_so false A B same holds = absurd (cc same)
-
-if_not : (b : Bool) (A B : Type 0) → b ≡ false → B → MatchBool b A B
-if_not true A B same holds = absurd (cc same)
-if_not false A B same holds = holds
 
 -- The program's own name alone asks for no JSON.
 pub no_json : {S : Type 0} (text : S → Text) (words : List S) → length words ≤ 1 → false ≡ is_json (map text words)
@@ -51,25 +40,13 @@ EndsProgram-error words error status input file old new refusal ends =
     EndsWith-error words _ (IsFault words) _ _ error status file (helped words) refusal ends
 
 -- Arguments that ask for an order end by its answer.
-pub EndsProgram-order : (words : List Text) (asked : Order) (status : ℕ) (input : Option (List ℕ))
-    (file after : FileBytes) (old new : Option (List ℕ)) → AskFor words asked
-    → is_json words ≡ false
-    → (status ≡ 0 → AnswersOrder Done asked input file after old new) → status ≢ 2
-    → (status ≡ 3 → EndsByCut asked input file after old new)
+pub EndsProgram-order : (words : List Text) (asked : Order) (wanted : Bool) (status : ℕ)
+    (input : Option (List ℕ)) (file after : FileBytes) (old new : Option (List ℕ)) → AskFor words asked
+    → wanted ≡ is_json words
+    → (status ≡ 0 → AnswersIn wanted Done asked input file after old new) → status ≢ 2
+    → (status ≡ 3 → EndsByCut wanted asked input file after old new)
     → EndsProgram words status input file after old new
-EndsProgram-order words asked status input file after old new asks plain answered other ends =
+EndsProgram-order words asked wanted status input file after old new asks same answered other ends =
     EndsWith-order words _ _ _ _ asked status file after asks
-    (λ zero. if_not (is_json words) _ _ plain (answered zero)) other
-    (λ three. if_not (is_json words) _ _ plain (ends three))
-
--- Arguments that ask for an order and for JSON end by its answer as JSON.
-pub EndsProgram-json : (words : List Text) (asked : Order) (status : ℕ) (input : Option (List ℕ))
-    (file after : FileBytes) (old new : Option (List ℕ)) → AskFor words asked
-    → is_json words ≡ true
-    → (status ≡ 0 → AnswersJson Done asked input file after old new) → status ≢ 2
-    → (status ≡ 3 → EndsJsonByCut asked input file after old new)
-    → EndsProgram words status input file after old new
-EndsProgram-json words asked status input file after old new asks wanted answered other ends =
-    EndsWith-order words _ _ _ _ asked status file after asks
-    (λ zero. if_so (is_json words) _ _ wanted (answered zero)) other
-    (λ three. if_so (is_json words) _ _ wanted (ends three))
+    (λ zero. rw same at (answered zero)) other
+    (λ three. rw same at (ends three))

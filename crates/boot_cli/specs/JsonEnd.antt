@@ -1,4 +1,4 @@
--- The answer to an order as JSON.
+-- The answer to an order as JSON, or as text.
 use Rattle.std.specs.Prelude.{ℕ, Bool, List, [], ◌∷◌, ◌++◌, MatchBool, None, Option, Some, false, true}
 use Rattle.std.specs.Io.KnownBytes.{Appends}
 use Rattle.serde_json.specs.Data.{Data}
@@ -7,7 +7,6 @@ use Rattle.command_line.specs.declared.orders.Order.{Order}
 use Rattle.command_line.specs.declared.orders.Order.TheVariants as order
 use Rattle.host.specs.declared.answer.Answer.{Answer}
 use Rattle.host.specs.Input.{FileBytes}
-use Rattle.device_commands.specs.WordsEnd.{IsCutAnswer}
 use Rattle.boot_cli.specs.OrderEnd.{AnswersOrder}
 
 -- The writer took the JSON text of a value, and a line feed.
@@ -31,8 +30,9 @@ AnswersJson answer asked input file then old new = MatchBool (is_by_replies aske
     ((text : List ℕ) × AnswersOrder answer asked input file then (Some []) (Some text)
     × WritesValue old new)
 
--- The order was a run whose last reply is that the power failed.
-abbrev pub EndsJsonByCut : Order → Option (List ℕ) → FileBytes → FileBytes
+-- The answer to an order, as JSON or as text.
+abbrev pub AnswersIn : Bool → Answer → Order → Option (List ℕ) → FileBytes → FileBytes
     → Option (List ℕ) → Option (List ℕ) → Type 0
-EndsJsonByCut asked input file then old new =
-    IsCutAnswer (λ answer written. AnswersJson answer asked input file then old written) new
+AnswersIn is_json answer asked input file then old new = MatchBool is_json
+    (AnswersJson answer asked input file then old new)
+    (AnswersOrder answer asked input file then old new)

@@ -1,5 +1,5 @@
 -- How the program ends for its arguments.
-use Rattle.std.specs.Prelude.{◌≡◌, ℕ, ◌<◌, ◌≤◌, List, MatchBool, Option, codes, length}
+use Rattle.std.specs.Prelude.{◌≡◌, ℕ, ◌<◌, ◌≤◌, Bool, List, Option, codes, length}
 use Rattle.clap.specs.Words.{Text}
 use Rattle.command_line.specs.Given.{is_json}
 use Rattle.command_line.specs.OrderFaults.{IsFault}
@@ -10,8 +10,7 @@ use Rattle.command_line.specs.declared.orders.ReadOrder.TheVariants as read
 use Rattle.host.specs.declared.answer.Answer.TheVariants.{Done}
 use Rattle.host.specs.Input.{FileBytes}
 use Rattle.device_commands.specs.WordsEnd.{EndsWith, IsCutAnswer}
-use Rattle.boot_cli.specs.JsonEnd.{AnswersJson, EndsJsonByCut}
-use Rattle.boot_cli.specs.OrderEnd.{AnswersOrder}
+use Rattle.boot_cli.specs.JsonEnd.{AnswersIn}
 
 -- The order is `choose` on standard input.
 abbrev pub IsInputChoice : Order → Type 0
@@ -25,19 +24,15 @@ pub data AskFor (words : List Text) (order : Order) : Type 0 where
   by_none : length words ≤ 1 → IsInputChoice order → AskFor words order
 
 -- The order was a run whose last reply is that the power failed, and the output keeps its answer.
-abbrev pub EndsByCut : Order → Option (List ℕ) → FileBytes → FileBytes
+abbrev pub EndsByCut : Bool → Order → Option (List ℕ) → FileBytes → FileBytes
     → Option (List ℕ) → Option (List ℕ) → Type 0
-EndsByCut asked input file then old new =
-    IsCutAnswer (λ answer written. AnswersOrder answer asked input file then old written) new
+EndsByCut is_json asked input file then old new = IsCutAnswer
+    (λ answer written. AnswersIn is_json answer asked input file then old written) new
 
 -- What the exit status says about the arguments. The answer is JSON if they have `--json`.
 abbrev pub EndsProgram : List Text → ℕ → Option (List ℕ) → FileBytes → FileBytes
     → Option (List ℕ) → Option (List ℕ) → Type 0
 EndsProgram words status input file then old new =
     EndsWith words (AskFor words) (IsFault words)
-    (λ asked. MatchBool (is_json words)
-    (AnswersJson Done asked input file then old new)
-    (AnswersOrder Done asked input file then old new))
-    (λ asked. MatchBool (is_json words)
-    (EndsJsonByCut asked input file then old new)
-    (EndsByCut asked input file then old new)) status file then
+    (λ asked. AnswersIn (is_json words) Done asked input file then old new)
+    (λ asked. EndsByCut (is_json words) asked input file then old new) status file then

@@ -1,11 +1,13 @@
 //! Runs an order whose answer `--explain` explains.
 ghost use Rattle.std.specs.Prelude.{◌≡◌, ◌≢◌, IfOk};
+ghost use Rattle.boot_cli.specs.JsonEnd.{AnswersIn};
 ghost use Rattle.boot_cli.specs.OrderEnd.{AnswersOrder};
 ghost use Rattle.boot_cli.specs.WordsEnd.{EndsByCut};
 
 use crate::commands::run_command;
+use crate::json::{answer_noted_replies, layout_of, write_note_object, write_object};
 use crate::until_failed::UntilFailed;
-use command_line::Order;
+use command_line::{Order, Request};
 use core::mem::replace_with;
 use device_commands::run_device_order;
 use explaining::{Remembering, ReplyNotes, explain_end};
@@ -17,7 +19,7 @@ use std::io::Write;
 #[derive(Drop)]
 struct Asked<'w, 'o, 'e, O, E> {
     alloc: Global,
-    order: Order<'w>,
+    request: Request<'w>,
     out: &'o mut O,
     err: &'e mut E,
 }
@@ -31,31 +33,34 @@ pub struct Explained<'o, O> {
     pub status: u8,
 }
 
-/// Runs the command of an order as `run_order` does, and writes to `err` why its answer is as it
-/// is.
+/// Runs the command of an order as [`crate::run_order`] does, and writes why its answer is as it is.
+///
+/// The notes on the answer go to `err`. As JSON, they are members of the object of the answer. The
+/// notes on a reply of `run` are an object of their own after that of the reply. Without an answer
+/// the notes follow the error line on `err`.
 ///
 /// A host that remembers what is read owns the host below it. So `host` is moved into one, and
 /// moved back after the command has ended. No other code can see the moved host, since nothing
 /// unwinds.
 pub fn run_explained<'o, H: Host, O: Write, E: Write>(
     alloc: Global,
-    order: Order<'_>,
+    request: Request<'_>,
     host: &mut H,
     out: &'o mut O,
     err: &mut E,
 ) -> Explained<'o, O>
     ensures same_out { result.out.ghost_name ≡ out.entry.ghost_name }
-    ensures done { result.status ≡ 0 → AnswersOrder Answer.Done order.entry (H.input host.old)
-        (H.file host.old) (H.file host.new)
+    ensures done { result.status ≡ 0 → AnswersIn request.entry.is_json Answer.Done
+        request.entry.order (H.input host.old) (H.file host.old) (H.file host.new)
         (O.contents out.entry.now) (O.contents result.out.now) }
-    ensures cut { result.status ≡ 3 → EndsByCut order.entry (H.input host.old)
-        (H.file host.old) (H.file host.new)
+    ensures cut { result.status ≡ 3 → EndsByCut request.entry.is_json request.entry.order
+        (H.input host.old) (H.file host.old) (H.file host.new)
         (O.contents out.entry.now) (O.contents result.out.now) }
     ensures other { result.status ≢ 2 }
 {
     let asked = Asked {
         alloc,
-        order,
+        request,
         out,
         err,
     };
@@ -69,26 +74,66 @@ fn run_remembering<'o, H: Host, O: Write, E: Write>(
     asked: Asked<'_, 'o, '_, O, E>,
 ) -> (H, Explained<'o, O>)
     ensures same_out { result.1.out.ghost_name ≡ asked.entry.out.ghost_name }
-    ensures done { result.1.status ≡ 0 → AnswersOrder Answer.Done asked.entry.order
-        (H.input host) (H.file host) (H.file result.0)
+    ensures done { result.1.status ≡ 0 → AnswersIn asked.entry.request.is_json Answer.Done
+        asked.entry.request.order (H.input host) (H.file host) (H.file result.0)
         (O.contents asked.entry.out.now) (O.contents result.1.out.now) }
-    ensures cut { result.1.status ≡ 3 → EndsByCut asked.entry.order
-        (H.input host) (H.file host) (H.file result.0)
+    ensures cut { result.1.status ≡ 3 → EndsByCut asked.entry.request.is_json
+        asked.entry.request.order (H.input host) (H.file host) (H.file result.0)
         (O.contents asked.entry.out.now) (O.contents result.1.out.now) }
     ensures other { result.1.status ≢ 2 }
 {
     let Asked {
         alloc,
-        order,
+        request,
         out,
         err,
     } = asked;
     let mut host = Remembering::over(alloc, host);
     let mut err = UntilFailed::over(err);
-    let outcome = run_noted(alloc, &order, &mut host, out, &mut err);
+    let mut notes = Vec::new(alloc);
+    let outcome = answer_noted(alloc, &request, &mut host, out, &mut err, &mut notes);
     let status = finish(&outcome, out, &mut err);
-    explain_end(alloc, &order, &outcome, &host, &mut err);
+    if !request.is_json {
+        explain_end(alloc, &request.order, &outcome, &host, &mut err);
+    } else if outcome.is_err() {
+        // The notes are no part of the answer, so a failed write changes nothing.
+        let _ = err.write_all(&notes);
+        let _ = err.flush();
+    }
     (host.host, Explained { out, status })
+}
+
+/// Runs the command of an order, and writes its answer to `out` in the form that is asked for. As
+/// JSON, the notes on the answer are written too, and those on an end without an answer are added to
+/// `notes`.
+fn answer_noted<H: Host, O: Write, E: Write>(
+    alloc: Global,
+    request: &Request<'_>,
+    host: &mut Remembering<H>,
+    out: &mut O,
+    err: &mut E,
+    notes: &mut Vec<u8>,
+) -> Result<Answer, Refusal>
+    ensures { IfOk result (λ answer. AnswersIn request.now.is_json answer request.now.order
+        (H.input host.old.host) (H.file host.old.host) (H.file host.new.host)
+        (O.contents out.old) (O.contents out.new)) }
+{
+    if !request.is_json {
+        return run_noted(alloc, &request.order, host, out, err);
+    }
+    if let Order::Device(ref order) = request.order {
+        let outcome = answer_noted_replies(alloc, order, host, out);
+        explain_end(alloc, &request.order, &outcome, host, notes);
+        let answer = outcome?;
+        write_note_object(alloc, notes, out)?;
+        return Ok(answer);
+    }
+    let mut text = Vec::new(alloc);
+    let outcome = run_command(alloc, &request.order, host, &mut text, err);
+    explain_end(alloc, &request.order, &outcome, host, notes);
+    let answer = outcome?;
+    write_object(alloc, layout_of(&request.order), &text, notes, out)?;
+    Ok(answer)
 }
 
 /// Runs the command of an order. Notes on the replies of `run` go to `err`.

@@ -2,11 +2,10 @@
 //!
 //! The commands write their texts as without the option. `grammar` has the forms of lines,
 //! `grammars` those of each command, and `reading` makes an object of a text. A run has an object
-//! for each reply, which `replies` writes.
+//! for each reply, which `replies` writes. `running` runs the order of a device for them.
 
 mod answer;
 mod code_list;
-mod explained;
 mod fields;
 mod grammar;
 mod grammars;
@@ -15,5 +14,6 @@ mod replies;
 mod running;
 mod words;
 
-pub use explained::run_json_explained;
-pub use running::run_json_order;
+pub use answer::{layout_of, write_object};
+pub use replies::write_note_object;
+pub use running::{answer_noted_replies, answer_replies};

@@ -1,17 +1,18 @@
 //! Runs the order that the arguments give, and returns the exit status.
-ghost use Rattle.std.specs.Prelude.{◌≡◌, ◌≢◌, map};
-ghost use Rattle.boot_cli.specs.OrderEnd.{AnswersOrder, KeepsSwept};
+ghost use Rattle.std.specs.Prelude.{◌≡◌, ◌≢◌, IfOk, map};
+ghost use Rattle.boot_cli.specs.JsonEnd.{AnswersIn};
+ghost use Rattle.boot_cli.specs.OrderEnd.{KeepsSwept};
 ghost use Rattle.boot_cli.specs.WordsEnd.{EndsByCut, EndsProgram};
 
 use crate::commands::run_command;
 use crate::explained::run_explained;
 use crate::hint::hint_at_notes;
-use crate::json::{run_json_explained, run_json_order};
+use crate::json::{answer_replies, layout_of, write_object};
 use crate::until_failed::UntilFailed;
 use crate::words::request_in;
-use command_line::Order;
+use command_line::{Order, Request};
 use device_commands::answer_words;
-use host::{Answer, Host, finish};
+use host::{Answer, Host, Refusal, finish};
 use std::alloc::Global;
 use std::convert::AsStr;
 use std::io::Write;
@@ -34,14 +35,10 @@ pub fn cli<S: AsStr, H: Host, O: Write, E: Write>(
         (H.file host.old) (H.file host.new) (O.contents out.old) (O.contents out.new) }
 {
     match request_in(alloc, words) {
-        Ok(request) if request.is_json && request.is_explained => {
-            run_json_explained(alloc, request.order, host, out, err).status
-        }
-        Ok(request) if request.is_json => run_json_order(alloc, request.order, host, out, err),
         Ok(request) if request.is_explained => {
-            run_explained(alloc, request.order, host, out, err).status
+            run_explained(alloc, request, host, out, err).status
         }
-        Ok(request) => run_order(alloc, request.order, words.len() > 1, host, out, err),
+        Ok(request) => run_order(alloc, request, words.len() > 1, host, out, err),
         Err(error) => answer_words(alloc, words, error, out, err),
     }
 }
@@ -49,26 +46,57 @@ pub fn cli<S: AsStr, H: Host, O: Write, E: Write>(
 /// Runs the command of an order, and returns its exit status. The status is 0 only if the complete
 /// answer is written and is a yes. If `may_hint` is set, a line that points to `--explain` may
 /// follow an error line at a terminal.
+///
+/// The answer is written to `out`, as JSON if the request says so. An error line is written to `err`
+/// as it is. As JSON, nothing is written to `out` if the command has no answer. If memory runs out
+/// for the object, the command ends with `NoMemory`, after it did its work.
 pub fn run_order<H: Host, O: Write, E: Write>(
     alloc: Global,
-    order: Order<'_>,
+    request: Request<'_>,
     may_hint: bool,
     host: &mut H,
     out: &mut O,
     err: &mut E,
 ) -> u8
-    ensures done { result ≡ 0 → AnswersOrder Answer.Done order.entry (H.input host.old)
-        (H.file host.old) (H.file host.new) (O.contents out.old) (O.contents out.new) }
-    ensures cut { result ≡ 3 → EndsByCut order.entry (H.input host.old) (H.file host.old)
-        (H.file host.new) (O.contents out.old) (O.contents out.new) }
+    ensures done { result ≡ 0 → AnswersIn request.entry.is_json Answer.Done request.entry.order
+        (H.input host.old) (H.file host.old) (H.file host.new)
+        (O.contents out.old) (O.contents out.new) }
+    ensures cut { result ≡ 3 → EndsByCut request.entry.is_json request.entry.order
+        (H.input host.old) (H.file host.old) (H.file host.new)
+        (O.contents out.old) (O.contents out.new) }
     ensures other { result ≢ 2 }
-    ensures swept { KeepsSwept order.entry (H.file host.old) (H.file host.new) }
+    ensures swept { KeepsSwept request.entry.order (H.file host.old) (H.file host.new) }
 {
     let mut err = UntilFailed::over(err);
-    let outcome = run_command(alloc, &order, host, out, &mut err);
+    let outcome = answer_request(alloc, &request, host, out, &mut err);
     let status = finish(&outcome, out, &mut err);
     if may_hint {
         hint_at_notes(alloc, &outcome, &*host, &mut err);
     }
     status
+}
+
+/// Runs the command of an order, and writes its answer to `out` in the form that is asked for.
+fn answer_request<H: Host, O: Write, E: Write>(
+    alloc: Global,
+    request: &Request<'_>,
+    host: &mut H,
+    out: &mut O,
+    err: &mut E,
+) -> Result<Answer, Refusal>
+    ensures answers { IfOk result (λ answer. AnswersIn request.now.is_json answer request.now.order
+        (H.input host.old) (H.file host.old) (H.file host.new)
+        (O.contents out.old) (O.contents out.new)) }
+    ensures swept { KeepsSwept request.now.order (H.file host.old) (H.file host.new) }
+{
+    if !request.is_json {
+        return run_command(alloc, &request.order, host, out, err);
+    }
+    if let Order::Device(ref order) = request.order {
+        return answer_replies(alloc, order, host, out);
+    }
+    let mut text = Vec::new(alloc);
+    let answer = run_command(alloc, &request.order, host, &mut text, err)?;
+    write_object(alloc, layout_of(&request.order), &text, &[], out)?;
+    Ok(answer)
 }

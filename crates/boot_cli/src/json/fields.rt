@@ -42,11 +42,21 @@ fn add_field<'a>(
         }
         Field::NumberIf(_) if number_of(word).is_none() => Ok(rest),
         Field::Dependencies(name) => {
-            put(members, alloc, name, dependencies_value(alloc, rest)?)?;
+            put(
+                members,
+                alloc,
+                name,
+                elements_value(alloc, DEPENDENCY, false, rest)?,
+            )?;
             Ok("")
         }
         Field::Cuts(name) => {
-            put(members, alloc, name, cuts_value(alloc, rest)?)?;
+            put(
+                members,
+                alloc,
+                name,
+                elements_value(alloc, CUT, true, rest)?,
+            )?;
             Ok("")
         }
         Field::Refusal(name) => {
@@ -99,32 +109,24 @@ fn read_numbers<'a>(line: &'a str, numbers: &mut Vec<Value>) -> Result<&'a str, 
     Ok(rest)
 }
 
-/// Returns an array of dependencies. The last one has no version if no word is left for it.
-fn dependencies_value(alloc: Global, line: &str) -> Result<Value, AllocError> {
+/// Returns an array with an object for each element of a list. If `skips_word` is set, a word that
+/// has no member comes before the fields of each element. A field has no member if no word is left
+/// for it.
+fn elements_value(
+    alloc: Global,
+    fields: &[Field],
+    skips_word: bool,
+    line: &str,
+) -> Result<Value, AllocError> {
     let mut list = Vec::new(alloc);
     let mut rest = line;
     for _ in 0..line.len() {
-        if rest.is_empty() {
+        let element = if skips_word { first_word(rest).1 } else { rest };
+        if element.is_empty() {
             break;
         }
         let mut members = Map::new(alloc);
-        rest = read_words(alloc, DEPENDENCY, rest, &mut members)?;
-        push(&mut list, Value::Object(members))?;
-    }
-    Ok(Value::Array(list))
-}
-
-/// Returns an array of power cuts. Without a cut the only word is `uncut`.
-fn cuts_value(alloc: Global, line: &str) -> Result<Value, AllocError> {
-    let mut list = Vec::new(alloc);
-    let mut rest = line;
-    for _ in 0..line.len() {
-        let (_, cut) = first_word(rest);
-        if cut.is_empty() {
-            break;
-        }
-        let mut members = Map::new(alloc);
-        rest = read_words(alloc, CUT, cut, &mut members)?;
+        rest = read_words(alloc, fields, element, &mut members)?;
         push(&mut list, Value::Object(members))?;
     }
     Ok(Value::Array(list))

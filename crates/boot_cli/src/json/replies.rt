@@ -86,16 +86,7 @@ impl<'o, 'n, O: Write> ReplyObjects<'o, 'n, O> {
     /// Writes the object of the pending notes, if there are any.
     fn write_notes(&mut self) -> Result<(), Refusal> {
         let notes = self.notes.replace(Vec::new(self.alloc));
-        if notes.is_empty() {
-            return Ok(());
-        }
-        let Ok(text) = str::from_utf8(&notes) else {
-            return Err(Refusal::CannotWrite);
-        };
-        match notes_value(self.alloc, text) {
-            Ok(value) => write_value(self.alloc, &value, self.out),
-            Err(_) => Err(Refusal::NoMemory),
-        }
+        write_note_object(self.alloc, &notes, self.out)
     }
 }
 
@@ -138,9 +129,30 @@ impl Write for PendingNotes<'_> {
     }
 }
 
+/// Writes the object of the notes on a reply or on the end of a run, if there are any.
+///
+/// # Errors
+/// As for [`write_object`].
+pub fn write_note_object<O: Write>(
+    alloc: Global,
+    notes: &[u8],
+    out: &mut O,
+) -> Result<(), Refusal> {
+    if notes.is_empty() {
+        return Ok(());
+    }
+    let Ok(text) = str::from_utf8(notes) else {
+        return Err(Refusal::CannotWrite);
+    };
+    match notes_value(alloc, text) {
+        Ok(value) => write_value(alloc, &value, out),
+        Err(_) => Err(Refusal::NoMemory),
+    }
+}
+
 /// Returns the object of the notes on a reply, with the number of its event if the first line has
 /// it.
-pub fn notes_value(alloc: Global, text: &str) -> Result<Value, AllocError> {
+fn notes_value(alloc: Global, text: &str) -> Result<Value, AllocError> {
     let mut members = Map::new(alloc);
     let (head, after) = text.split_once('\n').unwrap_or((text, ""));
     match event_of(head) {

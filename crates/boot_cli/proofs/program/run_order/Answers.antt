@@ -5,15 +5,15 @@ use Rattle.device_commands.proofs.WordsLaws.{never_usage}
 -- The status is 0 only after `Done`.
 pub returns-clause-done : goal.returns-clause-done
 returns-clause-done g c =
-    done_after c.args.order c.run_command-outcome.result c.finish-status.result _ _ _ _ _ _
-    c.run_command-outcome.ensures.answers c.finish-status.ensures.status c.finish-status.ensures.kept
+    done_after c.args.request.is_json c.args.request.order c.answer_request-outcome.result c.finish-status.result _ _ _ _ _ _
+    c.answer_request-outcome.ensures.answers c.finish-status.ensures.status c.finish-status.ensures.kept
 
 -- The status is 3 only after `Cut`.
 pub returns-clause-cut : goal.returns-clause-cut
 returns-clause-cut g c =
-    cut_after c.args.order c.run_command-outcome.result c.finish-status.result _ _ _ _ _ _
-    c.run_command-outcome.ensures.answers c.finish-status.ensures.ends c.finish-status.ensures.kept
+    cut_after c.args.request.is_json c.args.request.order c.answer_request-outcome.result c.finish-status.result _ _ _ _ _ _
+    c.answer_request-outcome.ensures.answers c.finish-status.ensures.ends c.finish-status.ensures.kept
 
 -- No command ends as a usage fault does.
 pub returns-clause-other : goal.returns-clause-other
-returns-clause-other g c = never_usage c.run_command-outcome.result c.finish-status.result c.finish-status.ensures.ends
+returns-clause-other g c = never_usage c.answer_request-outcome.result c.finish-status.result c.finish-status.ensures.ends
