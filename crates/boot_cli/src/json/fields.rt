@@ -42,21 +42,13 @@ fn add_field<'a>(
         }
         Field::NumberIf(_) if number_of(word).is_none() => Ok(rest),
         Field::Dependencies(name) => {
-            put(
-                members,
-                alloc,
-                name,
-                elements_value(alloc, DEPENDENCY, false, rest)?,
-            )?;
+            let dependencies = elements_value(alloc, DEPENDENCY, false, rest)?;
+            put(members, alloc, name, dependencies)?;
             Ok("")
         }
         Field::Cuts(name) => {
-            put(
-                members,
-                alloc,
-                name,
-                elements_value(alloc, CUT, true, rest)?,
-            )?;
+            let cuts = elements_value(alloc, CUT, true, rest)?;
+            put(members, alloc, name, cuts)?;
             Ok("")
         }
         Field::Refusal(name) => {

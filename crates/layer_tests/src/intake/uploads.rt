@@ -148,11 +148,13 @@ fn begun<L: Ledger>(
 }
 
 /// Makes uploads on a flash that is longer than its map.
-fn uploaded<L: Ledger>(
-    rt: &impl Abort,
-    flash: &mut MemFlash<L>,
-    map: &SectorMap,
-) -> Result<(), Fail> {
+fn uploaded<L: Ledger>(rt: &(impl Abort + AllocGlobal), blank: Blank) -> Result<(), Fail>
+    requires name { blank.name ≡ L.name }
+    requires parts { blank.parts ≡ L.parts }
+    requires two { L.parts ≡ 2 }
+{
+    let map = SectorMap::new(512, &[2, 2])?;
+    let mut flash = begun::<L>(rt, blank, &map)?;
     let mut uploads = Uploads::new();
     let [first, second] = files(96);
     let follower = Component {
@@ -162,7 +164,7 @@ fn uploaded<L: Ledger>(
     // No image runs, so no file can have a precursor.
     let following = manifest_of(4, [first, follower])?;
     let steps = [(Step::Accept(&following), Err(UploadError::WrongPrecursor))];
-    play(rt, &mut uploads, flash, map, &steps)?;
+    play(rt, &mut uploads, &mut flash, &map, &steps)?;
     let both = manifest_of(4, [first, second])?;
     let steps = [
         (Step::Accept(&both), DONE),
@@ -173,7 +175,7 @@ fn uploaded<L: Ledger>(
         (Step::Finish(0), DONE),
         (Step::Withdraw(0), DONE),
     ];
-    play(rt, &mut uploads, flash, map, &steps)?;
+    play(rt, &mut uploads, &mut flash, &map, &steps)?;
     // Other files fill the slots.
     let [first, second] = files(1024);
     let others = manifest_of(5, [second, first])?;
@@ -184,14 +186,12 @@ fn uploaded<L: Ledger>(
         (Step::Finish(1), Err(UploadError::DigestWrong)),
         (Step::Piece(0, &[0x5a]), Err(UploadError::TooMuch)),
     ];
-    play(rt, &mut uploads, flash, map, &steps)
+    play(rt, &mut uploads, &mut flash, &map, &steps)
 }
 
 #[test]
 fn uploads_change_nothing_behind_the_map(rt: HostRuntime) -> Result<(), Fail> {
-    let map = SectorMap::new(512, &[2, 2])?;
-    let mut flash = begun::<Brand>(&rt, Blank::new(2), &map)?;
-    uploaded(&rt, &mut flash, &map)
+    uploaded::<Brand>(&rt, Blank::new(2))
 }
 
 /// A table with one upload, of 512 bytes for an image, as a caller may have saved it.
@@ -209,20 +209,22 @@ fn saved(rt: &impl Abort, image: usize, received: u32) -> Uploads {
 }
 
 /// Passes the first unit of FIRST to saved uploads, most of which don't match the flash.
-fn resumed<L: Ledger>(
-    rt: &impl Abort,
-    flash: &mut MemFlash<L>,
-    map: &SectorMap,
-) -> Result<(), Fail> {
-    let both = manifest_of(4, files(96))?;
+fn resumed<L: Ledger>(rt: &(impl Abort + AllocGlobal), blank: Blank) -> Result<(), Fail>
+    requires name { blank.name ≡ L.name }
+    requires parts { blank.parts ≡ L.parts }
+    requires two { L.parts ≡ 2 }
+{
+    let map = SectorMap::new(512, &[2, 2])?;
+    let mut flash = begun::<L>(rt, blank, &map)?;
     let mut uploads = Uploads::new();
+    let both = manifest_of(4, files(96))?;
     let steps = [
         (Step::Accept(&both), DONE),
         (Step::Piece(0, &FIRST[..48]), DONE),
         (Step::Piece(1, &SECOND), DONE),
         (Step::Finish(1), DONE),
     ];
-    play(rt, &mut uploads, flash, map, &steps)?;
+    play(rt, &mut uploads, &mut flash, &map, &steps)?;
     let cases = [
         // The unit is written already.
         (0, 40, Err(UploadError::NoSession)),
@@ -238,9 +240,9 @@ fn resumed<L: Ledger>(
         (0, 48, DONE),
     ];
     for (image, received, expected) in cases {
-        assert!(rt; map.fits(flash));
+        assert!(rt; map.fits(&flash));
         let mut uploads = saved(rt, image, received);
-        let answer = uploads.piece(flash, map, image as u8, &FIRST[..8]);
+        let answer = uploads.piece(&mut flash, &map, image as u8, &FIRST[..8]);
         assert!(rt; answer == expected);
     }
     Ok(())
@@ -248,7 +250,5 @@ fn resumed<L: Ledger>(
 
 #[test]
 fn a_piece_of_an_upload_that_does_not_match_is_refused(rt: HostRuntime) -> Result<(), Fail> {
-    let map = SectorMap::new(512, &[2, 2])?;
-    let mut flash = begun::<Brand>(&rt, Blank::new(2), &map)?;
-    resumed(&rt, &mut flash, &map)
+    resumed::<Brand>(&rt, Blank::new(2))
 }
