@@ -250,6 +250,5 @@ class CleanSystemTest(PackedTest):
     def test_clean_system(self):
         """They are installed, used as the documents say, and removed again, and nothing of them is left."""
         self.package()
-        shutil.copytree(f"{ROOT}/docs", f"{self.clone}/docs")
         status, said = self.run_tool("try_packages", "--root", SYSTEM)
         self.case("all checks", [said.decode()] * (status != 0))
