@@ -5,7 +5,9 @@ ghost use Rattle.boot_cli.specs.OrderEnd.{AnswersOrder};
 ghost use Rattle.boot_cli.specs.WordsEnd.{EndsByCut};
 
 use crate::commands::run_command;
-use crate::json::{answer_noted_replies, layout_of, write_note_object, write_object};
+use crate::json::{
+    answer_noted_replies, layout_of, outcome_in_memory, write_note_object, write_object,
+};
 use crate::until_failed::UntilFailed;
 use command_line::{Order, Request};
 use core::mem::replace_with;
@@ -103,7 +105,7 @@ fn run_remembering<'o, H: Host, O: Write, E: Write>(
     (host.host, Explained { out, status })
 }
 
-/// Runs the command of an order, and writes its answer to `out` in the form that is asked for. As
+/// Runs the command of an order, and writes its answer to `out` in the requested form. As
 /// JSON, the notes on the answer are written too, and those on an end without an answer are added to
 /// `notes`.
 fn answer_noted<H: Host, O: Write, E: Write>(
@@ -129,7 +131,7 @@ fn answer_noted<H: Host, O: Write, E: Write>(
         return Ok(answer);
     }
     let mut text = Vec::new(alloc);
-    let outcome = run_command(alloc, &request.order, host, &mut text, err);
+    let outcome = outcome_in_memory(run_command(alloc, &request.order, host, &mut text, err));
     explain_end(alloc, &request.order, &outcome, host, notes);
     let answer = outcome?;
     write_object(alloc, layout_of(&request.order), &text, notes, out)?;

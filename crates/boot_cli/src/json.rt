@@ -14,6 +14,6 @@ mod replies;
 mod running;
 mod words;
 
-pub use answer::{layout_of, write_object};
+pub use answer::{layout_of, outcome_in_memory, write_object};
 pub use replies::write_note_object;
 pub use running::{answer_noted_replies, answer_replies};

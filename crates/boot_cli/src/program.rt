@@ -7,7 +7,7 @@ ghost use Rattle.boot_cli.specs.WordsEnd.{EndsByCut, EndsProgram};
 use crate::commands::run_command;
 use crate::explained::run_explained;
 use crate::hint::hint_at_notes;
-use crate::json::{answer_replies, layout_of, write_object};
+use crate::json::{answer_replies, layout_of, outcome_in_memory, write_object};
 use crate::until_failed::UntilFailed;
 use crate::words::request_in;
 use command_line::{Order, Request};
@@ -76,7 +76,7 @@ pub fn run_order<H: Host, O: Write, E: Write>(
     status
 }
 
-/// Runs the command of an order, and writes its answer to `out` in the form that is asked for.
+/// Runs the command of an order, and writes its answer to `out` in the requested form.
 fn answer_request<H: Host, O: Write, E: Write>(
     alloc: Global,
     request: &Request<'_>,
@@ -96,7 +96,8 @@ fn answer_request<H: Host, O: Write, E: Write>(
         return answer_replies(alloc, order, host, out);
     }
     let mut text = Vec::new(alloc);
-    let answer = run_command(alloc, &request.order, host, &mut text, err)?;
+    let outcome = run_command(alloc, &request.order, host, &mut text, err);
+    let answer = outcome_in_memory(outcome)?;
     write_object(alloc, layout_of(&request.order), &text, &[], out)?;
     Ok(answer)
 }

@@ -1,5 +1,5 @@
 //! Writes the object of an answer.
-ghost use Rattle.std.specs.Prelude.{OnOk};
+ghost use Rattle.std.specs.Prelude.{◌≡◌, IfOk, Ok, OnOk};
 ghost use Rattle.boot_cli.specs.JsonEnd.{WritesValue};
 
 use crate::json::code_list::code_list_members;
@@ -9,7 +9,7 @@ use crate::json::grammars;
 use crate::json::reading::members_of;
 use command_line::{Order, ReadOrder};
 use device_texts::write_all;
-use host::Refusal;
+use host::{Answer, Refusal};
 use serde_json::{Value, push, put};
 use std::alloc::{AllocError, Global};
 use std::io::Write;
@@ -36,6 +36,17 @@ pub fn layout_of(order: &Order<'_>) -> Layout {
         Order::Read(ReadOrder::Codes) => Layout::CodeList,
         Order::Sweep { .. } => Layout::Lines(grammars::SWEEP),
         _ => Layout::Lines(grammars::REPLY),
+    }
+}
+
+/// Returns the outcome of a command that wrote its answer to memory. There a write fails only if
+/// memory runs out.
+pub fn outcome_in_memory(outcome: Result<Answer, Refusal>) -> Result<Answer, Refusal>
+    ensures { IfOk result (λ answer. outcome ≡ Ok answer) }
+{
+    match outcome {
+        Err(Refusal::CannotWrite) => Err(Refusal::NoMemory),
+        other => other,
     }
 }
 
