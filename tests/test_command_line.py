@@ -206,8 +206,8 @@ FIRST_WRONG = [
 
 DEVICE_USAGES = {
     "run": RUN_USAGE,
-    "show": "show <DEVICE> <FLASH>",
-    "provision": "provision <DEVICE> <FLASH> <IMAGE>...",
+    "show": "show [OPTIONS] <DEVICE> <FLASH>",
+    "provision": "provision [OPTIONS] <DEVICE> <FLASH> <IMAGE>...",
 }
 
 TWICE = "standard input, `-`, can be read for one file only"
@@ -244,26 +244,26 @@ USAGES = {
         "unexpected argument '--durable' found\n\n  tip: 'run --durable' exists": ["--durable run a b c"],
         "invalid UTF-8 was detected in one or more arguments": [b"\xff", b"choose \xff", b"run a b c\xff"],
     },
-    "choose <TABLE>": {f"{MISSING}\n  <TABLE>": ["choose"], "unexpected argument 'b' found": ["choose a b"]},
-    "check <TABLE> <REPORT>": {
+    "choose [OPTIONS] <TABLE>": {f"{MISSING}\n  <TABLE>": ["choose"], "unexpected argument 'b' found": ["choose a b"]},
+    "check [OPTIONS] <TABLE> <REPORT>": {
         f"{MISSING}\n  <TABLE>\n  <REPORT>": ["check"],
         f"{MISSING}\n  <REPORT>": ["check a"],
         ONE_FILE: ["check - -"],
     },
-    "image <FILE>": {f"{MISSING}\n  <FILE>": ["image"], "unexpected argument 'b' found": ["image a b"]},
-    "manifest <DEVICE> <FILE>": {f"{MISSING}\n  <FILE>": ["manifest a"], ONE_FILE: ["manifest - -"]},
-    "provision <DEVICE> <FLASH> <IMAGE>...": {
+    "image [OPTIONS] <FILE>": {f"{MISSING}\n  <FILE>": ["image"], "unexpected argument 'b' found": ["image a b"]},
+    "manifest [OPTIONS] <DEVICE> <FILE>": {f"{MISSING}\n  <FILE>": ["manifest a"], ONE_FILE: ["manifest - -"]},
+    "provision [OPTIONS] <DEVICE> <FLASH> <IMAGE>...": {
         f"{MISSING}\n  <IMAGE>...": ["provision a b"],
         ONE_FILE: ["provision - f a -", "provision d f - -", "provision d f - b -"],
         IS_WRITTEN: ["provision d - a", "provision - - -"],
     },
-    "extract <DEVICE> <FLASH> <IMAGE> <SIDE> <OUT>": {
+    "extract [OPTIONS] <DEVICE> <FLASH> <IMAGE> <SIDE> <OUT>": {
         f"{MISSING}\n  <SIDE>\n  <OUT>": ["extract a b 0"],
         "unexpected argument 'f' found": ["extract a b 0 primary e f"],
         ONE_FILE: ["extract - - 0 primary e"],
         IS_MADE: ["extract a b 0 primary -"],
     },
-    "show <DEVICE> <FLASH>": {
+    "show [OPTIONS] <DEVICE> <FLASH>": {
         f"{MISSING}\n  <FLASH>": ["show a"],
         "unexpected argument 'c' found": ["show a b c"],
         "unexpected argument '--durable' found\n\n  tip: to pass '--durable' as a value, use '-- --durable'": [
@@ -271,7 +271,7 @@ USAGES = {
         ],
         ONE_FILE: ["show - -"],
     },
-    "slots <DEVICE> <FLASH>": {
+    "slots [OPTIONS] <DEVICE> <FLASH>": {
         f"{MISSING}\n  <FLASH>": ["slots a"],
         "unexpected argument 'c' found": ["slots a b c"],
         ONE_FILE: ["slots - -"],
@@ -287,8 +287,7 @@ USAGES = {
         ONE_FILE: ["run - f -"],
         IS_WRITTEN: ["run d - s", "run - - s"],
     },
-    """sweep <DEVICE> <SCRIPT> <IMAGE>... [--twice] [--sample <N>]
-           [--seed <N>] [--svg <FILE>] [--json] [--explain]""": {
+    "sweep [OPTIONS] <DEVICE> <SCRIPT> <IMAGE>...": {
         f"{MISSING}\n  <IMAGE>...": ["sweep a b"],
         "the argument '--twice' cannot be used multiple times": ["sweep --twice --twice a b c"],
         "the argument '--sample <N>' cannot be used multiple times": ["sweep a b c --sample=1 --sample=1"],
@@ -300,19 +299,15 @@ USAGES = {
         ONE_FILE: ["sweep - - a", "sweep - b -", "sweep a b - -"],
         "the picture is made, so it can't be standard input, `-`": ["sweep a b c --svg=-", "sweep - - c --svg -"],
     },
-    "codes": {"unexpected argument 'a' found": ["codes a"]},
-    """make-image <OUT> <BODY> --version <VERSION> [--counter <N>]
-           [--needs <'J VERSION'>].. [--dependencies <'(J, V)'>]..
-           [--needs-one <'J VERSION ..'>].. [--header-size <BYTES>]
-           [--load-address <N>] [--flags <N>] [--force] [--explain]""": {
+    "codes [OPTIONS]": {"unexpected argument 'a' found": ["codes a"]},
+    "make-image [OPTIONS] --version <VERSION> <OUT> <BODY>": {
         f"{MISSING}\n  --version <VERSION>": ["make-image a b"],
         IS_MADE: ["make-image - b --version=1", "make-image - - --version=1"],
         "the argument '--counter <N>' cannot be used multiple times": [
             "make-image a b --version=1 --counter=1 --security-counter=1"
         ],
     },
-    """make-manifest <DEVICE> --sequence <N> [--precursor <FLASH>]
-           [--test <I=FILE>].. [--permanent <I=FILE>].. [--strict] [--explain]""": {
+    "make-manifest [OPTIONS] --sequence <N> <DEVICE>": {
         f"{MISSING}\n  <DEVICE>": ["make-manifest --sequence=1 --test=0=a"],
         f"{MISSING}\n  --sequence <N>": ["make-manifest a --test=0=a"],
         "the argument '--sequence <N>' cannot be used multiple times": ["make-manifest a --sequence=1 --sequence=1"],

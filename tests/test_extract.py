@@ -87,7 +87,7 @@ class ExtractTest(ProgramTest):
 
 USAGE = """
 
-Usage: bootswap extract <DEVICE> <FLASH> <IMAGE> <SIDE> <OUT>
+Usage: bootswap extract [OPTIONS] <DEVICE> <FLASH> <IMAGE> <SIDE> <OUT>
 
 For more information, try '--help'.
 """

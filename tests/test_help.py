@@ -34,7 +34,7 @@ HELPS = {
     ],
     "help": ["  2  usage error"],
     "help help": ["Usage: bootswap help [COMMAND]...\n", "  man  ", "  completions  "],
-    "choose -h": ["Usage: bootswap choose <TABLE>\n", "Exit status: 0 ", "Example: bootswap choose "],
+    "choose -h": ["Usage: bootswap choose [OPTIONS] <TABLE>\n", "Exit status: 0 ", "Example: bootswap choose "],
     "choose --help": [
         "  image IMAGE VERSION COUNTER FLOOR\n",
         "  image 0 1.0.0+0 0 0\n  request 2.0.0+0 0\n  needs 1 2.0.0+0\n",
@@ -43,11 +43,11 @@ HELPS = {
         "  bootswap choose table.txt\n",
     ],
     "help choose": ["  image IMAGE VERSION COUNTER FLOOR\n", "  needs 0 2.0.0+0\n", "  2  usage error"],
-    "check -h": ["Usage: bootswap check <TABLE> <REPORT>\n", "Exit status: 0 ", "Example: bootswap check "],
+    "check -h": ["Usage: bootswap check [OPTIONS] <TABLE> <REPORT>\n", "Exit status: 0 ", "Example: bootswap check "],
     "help check": ["  refuse 0 older\n", "  2  usage error", "  bootswap check table.txt report.txt\n"],
-    "image -h": ["Usage: bootswap image <FILE>\n", "Exit status: 0 ", "Example: bootswap image "],
+    "image -h": ["Usage: bootswap image [OPTIONS] <FILE>\n", "Exit status: 0 ", "Example: bootswap image "],
     "help image": ["refused 10 BadDigest", "  2  usage error", "  bootswap image firmware.img\n"],
-    "manifest -h": ["Usage: bootswap manifest <DEVICE> <FILE>\n", "Exit status: 0 ", "Example: bootswap manifest "],
+    "manifest -h": ["Usage: bootswap manifest [OPTIONS] <DEVICE> <FILE>\n", "Exit status: 0 ", "Example: bootswap manifest "],
     "help manifest": [
         '  {"sector":512,"sectors":[2,2],\n',
         '  {"manifest-version":1,"sequence-number":1,\n',
@@ -57,8 +57,8 @@ HELPS = {
         "  bootswap manifest device.json manifest.json\n",
     ],
     "make-device -h": [
-        "Usage: bootswap make-device --sector <BYTES> --slots <N,N,..>\n"
-        "           --vendor <DOMAIN> --class <NAME> [--trial-boots <N>] [--explain]\n",
+        "Usage: bootswap make-device [OPTIONS] --sector <BYTES> --slots <N,N,..>\n"
+        "           --vendor <DOMAIN> --class <NAME>\n",
         "  --slots <N,N,..> ",
         "Exit status: 0 ",
         "Example: bootswap make-device ",
@@ -74,7 +74,7 @@ HELPS = {
         "  2  usage error",
     ],
     "make-image -h": [
-        "Usage: bootswap make-image <OUT> <BODY> --version <VERSION> [--counter <N>]\n",
+        "Usage: bootswap make-image [OPTIONS] --version <VERSION> <OUT> <BODY>\n",
         "  --counter <N> ",
         "security-counter",
         "  --force ",
@@ -90,14 +90,13 @@ HELPS = {
         "  2  usage error",
     ],
     "make-manifest -h": [
-        "Usage: bootswap make-manifest <DEVICE> --sequence <N> [--precursor <FLASH>]\n"
-        "           [--test <I=FILE>].. [--permanent <I=FILE>].. [--strict] [--explain]\n",
+        "Usage: bootswap make-manifest [OPTIONS] --sequence <N> <DEVICE>\n",
         "Request it permanently; beside --test it may revert\n",
         "Exit status: 0 ",
         "Example: bootswap make-manifest ",
     ],
     "extract -h": [
-        "Usage: bootswap extract <DEVICE> <FLASH> <IMAGE> <SIDE> <OUT>\n",
+        "Usage: bootswap extract [OPTIONS] <DEVICE> <FLASH> <IMAGE> <SIDE> <OUT>\n",
         "  --force ",
         "Exit status: 0 ",
         "Example: bootswap extract ",
@@ -120,7 +119,7 @@ HELPS = {
         "  bootswap make-manifest device.json --sequence 2 --test 0=a.img > manifest.json\n",
     ],
     "provision -h": [
-        "Usage: bootswap provision <DEVICE> <FLASH> <IMAGE>...\n",
+        "Usage: bootswap provision [OPTIONS] <DEVICE> <FLASH> <IMAGE>...\n",
         "Exit status: 0 ",
         "Example: bootswap provision ",
     ],
@@ -138,7 +137,7 @@ HELPS = {
         "error: flash file",
         "  bootswap provision device.json flash.bin a.img b.img\n",
     ],
-    "show -h": ["Usage: bootswap show <DEVICE> <FLASH>\n", "Exit status: 0 ", "Example: bootswap show "],
+    "show -h": ["Usage: bootswap show [OPTIONS] <DEVICE> <FLASH>\n", "Exit status: 0 ", "Example: bootswap show "],
     "help show": [
         "  state trial ",
         "`back-settle`",
@@ -151,7 +150,7 @@ HELPS = {
         "  2  usage error",
         "  bootswap show device.json flash.bin\n",
     ],
-    "slots -h": ["Usage: bootswap slots <DEVICE> <FLASH>\n", "Exit status: 0 ", "Example: bootswap slots "],
+    "slots -h": ["Usage: bootswap slots [OPTIONS] <DEVICE> <FLASH>\n", "Exit status: 0 ", "Example: bootswap slots "],
     "help slots": [
         "  slot 0 primary ",
         "  erased ",
@@ -164,7 +163,7 @@ HELPS = {
         "  bootswap slots device.json flash.bin\n",
     ],
     "run -h": [
-        "Usage: bootswap run <DEVICE> <FLASH> <SCRIPT> [--durable] [--strict]\n           [--explain]\n",
+        "Usage: bootswap run [OPTIONS] <DEVICE> <FLASH> <SCRIPT>\n",
         "  --durable ",
         "  --strict ",
         "Exit status: 0 ",
@@ -199,8 +198,7 @@ HELPS = {
         "  bootswap run --durable device.json flash.bin script.txt\n",
     ],
     "sweep -h": [
-        "Usage: bootswap sweep <DEVICE> <SCRIPT> <IMAGE>... [--twice] [--sample <N>]\n"
-        "           [--seed <N>] [--svg <FILE>] [--json] [--explain]\n",
+        "Usage: bootswap sweep [OPTIONS] <DEVICE> <SCRIPT> <IMAGE>...\n",
         "  --twice ",
         "  --sample <N> ",
         "  --seed <N> ",
@@ -218,7 +216,7 @@ HELPS = {
         "  2  usage error",
         "  bootswap sweep --twice --svg sweep.svg device.json script.txt a.img b.img\n",
     ],
-    "codes -h": ["Usage: bootswap codes\n", "Exit status: 0 ", "Example: bootswap codes"],
+    "codes -h": ["Usage: bootswap codes [OPTIONS]\n", "Exit status: 0 ", "Example: bootswap codes"],
     "help codes": [
         "\n  10 BadDigest            the digest entry isn't the SHA-256",
         "\n   5 RunningDamaged       a running image isn't intact",

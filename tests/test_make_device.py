@@ -186,8 +186,8 @@ UNREADABLE = {
 
 USAGE = """
 
-Usage: bootswap make-device --sector <BYTES> --slots <N,N,..>
-           --vendor <DOMAIN> --class <NAME> [--trial-boots <N>] [--explain]
+Usage: bootswap make-device [OPTIONS] --sector <BYTES> --slots <N,N,..>
+           --vendor <DOMAIN> --class <NAME>
 
 For more information, try '--help'.
 """

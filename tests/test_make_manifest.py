@@ -122,8 +122,7 @@ class MakeManifestTest(ProgramTest):
 
 USAGE = """
 
-Usage: bootswap make-manifest <DEVICE> --sequence <N> [--precursor <FLASH>]
-           [--test <I=FILE>].. [--permanent <I=FILE>].. [--strict] [--explain]
+Usage: bootswap make-manifest [OPTIONS] --sequence <N> <DEVICE>
 
 For more information, try '--help'.
 """

@@ -35,15 +35,12 @@ UNREADABLE = {
 
 IMAGE_USAGE = """
 
-Usage: bootswap make-image <OUT> <BODY> --version <VERSION> [--counter <N>]
-           [--needs <'J VERSION'>].. [--dependencies <'(J, V)'>]..
-           [--needs-one <'J VERSION ..'>].. [--header-size <BYTES>]
-           [--load-address <N>] [--flags <N>] [--force] [--explain]
+Usage: bootswap make-image [OPTIONS] --version <VERSION> <OUT> <BODY>
 
 For more information, try '--help'.
 """
 
-RUN_USAGE = "run <DEVICE> <FLASH> <SCRIPT> [--durable] [--strict]\n           [--explain]"
+RUN_USAGE = "run [OPTIONS] <DEVICE> <FLASH> <SCRIPT>"
 
 # Error lines.
 CANNOT_MAKE = b"error: flash file\n"

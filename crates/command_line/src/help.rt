@@ -5,8 +5,7 @@ use crate::codes::REFUSALS;
 /// The help texts of a command.
 #[derive(Clone, Copy)]
 pub struct Help {
-    /// The usage line. It shows options only if one is required, or if the command has more than
-    /// one of its own.
+    /// The usage line, as `clap` would make it: options that aren't required are `[OPTIONS]`.
     pub usage: &'static str,
     /// The purpose of the command in one line.
     pub about: &'static str,
@@ -77,7 +76,7 @@ See `bootswap help COMMAND` for what a command reads and prints.",
 };
 
 pub const CHOOSE: &Help = &Help {
-    usage: "bootswap choose <TABLE>",
+    usage: "bootswap choose [OPTIONS] <TABLE>",
     about: "Decide which requested images of a table run together",
     long_about: "Read a table, decide which of its requested images run together, and print the
 report.
@@ -133,7 +132,7 @@ Examples:
 };
 
 pub const CHECK: &Help = &Help {
-    usage: "bootswap check <TABLE> <REPORT>",
+    usage: "bootswap check [OPTIONS] <TABLE> <REPORT>",
     about: "Check whether a report is right for a table",
     long_about: "Read a table and a report, and print `yes` if the report is right for the table,
 else `no`.
@@ -175,7 +174,7 @@ Examples:
 };
 
 pub const IMAGE: &Help = &Help {
-    usage: "bootswap image <FILE>",
+    usage: "bootswap image [OPTIONS] <FILE>",
     about: "Check an image and print its description",
     long_about: "Read an image of MCUboot's format, check it, and print its version, its length
 in bytes, its security counter, its digest, and the images that it needs. The
@@ -206,7 +205,7 @@ Example:
 };
 
 pub const MANIFEST: &Help = &Help {
-    usage: "bootswap manifest <DEVICE> <FILE>",
+    usage: "bootswap manifest [OPTIONS] <DEVICE> <FILE>",
     about: "Check a manifest for a device and print its contents",
     long_about: "Read a device file and a manifest, check whether the manifest is for that
 device, and print its contents: its sequence number, and for each component the
@@ -252,8 +251,8 @@ Examples:
 };
 
 pub const MAKE_DEVICE: &Help = &Help {
-    usage: "bootswap make-device --sector <BYTES> --slots <N,N,..>
-           --vendor <DOMAIN> --class <NAME> [--trial-boots <N>] [--explain]",
+    usage: "bootswap make-device [OPTIONS] --sector <BYTES> --slots <N,N,..>
+           --vendor <DOMAIN> --class <NAME>",
     about: "Make a device file, and print where the flash's parts are",
     long_about: "Make a device file from the sizes of a device's flash and the names of its
 vendor and class. Print it on standard output, and where the parts of the flash
@@ -307,10 +306,7 @@ Examples:
 };
 
 pub const MAKE_IMAGE: &Help = &Help {
-    usage: "bootswap make-image <OUT> <BODY> --version <VERSION> [--counter <N>]
-           [--needs <'J VERSION'>].. [--dependencies <'(J, V)'>]..
-           [--needs-one <'J VERSION ..'>].. [--header-size <BYTES>]
-           [--load-address <N>] [--flags <N>] [--force] [--explain]",
+    usage: "bootswap make-image [OPTIONS] --version <VERSION> <OUT> <BODY>",
     about: "Make an image of MCUboot's format from its body",
     long_about: "Read the body of an image from BODY, and make the image in the file OUT: header,
 body, security counter, dependencies and digest. Print `done`. An image of
@@ -368,8 +364,7 @@ Examples:
 };
 
 pub const MAKE_MANIFEST: &Help = &Help {
-    usage: "bootswap make-manifest <DEVICE> --sequence <N> [--precursor <FLASH>]
-           [--test <I=FILE>].. [--permanent <I=FILE>].. [--strict] [--explain]",
+    usage: "bootswap make-manifest [OPTIONS] --sequence <N> <DEVICE>",
     about: "Make a manifest of the files that may come to a device",
     long_about: "Read a device file and the files that may come to the device, and print the
 manifest that allows them: for the device's vendor and class, with the length
@@ -427,7 +422,7 @@ Examples:
 };
 
 pub const PROVISION: &Help = &Help {
-    usage: "bootswap provision <DEVICE> <FLASH> <IMAGE>...",
+    usage: "bootswap provision [OPTIONS] <DEVICE> <FLASH> <IMAGE>...",
     about: "Make the flash file of a device from its images",
     long_about: "Make the flash of a device in the file FLASH, and print `done`. FLASH gets the
 length of the device's flash, filled with 0xFF, and each IMAGE at the start of
@@ -482,7 +477,7 @@ Examples:
 };
 
 pub const EXTRACT: &Help = &Help {
-    usage: "bootswap extract <DEVICE> <FLASH> <IMAGE> <SIDE> <OUT>",
+    usage: "bootswap extract [OPTIONS] <DEVICE> <FLASH> <IMAGE> <SIDE> <OUT>",
     about: "Copy the image in a slot of a flash to a file",
     long_about: "Read a device file and a flash file, and copy the intact image at the start of a
 slot to the file OUT. IMAGE is the number of the image, from 0. SIDE is
@@ -521,7 +516,7 @@ Examples:
 };
 
 pub const SHOW: &Help = &Help {
-    usage: "bootswap show <DEVICE> <FLASH>",
+    usage: "bootswap show [OPTIONS] <DEVICE> <FLASH>",
     about: "Print the log and the swap types of a device's flash",
     long_about: "Read a device file and a flash file, and print the contents of the flash's log
 and trailers:
@@ -559,7 +554,7 @@ Examples:
 };
 
 pub const SLOTS: &Help = &Help {
-    usage: "bootswap slots <DEVICE> <FLASH>",
+    usage: "bootswap slots [OPTIONS] <DEVICE> <FLASH>",
     about: "Print the contents of the slots, and what a boot would take",
     long_about: "Read a device file and a flash file, and print what `show` prints, then the
 contents of the slots, image by image:
@@ -599,8 +594,7 @@ Examples:
 };
 
 pub const RUN: &Help = &Help {
-    usage: "bootswap run <DEVICE> <FLASH> <SCRIPT> [--durable] [--strict]
-           [--explain]",
+    usage: "bootswap run [OPTIONS] <DEVICE> <FLASH> <SCRIPT>",
     about: "Run a device on a flash file by a script; print its replies",
     long_about: "Run a device on a flash file by a script, and print a reply to each event. Each
 write goes to FLASH immediately, so the next run continues from there. FLASH may
@@ -677,8 +671,7 @@ Examples:
 };
 
 pub const SWEEP: &Help = &Help {
-    usage: "bootswap sweep <DEVICE> <SCRIPT> <IMAGE>... [--twice] [--sample <N>]
-           [--seed <N>] [--svg <FILE>] [--json] [--explain]",
+    usage: "bootswap sweep [OPTIONS] <DEVICE> <SCRIPT> <IMAGE>...",
     about: "Cut power at each write of a script, and print how runs end",
     long_about: "Provision a device in memory with these images, as `provision` does, and run a
 script on it as `run` does: once for each write of its flash and each way to
@@ -735,7 +728,7 @@ Examples:
 };
 
 pub const CODES: &Help = &Help {
-    usage: "bootswap codes",
+    usage: "bootswap codes [OPTIONS]",
     about: "List the codes and names of refusals",
     long_about: REFUSALS,
     after: "Exit status: 0 done, 1 the list could not be written, 2 usage error.
