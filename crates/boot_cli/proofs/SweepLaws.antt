@@ -1,10 +1,10 @@
 -- The result of a sweep from what it read in turn, and the files that it keeps.
 use Rattle.std.proofs.Common.{◌≡◌, ◌⊎◌, ◌≤◌, ℕ, Bool, List, [], ◌∷◌, None, Option, Some, arith, inl, inr, subst, sym}
 use Rattle.common.specs.Lines.{lines_of}
-use Rattle.script.specs.LineText.{IsLineText}
-use Rattle.script.specs.Said.{Said, said}
-use Rattle.script.specs.declared.line.Line.{Line}
-use Rattle.script.proofs.LineLaws.{one_line}
+use Rattle.device_texts.specs.LineText.{IsLineText}
+use Rattle.device_texts.specs.Said.{Said, said}
+use Rattle.device_texts.specs.declared.line.Line.{Line}
+use Rattle.device_texts.proofs.LineLaws.{one_line}
 use Rattle.inputs.specs.Loading.{IsNextLine}
 use Rattle.inputs.specs.declared.lines.Lines.{Lines}
 use Rattle.std.specs.Prelude.{IsSomeAnd}

@@ -5,9 +5,9 @@ use Rattle.std.specs.Borrow.{Bor}
 use Rattle.common.specs.Lines.{lines_of}
 use Rattle.common.specs.declared.event.Event.{Event}
 use Rattle.common.specs.declared.event.Event.TheVariants as event
-use Rattle.script.specs.LineText.{IsLineText}
-use Rattle.script.specs.Said.{Said}
-use Rattle.script.specs.Said as said
+use Rattle.device_texts.specs.LineText.{IsLineText}
+use Rattle.device_texts.specs.Said.{Said}
+use Rattle.device_texts.specs.Said as said
 use Rattle.host.specs.declared.answer.Answer.{Answer}
 use Rattle.host.specs.declared.answer.Answer.TheVariants.{Done, Refused, Cut}
 use Rattle.host.specs.declared.source.Source.{Source}

@@ -11,7 +11,7 @@ use Rattle.std.proofs.lemmas.List.Folds.{list_any-append}
 use Rattle.std.proofs.lemmas.Option.{slice_get-get_or}
 use Rattle.common.specs.declared.event.Event.{Event}
 use Rattle.flash_model.specs.declared.torn.Armed.{Armed}
-use Rattle.script.specs.declared.line_order.LineOrder.{LineOrder}
+use Rattle.device_texts.specs.declared.line_order.LineOrder.{LineOrder}
 use Rattle.machine.specs.Holding.{DeviceView}
 use Rattle.machine.specs.Intake.{Setup}
 use Rattle.machine.specs.Passing.{StepsTo}

@@ -13,7 +13,7 @@ ghost use Rattle.host.specs.declared.source.Source.TheVariants as source;
 use crate::host_file::HostFile;
 use boot_core::{Device, step};
 use common::event::Event;
-use device_texts::{CutWrite, DeviceFile, arm_all, flash_of, reply_text, write_all};
+use device_texts::{CutWrite, DeviceFile, Line, arm_all, flash_of, reply_text, write_all};
 use flash_model::Flash;
 use host::{Access, Answer, Host, Refusal, Source};
 use inputs::{
@@ -21,7 +21,6 @@ use inputs::{
     read_flash, read_script,
 };
 use machine::Reply;
-use script::Line;
 use std::alloc::Global;
 use std::io::Write;
 use std::marker::Brand;

@@ -1,4 +1,10 @@
 pub mod AnswerText
+pub mod Cuts
 pub mod DeviceFile
 pub mod FlashOf
+pub mod InOrder
+pub mod LineReading
+pub mod LineText
+pub mod Part
 pub mod ReplyText
+pub mod Said

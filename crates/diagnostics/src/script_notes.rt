@@ -6,7 +6,7 @@ use crate::shown::Shown;
 use common::ascii::{cut, number, number_u8};
 use common::lines::first_line;
 use common::texts::STANDARD_INPUT;
-use script::{Event, FileText, Line, PartText, line_of};
+use device_texts::{Event, FileText, Line, PartText, line_of};
 
 /// The fields after the first word of a line.
 #[derive(Clone, Copy)]

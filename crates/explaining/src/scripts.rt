@@ -4,9 +4,9 @@ use crate::order_sources::OrderSources;
 use crate::remembering::Remembering;
 use command_line::Order;
 use common::lines::first_line;
+use device_texts::{Event, Line, line_of};
 use diagnostics::{Shown, explain_script_line, file_named_at};
 use host::{Host, Source};
-use script::{Event, Line, line_of};
 use std::alloc::AllocError;
 
 /// Adds why the script line of this number is refused.

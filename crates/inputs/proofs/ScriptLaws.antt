@@ -13,21 +13,21 @@ use Rattle.common.specs.declared.event.Event.{Event}
 use Rattle.common.specs.declared.event.Event.TheVariants as event
 use Rattle.common.specs.Event.{event_map}
 use Rattle.flash_model.specs.declared.torn.Armed.{Armed}
-use Rattle.script.specs.declared.line_order.LineOrder.{LineOrder}
-use Rattle.script.specs.InOrder.{AreEvents, AreInOrder, CanFollow}
-use Rattle.script.specs.LineText.{IsLineText}
-use Rattle.script.specs.Part.{IsPart}
-use Rattle.script.specs.declared.line.FileText.{FileText}
-use Rattle.script.specs.declared.line.Line.{Line}
-use Rattle.script.specs.declared.line.Line.TheVariants as line
-use Rattle.script.specs.declared.line.TornText.{TornText}
-use Rattle.script.specs.declared.part.PartText.{PartText}
-use Rattle.script.specs.Said.{PartWords, Said, SaidFile, SaidTorn, file_of, part_words, said_file, said_torn}
-use Rattle.script.specs.Said as said
+use Rattle.device_texts.specs.declared.line_order.LineOrder.{LineOrder}
+use Rattle.device_texts.specs.InOrder.{AreEvents, AreInOrder, CanFollow}
+use Rattle.device_texts.specs.LineText.{IsLineText}
+use Rattle.device_texts.specs.Part.{IsPart}
+use Rattle.device_texts.specs.declared.line.FileText.{FileText}
+use Rattle.device_texts.specs.declared.line.Line.{Line}
+use Rattle.device_texts.specs.declared.line.Line.TheVariants as line
+use Rattle.device_texts.specs.declared.line.TornText.{TornText}
+use Rattle.device_texts.specs.declared.part.PartText.{PartText}
+use Rattle.device_texts.specs.Said.{PartWords, Said, SaidFile, SaidTorn, file_of, part_words, said_file, said_torn}
+use Rattle.device_texts.specs.Said as said
 use Rattle.host.specs.declared.source.Source.{Source}
 use Rattle.host.specs.declared.source.Source.TheVariants.{StandardInput, File}
 use Rattle.host.specs.Input.{FileBytes, IsKnownAs, IsKnownPart, IsNamed, KeepsFiles, KeepsOthers}
-use Rattle.script.proofs.LineLaws.{one_line}
+use Rattle.device_texts.proofs.LineLaws.{one_line}
 use Rattle.device_texts.specs.FlashOf.{armed_in, armed_of}
 use Rattle.device_texts.specs.declared.flash.CutWrite.{CutWrite}
 use Rattle.inputs.specs.declared.checking.BufferedInput.{BufferedInput}

@@ -8,12 +8,12 @@ use Rattle.common.specs.declared.event.Event.{Event}
 use Rattle.common.specs.declared.event.Event.TheVariants as event
 use Rattle.common.specs.Event.{event_map}
 use Rattle.flash_model.specs.declared.torn.Armed.{Armed}
-use Rattle.script.specs.declared.line.FileText.{FileText}
-use Rattle.script.specs.declared.line.Line.{Line}
-use Rattle.script.specs.InOrder.{AreInOrder, CanFollow}
-use Rattle.script.specs.LineText.{IsLineText}
-use Rattle.script.specs.Said.{PartWords, Said, SaidEvent, SaidFile, said, said_file}
-use Rattle.script.specs.Said as say
+use Rattle.device_texts.specs.declared.line.FileText.{FileText}
+use Rattle.device_texts.specs.declared.line.Line.{Line}
+use Rattle.device_texts.specs.InOrder.{AreInOrder, CanFollow}
+use Rattle.device_texts.specs.LineText.{IsLineText}
+use Rattle.device_texts.specs.Said.{PartWords, Said, SaidEvent, SaidFile, said, said_file}
+use Rattle.device_texts.specs.Said as say
 use Rattle.inputs.specs.declared.checking.BufferedInput.{BufferedInput}
 use Rattle.inputs.specs.declared.lines.Lines.{Lines}
 use Rattle.host.specs.Doings.{AreApart}

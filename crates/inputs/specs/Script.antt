@@ -7,12 +7,12 @@ use Rattle.common.specs.Lines.{lines_of}
 use Rattle.common.specs.declared.event.Event.{Event}
 use Rattle.common.specs.declared.event.Event.TheVariants as event
 use Rattle.flash_model.specs.declared.torn.Armed.{Armed}
-use Rattle.script.specs.Cuts.{Leaves}
-use Rattle.script.specs.InOrder.{AreInOrder}
-use Rattle.script.specs.LineText.{IsLineText}
-use Rattle.script.specs.Part.{IsPart}
-use Rattle.script.specs.Said.{PartWords, Said, SaidEvent, SaidFile, SaidTorn}
-use Rattle.script.specs.Said as said
+use Rattle.device_texts.specs.Cuts.{Leaves}
+use Rattle.device_texts.specs.InOrder.{AreInOrder}
+use Rattle.device_texts.specs.LineText.{IsLineText}
+use Rattle.device_texts.specs.Part.{IsPart}
+use Rattle.device_texts.specs.Said.{PartWords, Said, SaidEvent, SaidFile, SaidTorn}
+use Rattle.device_texts.specs.Said as said
 use Rattle.host.specs.declared.source.Source.{Source}
 use Rattle.host.specs.declared.source.Source.TheVariants.{StandardInput, File}
 use Rattle.host.specs.Input.{FileBytes, Gives, IsNamed, KeepsFiles}

@@ -2,7 +2,7 @@
 ghost use Rattle.std.specs.Prelude.{◌≡◌, ◌++◌, ◌∷◌, [], IfOk, OnOk, false, true};
 ghost use Rattle.std.specs.Option.{option_map};
 ghost use Rattle.common.specs.Event.{event_map};
-ghost use Rattle.script.specs.Said.{part_words, said, said_file, said_torn};
+ghost use Rattle.device_texts.specs.Said.{part_words, said, said_file, said_torn};
 ghost use Rattle.device_texts.specs.FlashOf.{armed_in, armed_of};
 ghost use Rattle.host.specs.Input.{KeepsFiles};
 ghost use Rattle.inputs.specs.Loading.{AddsCut, AreBuffered, AreCutsOf, BuffersIfNeeded, CanBeReadAgain, IsInputPiece, KeepsBuffered, file_in};
@@ -11,9 +11,8 @@ ghost use Rattle.inputs.specs.Script.{IsCutBy};
 use crate::lines::Lines;
 use crate::sources::{part_of, piece_of};
 use common::event::Event;
-use device_texts::CutWrite;
+use device_texts::{CutWrite, FileText, Line, TornText};
 use host::{Host, MOST_FILE, Refusal, Source};
-use script::{FileText, Line, TornText};
 use std::alloc::Global;
 
 /// The bytes that a line names of an input that can't be read twice: standard input, a file that

@@ -1,13 +1,13 @@
 //! Reads the lines of a script's text one by one.
 ghost use Rattle.std.specs.Prelude.{◌≡◌, ◌<◌, ◌↔◌, IfErr, IfOk, List, length};
-ghost use Rattle.script.specs.InOrder.{AreInOrder, CanFollow};
-ghost use Rattle.script.specs.Said.{Said};
+ghost use Rattle.device_texts.specs.InOrder.{AreInOrder, CanFollow};
+ghost use Rattle.device_texts.specs.Said.{Said};
 ghost use Rattle.host.specs.Status.{status_of_refusal};
 ghost use Rattle.inputs.specs.Loading.{IsNextLine};
 
 use common::lines::first_line;
+use device_texts::{Line, LineOrder, line_of};
 use host::Refusal;
-use script::{Line, LineOrder, line_of};
 
 /// The lines of a script's text that weren't read yet.
 #[derive(Drop)]

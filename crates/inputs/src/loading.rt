@@ -8,8 +8,8 @@ use crate::checking::check_script;
 use crate::lines::Lines;
 use crate::sources::Sources;
 use common::event::Event;
+use device_texts::Line;
 use host::{Host, MOST_SCRIPT, Refusal, Source};
-use script::Line;
 use std::alloc::Global;
 
 /// Reads the text of a script from `host` into memory of `alloc`.

@@ -4,14 +4,14 @@ ghost use Rattle.std.specs.Option.{option_map};
 ghost use Rattle.common.specs.Event.{event_map};
 ghost use Rattle.host.specs.Input.{IsKnownAs, IsKnownPart};
 ghost use Rattle.host.specs.Status.{status_of_refusal};
-ghost use Rattle.script.specs.Said.{file_of, part_words, said_file};
+ghost use Rattle.device_texts.specs.Said.{file_of, part_words, said_file};
 ghost use Rattle.inputs.specs.Loading.{EventTakesNext, IsNextOther, Loads, ReadsNow, TakesNext, came_of};
 ghost use Rattle.inputs.specs.Script.{Comes, IsPieceOf, ReadsFile};
 
 use crate::checking::BufferedInput;
 use common::event::Event;
+use device_texts::{FileText, PartText};
 use host::{FilePart, Host, MOST_FILE, Refusal, Source, SourceFault};
-use script::{FileText, PartText};
 use std::alloc::Global;
 
 /// The inputs from which the lines of a checked script are loaded: the files of a host, and the

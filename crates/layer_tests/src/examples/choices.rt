@@ -2,9 +2,8 @@
 
 use certificate::{Report, Table, check, is_valid};
 use chooser::choose;
-use device_texts::DeviceFile;
+use device_texts::{DeviceFile, Event, Line, line_of};
 use machine::Fault;
-use script::{Event, Line, line_of};
 use std::test::Fail;
 use version_order::Version;
 
@@ -48,7 +47,7 @@ fn a_request_is_taken(rt: HostRuntime) -> Result<(), Fail> {
 
 #[test]
 fn a_line_of_a_script_is_read(rt: HostRuntime) {
-    // example: script::line_of
+    // example: device_texts::line_of
     let (cut, boot) = (line_of(b"cut 3 keep"), line_of(b"boot"));
     assert!(rt; matches!(cut, Some(Line::Cut { write: 3, .. })));
     assert!(rt; matches!(boot, Some(Line::Event(Event::Boot))));

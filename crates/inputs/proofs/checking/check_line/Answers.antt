@@ -1,5 +1,5 @@
 use Rattle.std.proofs.lemmas.Result.{on_ok_weaker}
-use Rattle.script.specs.Said.{said_torn}
+use Rattle.device_texts.specs.Said.{said_torn}
 use Rattle.inputs.proofs.ScriptLaws.{AddsCut-taken}
 use Rattle.inputs.proofs.checking.check_line.Goals as goal
 

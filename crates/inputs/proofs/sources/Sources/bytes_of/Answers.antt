@@ -1,6 +1,6 @@
 use Rattle.std.proofs.Common.{◌∙◌, inl, inr, refl, subst, sym}
 use Rattle.std.proofs.lemmas.Result.{IfOk-weaker}
-use Rattle.script.specs.Said.{said_file}
+use Rattle.device_texts.specs.Said.{said_file}
 use Rattle.inputs.specs.Loading.{Loads}
 use Rattle.inputs.specs.Script.{ReadsFile}
 use Rattle.inputs.proofs.ScriptLaws.{Loads-buffered, Loads-now}

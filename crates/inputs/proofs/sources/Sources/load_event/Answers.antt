@@ -1,7 +1,7 @@
 use Rattle.std.proofs.Common.{subst, sym}
 use Rattle.common.specs.declared.event.Event.TheVariants as event
 use Rattle.common.specs.Event.{event_map}
-use Rattle.script.specs.Said.{said_file}
+use Rattle.device_texts.specs.Said.{said_file}
 use Rattle.inputs.specs.Loading.{Loads}
 use Rattle.inputs.specs.Script.{Comes}
 use Rattle.inputs.proofs.ScriptLaws.{Loads-accept, Loads-piece}

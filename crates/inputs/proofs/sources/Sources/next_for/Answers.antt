@@ -1,6 +1,6 @@
 use Rattle.std.proofs.Common.{◌≢◌, ◌∙◌, Some, ap, refl, subst, sym}
 use Rattle.std.proofs.lemmas.Option.{same_Some, slice_get-get_or}
-use Rattle.script.specs.Said.{said_file}
+use Rattle.device_texts.specs.Said.{said_file}
 use Rattle.inputs.proofs.sources.Sources.next_for.Goals as goal
 
 -- The next buffered input was found.

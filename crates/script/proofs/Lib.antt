@@ -1,4 +1,0 @@
-pub mod LineLaws
-pub mod Parts
-pub mod WideNumbers
-pub mod WordLaws

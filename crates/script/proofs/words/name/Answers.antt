@@ -1,9 +1,0 @@
-use Rattle.script.specs.LineReading.{name_of}
-use Rattle.script.proofs.WordLaws.{decoded_text}
-use Rattle.script.proofs.words.name.Goals as goal
-
-pub returns : goal.returns
-unfolding name_of
-returns c =
-    rw (c.ok.ensures.value, ← c.in_ok-word.ensures)
-    (decoded_text c.in_ok-word.field-0.now c.from_utf8.result c.from_utf8.ensures.cases)
