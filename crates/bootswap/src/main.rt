@@ -8,14 +8,14 @@
 
 use boot_cli::{cli, note_reading};
 use device_commands::{refuse_coloring, refuse_words, words_of};
-use host::{
-    Colored, Output, STANDARD_ERROR, STANDARD_OUTPUT, SystemHost, coloring_in, is_colored,
-    reserve_stack,
-};
 use manual::{answer, asked_in};
 use std::io;
 use std::io::{ErrorKind, IsTerminal, Write};
 use std::process::ExitCode;
+use system_host::{
+    Colored, Output, STANDARD_ERROR, STANDARD_OUTPUT, SystemHost, coloring_in, is_colored,
+    reserve_stack,
+};
 
 fn main(rt: HostRuntime) -> ExitCode {
     let status = match reserve_stack(rt.alloc()) {

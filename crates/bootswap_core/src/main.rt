@@ -6,13 +6,13 @@
 #![tactic(auto)]
 
 use device_commands::{core_cli, refuse_coloring, refuse_words, words_of};
-use host::{
-    Colored, Output, STANDARD_ERROR, STANDARD_OUTPUT, SystemHost, coloring_in, is_colored,
-    reserve_stack,
-};
 use std::io;
 use std::io::{ErrorKind, IsTerminal};
 use std::process::ExitCode;
+use system_host::{
+    Colored, Output, STANDARD_ERROR, STANDARD_OUTPUT, SystemHost, coloring_in, is_colored,
+    reserve_stack,
+};
 
 fn main(rt: HostRuntime) -> ExitCode {
     let status = match reserve_stack(rt.alloc()) {

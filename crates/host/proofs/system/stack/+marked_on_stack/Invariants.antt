@@ -1,4 +1,0 @@
-use Rattle.host.proofs.system.stack.+marked_on_stack.Given as goal
-
-abbrev pub decreases-marked_on_stack : goal.decreases-marked_on_stack
-decreases-marked_on_stack l = l.pages

@@ -1,0 +1,2 @@
+mod FileLaws
+mod HeldLaws

@@ -1,0 +1,139 @@
+//! The system as the host of a command.
+
+ghost use Rattle.std.specs.Prelude.{◌≡◌, IfOk, length};
+
+use crate::holding::HeldFile;
+use crate::{file_reading, holding, replacing};
+use host::{Access, FilePart, FlashFault, Host, Replaced};
+use std::alloc::Global;
+use std::fs::File;
+use std::io;
+use std::io::{ErrorKind, Read};
+use std::os::unix::fs::FileExt;
+use std::random::RandomSource;
+use std::rt::Files;
+use std::time::Clock;
+
+/// The name by which Linux leads to the file or pipe that is standard input. It leads nowhere if
+/// standard input is closed, and on a system without `/proc`. Then standard input isn't known to be
+/// a file that a command names.
+const INPUT: &str = "/proc/self/fd/0";
+
+/// The system that the program runs on: its files, and its standard input as a reader.
+#[derive(Drop)]
+pub struct SystemHost<'a, R: Files, I: Read> {
+    runtime: &'a R,
+    input: I,
+    is_watched: bool,
+    flash: Option<HeldFile>,
+}
+
+impl<'a, R: Files, I: Read> SystemHost<'a, R, I> {
+    /// Creates a host with the files and the clock of `runtime`, and `input` as standard input.
+    /// `is_watched` says whether standard error is a terminal.
+    pub fn new(runtime: &'a R, input: I, is_watched: bool) -> Self {
+        SystemHost {
+            runtime,
+            input,
+            is_watched,
+            flash: None,
+        }
+    }
+}
+
+impl<R: Files<File = File> + Clock + RandomSource, I: Read> Host for SystemHost<'_, R, I> {
+    ghost input = { λ host. I.remaining host.input };
+
+    fn read_file(&mut self, alloc: Global, name: &str, most: u32) -> io::Result<Vec<u8>> {
+        file_reading::read_start(self.runtime, alloc, name, most)
+    }
+
+    fn read_input(&mut self, alloc: Global, most: u32) -> io::Result<Vec<u8>> {
+        file_reading::read_input(alloc, &mut self.input, most)
+    }
+
+    fn read_again(&self, alloc: Global, name: &str, most: u32) -> io::Result<Vec<u8>> {
+        file_reading::read_start(self.runtime, alloc, name, most)
+    }
+
+    fn read_part(&self, alloc: Global, name: &str, part: FilePart) -> io::Result<Option<Vec<u8>>> {
+        file_reading::read_part(self.runtime, alloc, name, part)
+    }
+
+    fn is_plain(&self, name: &str) -> io::Result<bool> {
+        file_reading::is_plain(self.runtime, name)
+    }
+
+    fn length_of(&self, name: &str) -> io::Result<u64> {
+        holding::length_of_name(self.runtime, name)
+    }
+
+    fn is_same_file(&self, one: &str, other: &str) -> io::Result<bool> {
+        replacing::is_same_file(self.runtime, one, other)
+    }
+
+    fn is_input(&self, name: &str) -> io::Result<bool> {
+        replacing::is_same_file(self.runtime, INPUT, name)
+    }
+
+    fn check_replaceable(&self, alloc: Global, name: &str) -> Result<(), FlashFault> {
+        replacing::check_replaceable(self.runtime, alloc, name)
+    }
+
+    fn open_flash(
+        &mut self,
+        alloc: Global,
+        name: &str,
+        length: u64,
+        access: Access,
+    ) -> Result<Vec<u8>, FlashFault> {
+        let held = holding::open(self.runtime, alloc, name, length, access)?;
+        let bytes = flash_bytes(alloc, &held.file, length)?;
+        self.flash = Some(held);
+        Ok(bytes)
+    }
+
+    fn write_flash(&self, at: u64, bytes: &[u8]) -> io::Result<()> {
+        match &self.flash {
+            Some(held) => held.write(at, bytes),
+            None => Err(io::Error::from(ErrorKind::NotFound)),
+        }
+    }
+
+    fn sync_flash(&mut self) -> io::Result<()> {
+        match &self.flash {
+            Some(held) => held.sync(self.runtime),
+            None => Ok(()),
+        }
+    }
+
+    fn replace_file(
+        &mut self,
+        alloc: Global,
+        name: &str,
+        bytes: &[u8],
+        replaced: Replaced,
+    ) -> Result<(), FlashFault> {
+        replacing::replace_file(self.runtime, alloc, name, bytes, replaced)
+    }
+
+    fn watched_seconds(&self) -> Option<u64> {
+        if !self.is_watched {
+            return None;
+        }
+        Some(self.runtime.monotonic().ok()?.as_secs())
+    }
+}
+
+/// Reads the `count` bytes of a flash file.
+fn flash_bytes(alloc: Global, file: &File, count: u64) -> Result<Vec<u8>, FlashFault>
+    ensures { IfOk result (λ bytes. length bytes.items ≡ count) }
+{
+    let Ok(mut bytes) = vec![in alloc; 0; count as usize] else {
+        return Err(FlashFault::NoMemory);
+    };
+    match file.read_exact_at(&mut bytes, 0) {
+        Ok(()) => Ok(bytes),
+        Err(error) => Err(FlashFault::Failed(error)),
+    }
+}
