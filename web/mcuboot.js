@@ -1,6 +1,7 @@
-// MCUboot's rule for several images, by its design document, "Multiple image boot" and "Dependency check". Each image has its
-// own swap type. An image isn't swapped in if an image that it needs won't run. An image on trial that wasn't confirmed is
-// reverted by itself. This is a model of versions, drawn beside the proved decision. No code of MCUboot runs here.
+// MCUboot's rule for several images, by docs/design.md of https://github.com/mcu-tools/mcuboot, "Multiple image boot",
+// loop 2. Each image has its own swap type. An image isn't swapped in if an image that it needs won't run. An image on trial
+// that wasn't confirmed is reverted by itself. This is a model of versions, drawn beside the proved decision. No code of
+// MCUboot runs here. examples/fleet/mcuboot_rule.py has this rule too, and the stricter one of boot/bootutil/src/loader.c.
 
 import { versionText } from "./library.js";
 
