@@ -11,9 +11,9 @@ image; one that is older than what runs (with MCUBOOT_DOWNGRADE_PREVENTION); one
   design  That request isn't installed, and the check restarts from the first image. Source: docs/design.md, "Multiple image
           boot", loop 2. web/mcuboot.js models this rule too, with trials and reverts.
 
-Both sources are in https://github.com/mcu-tools/mcuboot. The model is generous where a table says more than MCUboot reads:
-the build number of a version counts (as with MCUBOOT_VERSION_CMP_USE_BUILD_NUMBER), and a group, which MCUboot doesn't
-have, is met if one of its alternatives is. Running images are expected to fit each other.
+Both sources are in https://github.com/mcu-tools/mcuboot. This model wasn't compared with them. It is generous where a
+table says more than MCUboot reads: the build number of a version counts (as with MCUBOOT_VERSION_CMP_USE_BUILD_NUMBER), and
+a group, which MCUboot doesn't have, is met if one of its alternatives is. Running images are expected to fit each other.
 """
 
 from __future__ import annotations
