@@ -36,6 +36,11 @@ abbrev pub Gives : Source → Option (List ℕ) → FileBytes → List ℕ → T
 Gives StandardInput input file bytes = IsKnownAs input bytes
 Gives (File name) input file bytes = IsKnownAs (file name.now) bytes
 
+-- The bytes that a source holds, as far as they are known.
+abbrev pub held_by : Source → Option (List ℕ) → FileBytes → Option (List ℕ)
+held_by StandardInput input file = input
+held_by (File name) input file = file name.now
+
 -- These are the bytes of two sources that are read one after the other. Nothing is said of the
 -- second source if the first is standard input.
 abbrev pub GiveBoth : Source → Source → Option (List ℕ) → FileBytes

@@ -13,6 +13,10 @@ pub enum Refusal {
     /// The text is no report. The number is that of the first line, from 1, with which no report
     /// continues.
     ReportLine(usize),
+    /// A fleet doesn't begin with a line `device NAME`.
+    FleetLine,
+    /// The arguments of `plan` request two files as the image of this number.
+    RequestedTwice(u8),
     /// The running images of a table don't fit each other.
     NotValid,
     /// The text is no device file.
@@ -59,6 +63,8 @@ impl fmt::Display for Refusal {
         let text = match self {
             Refusal::TableLine(line) => return write!(f, "table line {line}"),
             Refusal::ReportLine(line) => return write!(f, "report line {line}"),
+            Refusal::FleetLine => "fleet line 1",
+            Refusal::RequestedTwice(image) => return write!(f, "image {image} requested twice"),
             Refusal::NotValid => "running set not valid",
             Refusal::DeviceFile => "device file",
             Refusal::Manifest => "manifest",
@@ -107,8 +113,11 @@ pub enum SourceFault {
     TooLong(u32),
     /// It is no flash, and it could not be made or replaced.
     CannotReplace,
-    /// It was to be replaced by an image and holds none, so it is unchanged.
+    /// It was to hold an image and holds none. It is unchanged.
     NoImage,
+    /// It holds no summary, or no output of a sweep, that can be merged with those before it. The
+    /// number is that of the first line, from 1, that can't be.
+    CannotMerge(usize),
 }
 
 impl fmt::Display for SourceRefusal {
@@ -119,6 +128,7 @@ impl fmt::Display for SourceRefusal {
             SourceFault::TooLong(most) => write!(f, "{source} is longer than {most} bytes"),
             SourceFault::CannotReplace => write!(f, "cannot write {source}"),
             SourceFault::NoImage => write!(f, "{source} is no image"),
+            SourceFault::CannotMerge(line) => write!(f, "cannot merge {source} line {line}"),
         }
     }
 }

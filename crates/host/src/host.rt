@@ -1,11 +1,13 @@
 //! The trait by which a command reads files and standard input, and writes the file of a flash.
 ghost use Rattle.std.specs.Prelude.{◌≡◌, ◌≤◌, Bool, IfErr, IfOk, IfSome, IsTrue, List, ℕ, None, OnOk, Option, false, length, true};
-ghost use Rattle.std.specs.Io.KnownBytes.{Keeps};
+ghost use Rattle.std.specs.Io.{ReadsAtMost};
+ghost use Rattle.std.specs.Io.KnownBytes.{Keeps, ReadConsumes};
 ghost use Rattle.std.specs.IoError.{error_kind};
 ghost use Rattle.std.specs.declared.io.ErrorKind.TheVariants.{NotFound};
 ghost use Rattle.host.specs.Doings.{AreApart, IsOpenedFor, KeepsApart, Openings, no_openings};
-ghost use Rattle.host.specs.Input.{IsKnownAs, IsKnownPart, KeepsFiles};
+ghost use Rattle.host.specs.Input.{IsKnownAs, IsKnownPart, KeepsFiles, held_by};
 
+use crate::source::Source;
 use std::alloc::Global;
 use std::io;
 
@@ -74,6 +76,9 @@ pub trait Host {
     // is written; and of a file whose folder may fail to be synced after the file is replaced.
     ghost file: { Self → List ℕ → Option (List ℕ) } = { λ _ _. None };
 
+    // The bytes of the stream that was opened last that aren't read yet, if they are known.
+    ghost stream: { Self → Option (List ℕ) } = { λ _. None };
+
     // How files of flashes were opened, as far as that is known.
     ghost opened: { Self → Openings } = { λ _. no_openings };
 
@@ -104,6 +109,17 @@ pub trait Host {
             → IsKnownAs (input self.old) bytes.items) }
         ensures files { KeepsFiles (file self.old) (file self.new) }
         ensures opened { opened self.new ≡ opened self.old };
+
+    /// Opens a source to be read piece by piece, as a stream. The stream that was open is closed.
+    fn open_stream(&mut self, source: Source<'_>) -> io::Result<()>
+        ensures held { OnOk result
+            (stream self.new ≡ held_by source.entry (input self.old) (file self.old)) };
+
+    /// Reads the next bytes of the stream into a buffer, and returns how many. It is 0 at the end of
+    /// the stream.
+    fn read_stream(&mut self, buffer: &mut [u8]) -> io::Result<usize>
+        ensures bound { ReadsAtMost result buffer.new }
+        ensures bytes { ReadConsumes (stream self.old) (stream self.new) result buffer.new };
 
     /// Does the same as `read_file` through a shared reference.
     fn read_again(&self, alloc: Global, name: &str, most: u32) -> io::Result<Vec<u8>>

@@ -2,7 +2,7 @@
 //!
 //! - Promises: A source that is read whole yields exactly the bytes that the host has by its name.
 //!   Status 0 is returned only after an answer `Done` was flushed.
-//! - Main calls: `Source::read`, `Source::read_start`, `Source::is_file`, `finish`
+//! - Main calls: `Source::read`, `Source::read_start`, `Source::is_file`, `open_stream`, `finish`
 //! - Allocates: the input.
 //! - Callers: any command.
 //!
@@ -17,9 +17,11 @@ mod error;
 mod host;
 mod limits;
 mod source;
+mod stream;
 
 pub use answer::{Answer, finish, refuse, status_after};
 pub use error::{Refusal, SourceFault, SourceRefusal};
 pub use host::{Access, FilePart, FlashFault, Host, Replaced};
 pub use limits::{MOST_FILE, MOST_JSON, MOST_SCRIPT, MOST_TABLE};
 pub use source::Source;
+pub use stream::{Stream, open_stream};

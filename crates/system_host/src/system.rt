@@ -1,10 +1,11 @@
 //! The system as the host of a command.
 
 ghost use Rattle.std.specs.Prelude.{◌≡◌, IfOk, length};
+ghost use Rattle.system_host.specs.Streams.{stream_of};
 
 use crate::holding::HeldFile;
 use crate::{file_reading, holding, replacing};
-use host::{Access, FilePart, FlashFault, Host, Replaced};
+use host::{Access, FilePart, FlashFault, Host, Replaced, Source};
 use std::alloc::Global;
 use std::fs::File;
 use std::io;
@@ -26,6 +27,8 @@ pub struct SystemHost<'a, R: Files, I: Read> {
     input: I,
     is_watched: bool,
     flash: Option<HeldFile>,
+    /// The file that is the stream. Without one, standard input is.
+    stream: Option<File>,
 }
 
 impl<'a, R: Files, I: Read> SystemHost<'a, R, I> {
@@ -37,6 +40,7 @@ impl<'a, R: Files, I: Read> SystemHost<'a, R, I> {
             input,
             is_watched,
             flash: None,
+            stream: None,
         }
     }
 }
@@ -44,12 +48,29 @@ impl<'a, R: Files, I: Read> SystemHost<'a, R, I> {
 impl<R: Files<File = File> + Clock + RandomSource, I: Read> Host for SystemHost<'_, R, I> {
     ghost input = { λ host. I.remaining host.input };
 
+    ghost stream = { λ host. stream_of I.remaining host.stream host.input };
+
     fn read_file(&mut self, alloc: Global, name: &str, most: u32) -> io::Result<Vec<u8>> {
         file_reading::read_start(self.runtime, alloc, name, most)
     }
 
     fn read_input(&mut self, alloc: Global, most: u32) -> io::Result<Vec<u8>> {
         file_reading::read_input(alloc, &mut self.input, most)
+    }
+
+    fn open_stream(&mut self, source: Source<'_>) -> io::Result<()> {
+        self.stream = match source {
+            Source::StandardInput => None,
+            Source::File(name) => Some(File::open(self.runtime, name)?),
+        };
+        Ok(())
+    }
+
+    fn read_stream(&mut self, buffer: &mut [u8]) -> io::Result<usize> {
+        match &mut self.stream {
+            Some(file) => file.read(buffer),
+            None => self.input.read(buffer),
+        }
     }
 
     fn read_again(&self, alloc: Global, name: &str, most: u32) -> io::Result<Vec<u8>> {
