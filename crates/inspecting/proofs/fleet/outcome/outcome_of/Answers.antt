@@ -1,0 +1,8 @@
+use Rattle.inspecting.proofs.fleet.outcome.outcome_of.Goals as goal
+
+-- The text isn't a table.
+pub returns-in-Err : goal.returns-in-Err
+returns-in-Err c text kept = (
+  kept.few c.if-table.false,
+  rw (c.deref.ensures.value, kept.whole c.if-table.false) at c.in-Err.ensures.line,
+)

@@ -1,0 +1,32 @@
+use Rattle.std.proofs.Common.{[], ◌∷◌, ◌++◌, subst, sym}
+use Rattle.common.specs.Ascii.{LacksByte}
+use Rattle.inspecting.proofs.CutLaws.{cut-fewer, cut-lacks, cut-none, cut-some}
+use Rattle.inspecting.proofs.FleetReadingLaws.{Advances-quiet, Advances-trans}
+use Rattle.inspecting.proofs.fleet.planner.Planner.read_line.Goals as goal
+
+-- The bytes have no line feed.
+pub returns-in_default : goal.returns-in_default
+returns-in_default g c =
+    let part = c.cut.result.0.now in
+    let lacks = subst (LacksByte 10) (sym c.cut.ensures.before) (cut-lacks c.args.bytes.now) in
+    record {
+      some = part;
+      split = cut-none c.args.bytes.now part c.cut.ensures.before (rw c.in_default.is at c.cut.ensures.after);
+      fewer = tt;
+      advances = Advances-quiet part (g.W.Write.contents c.args.out.now) (λ telling read plan stands. c.in_ok-read_part.ensures _ telling read plan lacks stands);
+    }
+
+-- A line ends among them.
+pub returns : goal.returns
+returns g c =
+    let part = c.cut.result.0.now in
+    let lacks = subst (LacksByte 10) (sym c.cut.ensures.before) (cut-lacks c.args.bytes.now) in
+    let split = cut-some c.args.bytes.now part c.in-Some.rest.now c.cut.ensures.before (rw c.in-Some.is at c.cut.ensures.after) in
+    let known = g.W.Write.contents c.args.out.now in
+    record {
+      some = part ++ 10 ∷ [];
+      split = split;
+      fewer = cut-fewer c.args.bytes.now part c.in-Some.rest.now split;
+      advances = Advances-trans c.args.requests.now.entries c.args.self.now c.read_part.new.self c.end_line.new.self part (10 ∷ []) known known (g.W.Write.contents c.end_line.new.out)
+          (Advances-quiet part known (λ telling read plan stands. c.in_ok-read_part.ensures _ telling read plan lacks stands)) c.in_ok-end_line.ensures.feed;
+    }

@@ -1,0 +1,112 @@
+-- Where a planner is while it reads a fleet.
+use Rattle.std.specs.Prelude.{◌≡◌, ℕ, ◌<◌, IfSome, unwrap_or, length, List, ◌∷◌, ◌++◌, [], codes, Option, Some, None}
+use Rattle.std.specs.Io.KnownBytes.{Appends}
+use Rattle.std.specs.List.{AllByRecursion, flat_map}
+use Rattle.certificate.specs.declared.table.Entry.{Entry}
+use Rattle.common.specs.Ascii.{LacksByte}
+use Rattle.common.specs.Lines.{◌␣◌, lines_of, text_of_lines}
+use Rattle.inspecting.specs.Bounded.{Holds}
+use Rattle.inspecting.specs.Fleet.{Device, IsDevice, device_lines}
+use Rattle.inspecting.specs.Plan.{IsPlan, IsPlanned, Planned, has_bad, plan_text}
+use Rattle.inspecting.specs.SummaryRows.{Summarizes}
+use Rattle.inspecting.specs.declared.fleet.planner.Current.{Current}
+use Rattle.inspecting.specs.declared.fleet.planner.Planner.{Planner}
+use Rattle.inspecting.specs.declared.fleet.summary.Summary.{Summary}
+use Rattle.inspecting.specs.declared.fleet.telling.Telling.{Telling}
+use Rattle.inspecting.specs.declared.fleet.telling.Telling.TheVariants as tell
+
+-- Of a text these bytes are read: these complete lines, and this prefix of the next line.
+pub record IsReadAs (bytes : List ℕ) (lines : List (List ℕ)) (prefix : List ℕ) : Type 0 where
+  pub split : (rest : List ℕ) → lines_of (bytes ++ rest) ≡ lines ++ lines_of (prefix ++ rest)
+  pub plain : LacksByte 10 prefix
+
+-- The lines of the devices that have a result.
+abbrev pub planned_lines : List Planned → List (List ℕ)
+planned_lines plan = flat_map (λ planned. device_lines planned.device) plan
+
+-- This device is read so far.
+pub record IsReadSoFar (device : Device) (current : Current) : Type 0 where
+  pub is : IsDevice device
+  pub first : current.first.items ≡ (codes "device" ␣ device.name) ++ 10 ∷ []
+  pub table : Holds (text_of_lines device.table) current.table
+
+-- The lines are those of the devices that have a result, and of the one whose table is read.
+abbrev pub AreLinesOf : List (List ℕ) → List Planned → Option Current → Type 0
+AreLinesOf lines plan None = lines ≡ planned_lines plan
+AreLinesOf lines plan (Some current) =
+    (device : Device) × (lines ≡ planned_lines plan ++ device_lines device)
+    × IsReadSoFar device current
+
+-- What is written of devices while a fleet is read.
+abbrev pub told_text : Telling → List Planned → List ℕ
+told_text tell.Devices plan = plan_text plan
+told_text tell.Summary plan = []
+
+-- A summary has what isn't written of these devices.
+abbrev pub IsTold : Telling → Option Summary → List Planned → Type 0
+IsTold tell.Devices None plan = Unit {0}
+IsTold tell.Devices (Some summary) plan = ⊥
+IsTold tell.Summary None plan = ⊥
+IsTold tell.Summary (Some summary) plan = Summarizes plan summary
+
+-- A device with its result is written or summarized.
+abbrev pub Tells : Planned → Option Summary → Option Summary
+    → Option (List ℕ) → Option (List ℕ) → Type 0
+Tells planned old new before after =
+    (telling : Telling) (plan : List Planned) → IsTold telling old plan
+    → IsTold telling new (plan ++ planned ∷ [])
+    × Appends before after (told_text telling (planned ∷ []))
+
+-- A planner has read these lines, and these devices have their results.
+pub record HasRead (entries : List (Option Entry)) (telling : Telling) (planner : Planner) (lines : List (List ℕ)) (plan : List Planned) : Type 0 where
+  pub lines_are : AreLinesOf lines plan planner.device
+  pub devices : AllByRecursion (λ planned. IsDevice planned.device) plan
+  pub each : AllByRecursion (IsPlanned entries) plan
+  pub bad : planner.has_bad ≡ has_bad plan
+  pub told : IsTold telling planner.summary plan
+
+-- A planner has read these lines. Then some more devices have their results, which are written.
+pub record ReadsLines (entries : List (Option Entry)) (telling : Telling) (planner : Planner) (lines : List (List ℕ)) (plan : List Planned) (before after : Option (List ℕ)) : Type 0 where
+  pub more : List Planned
+  pub has : HasRead entries telling planner lines (plan ++ more)
+  pub written : Appends before after (told_text telling more)
+
+-- A planner has read these bytes, and these devices have their results.
+pub record Stands (entries : List (Option Entry)) (telling : Telling) (planner : Planner) (bytes : List ℕ) (plan : List Planned) : Type 0 where
+  pub lines : List (List ℕ)
+  pub prefix : List ℕ
+  pub read : IsReadAs bytes lines prefix
+  pub line : Holds prefix planner.line
+  pub has : HasRead entries telling planner lines plan
+
+-- A planner has read these bytes. Then some more devices have their results, which are written.
+pub record ReadsBytes (entries : List (Option Entry)) (telling : Telling) (planner : Planner) (bytes : List ℕ) (plan : List Planned) (before after : Option (List ℕ)) : Type 0 where
+  pub more : List Planned
+  pub stands : Stands entries telling planner bytes (plan ++ more)
+  pub written : Appends before after (told_text telling more)
+
+-- A planner reads more bytes: wherever it stood, it goes on from there.
+abbrev pub Advances : List (Option Entry) → Planner → Planner → List ℕ
+    → Option (List ℕ) → Option (List ℕ) → Type 0
+Advances entries old new bytes before after =
+    (telling : Telling) (read : List ℕ) (plan : List Planned) → Stands entries telling old read plan
+    → ReadsBytes entries telling new (read ++ bytes) plan before after
+
+-- The bytes after those that are read.
+abbrev pub left_in : Option (List ℕ) → List ℕ
+left_in rest = unwrap_or rest []
+
+-- A planner reads these bytes up to those that are left. If any are left, they are fewer.
+pub record ReadsSome (entries : List (Option Entry)) (old new : Planner) (bytes : List ℕ) (rest before after : Option (List ℕ)) : Type 0 where
+  pub some : List ℕ
+  pub split : some ++ left_in rest ≡ bytes
+  pub fewer : IfSome rest (λ left. length left < length bytes)
+  pub advances : Advances entries old new some before after
+
+-- A planner ends: all devices of the fleet have their results.
+pub record EndsPlan (entries : List (Option Entry)) (telling : Telling) (planner : Planner) (bytes : List ℕ) (plan : List Planned) (before after : Option (List ℕ)) : Type 0 where
+  pub more : List Planned
+  pub is : IsPlan entries bytes (plan ++ more)
+  pub bad : planner.has_bad ≡ has_bad (plan ++ more)
+  pub told : IsTold telling planner.summary (plan ++ more)
+  pub written : Appends before after (told_text telling more)

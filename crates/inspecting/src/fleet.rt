@@ -1,0 +1,30 @@
+//! Decides for each device of a fleet which requests it takes.
+//!
+//! `planning` reads a fleet piece by piece. `planner` finds the devices in it. `outcome` decides
+//! over the table of one, with the requests of a release, which `requests` puts into it. `summary`
+//! counts what the devices do: `key` has the texts that it counts, and `rows` the counts. `merging`
+//! adds summaries up, whose lines `row_line` reads.
+
+mod bounded;
+mod device_line;
+mod key;
+mod laws;
+mod merging;
+mod outcome;
+mod planner;
+mod planning;
+mod program;
+mod release;
+mod requests;
+mod row_line;
+mod rows;
+mod summary;
+mod telling;
+
+pub use laws::sums_are_summaries;
+pub use merging::{MergeFault, MergeRefusal, merge_over};
+pub use outcome::{Decision, Outcome};
+pub use planning::plan_over;
+pub use program::run_plan;
+pub use requests::Requests;
+pub use telling::Telling;

@@ -1,0 +1,87 @@
+//! The result for one device.
+
+ghost use Rattle.std.specs.Prelude.{◌≡◌, ◌≤◌, ℕ, List, Some, length};
+ghost use Rattle.common.specs.Limits.{MOST_IMAGES};
+ghost use Rattle.inspecting.specs.Bounded.{Holds};
+ghost use Rattle.inspecting.specs.Outcome.{IsDecision, IsOutcome, is_bad, outcome_text};
+
+use crate::fleet::bounded::Bounded;
+use crate::fleet::requests::Requests;
+use certificate::{Report, Table, is_valid};
+use chooser::choose;
+use std::fmt;
+
+/// The table of a device as it was decided over, and the decision.
+#[derive(Drop)]
+pub struct Decision {
+    /// The table, with its requests replaced by those of the release.
+    pub table: Table,
+    /// Which of its requests are taken, and why each of the others is refused.
+    pub report: Report,
+}
+
+/// What a device does with its requests, or why that can't be said.
+///
+/// It is printed as lines: the report as `choose` prints it, or the line `not-valid`, `bad-line N`
+/// or `too-long`.
+#[derive(Drop)]
+pub enum Outcome {
+    /// It takes the greatest valid set of its table, by a right report.
+    Decided(Decision),
+    /// Its running images don't fit each other.
+    NotValid,
+    /// Its table is bad. The number, from 1, is that of the first line with which no table
+    /// continues.
+    BadLine(usize),
+    /// Its table has more than 65,536 bytes.
+    TooLong,
+}
+
+impl Outcome {
+    /// Returns whether this is no report.
+    pub fn is_bad(&self) -> bool
+        ensures { result ≡ is_bad self.now }
+    {
+        !matches!(self, Outcome::Decided(_))
+    }
+}
+
+impl fmt::Display for Outcome {
+    ghost output = { λ outcome. Some (outcome_text outcome) };
+
+    fn fmt<W: fmt::Write>(&self, f: &mut fmt::Formatter<W>) -> fmt::Result {
+        match self {
+            Outcome::Decided(decision) => write!(f, "{}", decision.report),
+            Outcome::NotValid => f.write_str("not-valid\n"),
+            Outcome::BadLine(line) => write!(f, "bad-line {line}\n"),
+            Outcome::TooLong => f.write_str("too-long\n"),
+        }
+    }
+}
+
+/// Decides over the table of a device, with its requests replaced by those of a release.
+pub fn outcome_of(requests: &Requests, table: &Bounded) -> Outcome
+    ensures { (text : List ℕ) → Holds text table.now → IsOutcome requests.now.entries text result }
+{
+    if table.is_too_long {
+        return Outcome::TooLong;
+    }
+    match Table::parse(&table.bytes) {
+        Ok(table) => decide(requests, table),
+        Err(bad) => Outcome::BadLine(bad.0),
+    }
+}
+
+/// Decides over a table, with its requests replaced by those of a release.
+fn decide(requests: &Requests, table: Table) -> Outcome
+    requires { length table.images.items ≤ MOST_IMAGES }
+    ensures { IsDecision requests.now.entries table result }
+{
+    let mut table = table;
+    requests.replace_in(&mut table);
+    if !is_valid(&table) {
+        return Outcome::NotValid;
+    }
+    let report = choose(&table);
+    Outcome::Decided(Decision { table, report })
+}

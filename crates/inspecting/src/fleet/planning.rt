@@ -1,0 +1,136 @@
+//! Plans a fleet that a reader gives.
+
+ghost use Rattle.std.specs.Prelude.{◌≡◌, ◌≤◌, ℕ, IfOk, List, OnOk, length};
+ghost use Rattle.std.specs.Io.KnownBytes.{Appends, ReadConsumes};
+ghost use Rattle.inspecting.specs.Plan.{Planned};
+ghost use Rattle.inspecting.specs.PlanEnd.{EndsWith, IsAnswerFor, Plans, WritesRest};
+ghost use Rattle.inspecting.specs.Planning.{IsTold, Stands};
+ghost use Rattle.inspecting.specs.Row.{Row, summary_text};
+ghost use Rattle.inspecting.specs.Summary.{IsSummary};
+ghost use Rattle.inspecting.specs.SummaryRows.{Summarizes};
+
+use crate::fleet::planner::Planner;
+use crate::fleet::requests::Requests;
+use crate::fleet::summary::Summary;
+use crate::fleet::telling::Telling;
+use device_texts::write_all;
+use host::{Answer, Refusal, Source};
+use std::alloc::{AllocError, Global};
+use std::io;
+use std::io::{ErrorKind, Read, Write};
+
+/// How many bytes are read at a time.
+const PIECE: usize = 1 << 16;
+
+/// Reads the fleet that `input` gives to its end, and decides over the table of each device with
+/// its requests replaced by those of `requests`. Writes to `out` each device with its result, or
+/// at the end their summary, as `telling` says.
+///
+/// A bad table is no error: the device gets the result `bad-line N`, `too-long` or `not-valid`, the
+/// others follow, and the answer is `Refused`. `source` names the input in an error. The memory in
+/// use doesn't grow with the number of devices: a piece of 65,536 bytes, a line and a table of at
+/// most as many, and the text of one result, all of `alloc`. That of a summary grows with the number
+/// of its rows.
+///
+/// # Errors
+/// - `FleetLine` if the input doesn't begin with a line `device NAME`.
+/// - `NoMemory` if memory runs out or a count of the summary would be 2^64.
+/// - `OfSource` if a read fails, and `CannotWrite` if a write fails.
+///
+/// After an error `out` has the devices before it, and perhaps a prefix of the next one's text. Of
+/// a summary it has nothing, or a prefix if a write failed.
+pub fn plan_over<R: Read, W: Write>(
+    alloc: Global,
+    requests: &Requests,
+    telling: Telling,
+    source: Source<'_>,
+    input: &mut R,
+    out: &mut W,
+) -> Result<Answer, Refusal>
+    ensures { IfOk result (λ answer. Plans requests.now.entries telling answer
+        (R.remaining input.old) (R.remaining input.new)
+        (W.contents out.old) (W.contents out.new)) }
+{
+    let Ok(mut piece) = buffer(alloc, PIECE) else {
+        return Err(Refusal::NoMemory);
+    };
+    let mut planner = Planner::new(alloc, telling);
+    for _ in 0..u64::MAX {
+        match read_into(input, &mut piece) {
+            Ok(0) => return end_plan(requests, planner, out),
+            Ok(count) => planner.read(requests, &piece[..count], out)?,
+            Err(error) if error.kind() == ErrorKind::Interrupted => {}
+            Err(error) => return Err(source.refusal(alloc, error)),
+        }
+    }
+    Err(source.refusal(alloc, io::Error::from(ErrorKind::TimedOut)))
+}
+
+/// Reads the next bytes of an input into a buffer, and returns how many. It is 0 at the end of the
+/// input.
+fn read_into<R: Read>(input: &mut R, buffer: &mut Vec<u8>) -> io::Result<usize>
+    ensures read { ReadConsumes (R.remaining input.old) (R.remaining input.new) result
+        buffer.new.items }
+    ensures bound { IfOk result (λ count. count ≤ length buffer.new.items) }
+    ensures size { length buffer.new.items ≡ length buffer.old.items }
+{
+    input.read(buffer)
+}
+
+/// Returns a buffer of `count` bytes in memory of `alloc`.
+fn buffer(alloc: Global, count: usize) -> Result<Vec<u8>, AllocError>
+    ensures { IfOk result (λ made. length made.items ≡ count) }
+{
+    vec![in alloc; 0; count]
+}
+
+/// Ends a plan, and returns its answer.
+fn end_plan<W: Write>(requests: &Requests, planner: Planner, out: &mut W) -> Result<Answer, Refusal>
+    ensures { IfOk result (λ answer. (telling : Telling) (bytes : List ℕ) (plan : List Planned)
+        → Stands requests.now.entries telling planner bytes plan
+        → EndsWith requests.now.entries telling answer bytes plan
+        (W.contents out.old) (W.contents out.new)) }
+{
+    let mut planner = planner;
+    planner.end(requests, out)?;
+    write_rest(&planner.summary, out)?;
+    Ok(answer_for(planner.has_bad))
+}
+
+/// Writes the text of a summary, if there is one.
+fn write_rest<W: Write>(summary: &Option<Summary>, out: &mut W) -> Result<(), Refusal>
+    ensures { OnOk result ((telling : Telling) (plan : List Planned)
+        → IsTold telling summary.now plan
+        → WritesRest telling plan (W.contents out.old) (W.contents out.new)) }
+{
+    match summary {
+        Some(summary) => write_summary(summary, out),
+        None => Ok(()),
+    }
+}
+
+/// Writes the text of a summary.
+fn write_summary<W: Write>(summary: &Summary, out: &mut W) -> Result<(), Refusal>
+    ensures { OnOk result ((plan : List Planned) → Summarizes plan summary.now
+        → (rows : List Row) × IsSummary plan rows
+        × Appends (W.contents out.old) (W.contents out.new) (summary_text rows)) }
+{
+    let Ok(text) = summary.text() else {
+        return Err(Refusal::NoMemory);
+    };
+    let Ok(()) = write_all(out, &text) else {
+        return Err(Refusal::CannotWrite);
+    };
+    Ok(())
+}
+
+/// Returns the answer of a plan: whether a device has no report.
+fn answer_for(has_bad: bool) -> Answer
+    ensures { IsAnswerFor has_bad result }
+{
+    if has_bad {
+        Answer::Refused
+    } else {
+        Answer::Done
+    }
+}

@@ -1,0 +1,134 @@
+//! `bootswap plan`: decides for each device of a fleet, or adds summaries.
+
+ghost use Rattle.std.specs.Prelude.{◌≡◌, IfOk, map};
+ghost use Rattle.inspecting.specs.PlanAnswers.{AnswersFleet, AnswersMerge, AnswersPlan, PlansSource, ReadsEach, telling_of};
+
+use crate::fleet::merging::{MergeFault, MergeRefusal, merge_over};
+use crate::fleet::planning::plan_over;
+use crate::fleet::release::read_release;
+use crate::fleet::requests::Requests;
+use crate::fleet::telling::Telling;
+use command_line::{PlanOrder, RequestedFile};
+use host::{Answer, Host, MOST_FILE, Refusal, Source, SourceFault, Stream, open_stream};
+use std::alloc::Global;
+use std::io::Write;
+
+/// Does what `plan` is asked for. Reads a fleet, or summaries, and the images that are requested
+/// from `host`, and writes the answer to `out`. The memory in use, of `alloc`, doesn't grow with the
+/// number of devices.
+///
+/// # Errors
+/// - `RequestedTwice` and `NoImage` if the requests name no release.
+/// - `OfSource` if a source can't be read, or holds no image or no summary.
+/// - `FleetLine` if a fleet doesn't begin with a device.
+/// - `NoMemory` if memory runs out or a count would be 2^64, and `CannotWrite` if a write fails.
+pub fn run_plan<H: Host, O: Write>(
+    alloc: Global,
+    order: &PlanOrder<'_>,
+    host: &mut H,
+    out: &mut O,
+) -> Result<Answer, Refusal>
+    ensures { IfOk result (λ answer. AnswersPlan answer order.now
+        (H.input host.old) (H.file host.old) (O.contents out.old) (O.contents out.new)) }
+{
+    match order {
+        PlanOrder::Fleet {
+            fleet,
+            requests,
+            is_summary,
+        } => {
+            let fleet = Source::named(fleet);
+            plan_release(alloc, fleet, requests, telling_of(*is_summary), host, out)
+        }
+        PlanOrder::Merge { summaries } => merge_sources(alloc, summaries, host, out),
+    }
+}
+
+/// Returns how results are written, with or without `--summary`.
+fn telling_of(is_summary: bool) -> Telling
+    ensures { result ≡ telling_of is_summary }
+{
+    if is_summary {
+        Telling::Summary
+    } else {
+        Telling::Devices
+    }
+}
+
+/// Decides for each device of a fleet with the requests of these files.
+fn plan_release<H: Host, O: Write>(
+    alloc: Global,
+    fleet: Source<'_>,
+    files: &[RequestedFile<'_>],
+    telling: Telling,
+    host: &mut H,
+    out: &mut O,
+) -> Result<Answer, Refusal>
+    ensures { IfOk result (λ answer. AnswersFleet answer fleet.entry files.now telling
+        (H.input host.old) (H.file host.old) (O.contents out.old) (O.contents out.new)) }
+{
+    let requests = read_release(alloc, files, host)?;
+    plan_source(alloc, &requests, telling, fleet, host, out)
+}
+
+/// Decides for each device of the fleet that a source holds, and writes the results to `out`.
+fn plan_source<H: Host, O: Write>(
+    alloc: Global,
+    requests: &Requests,
+    telling: Telling,
+    fleet: Source<'_>,
+    host: &mut H,
+    out: &mut O,
+) -> Result<Answer, Refusal>
+    ensures { IfOk result (λ answer. PlansSource answer fleet.entry requests.now.entries telling
+        (H.input host.old) (H.file host.old) (O.contents out.old) (O.contents out.new)) }
+{
+    open_stream(alloc, fleet, host)?;
+    let mut input = Stream { host };
+    plan_over(alloc, requests, telling, fleet, &mut input, out)
+}
+
+/// Adds the summaries in these files, and writes their sum to `out`.
+fn merge_sources<H: Host, O: Write>(
+    alloc: Global,
+    names: &[&str],
+    host: &mut H,
+    out: &mut O,
+) -> Result<Answer, Refusal>
+    ensures { IfOk result (λ answer. AnswersMerge answer names.now
+        (H.input host.old) (H.file host.old) (O.contents out.old) (O.contents out.new)) }
+{
+    let texts = read_each(alloc, names, host)?;
+    match merge_over(alloc, &texts, out) {
+        Ok(answer) => Ok(answer),
+        Err(refusal) => Err(merge_refusal(alloc, names, refusal)),
+    }
+}
+
+/// Reads the sources of these names, one after the other.
+fn read_each<H: Host>(alloc: Global, names: &[&str], host: &mut H) -> Result<Vec<Vec<u8>>, Refusal>
+    ensures { IfOk result (λ texts. ReadsEach names.now
+        (H.input host.old) (H.file host.old) (map (λ text. text.items) texts.items)) }
+{
+    let mut texts = Vec::new(alloc);
+    for name in names {
+        let text = Source::named(name).read(alloc, host, MOST_FILE)?;
+        let Ok(()) = texts.push(text) else {
+            return Err(Refusal::NoMemory);
+        };
+    }
+    Ok(texts)
+}
+
+/// Returns the refusal to add the summaries of these names.
+fn merge_refusal(alloc: Global, names: &[&str], refusal: MergeRefusal) -> Refusal {
+    match refusal {
+        MergeRefusal::Part(part, MergeFault::BadLine(line)) => match names.get(part) {
+            Some(name) => Source::named(name).refused(alloc, SourceFault::CannotMerge(line)),
+            None => Refusal::NoMemory,
+        },
+        MergeRefusal::CannotWrite => Refusal::CannotWrite,
+        MergeRefusal::Part(_, MergeFault::TooMany | MergeFault::NoMemory)
+        | MergeRefusal::NoMemory => Refusal::NoMemory,
+    }
+}
