@@ -1,2 +1,4 @@
 mod CutRuns
+mod MarkLaws
 mod ScenarioLaws
+mod TallyLaws

@@ -1,2 +1,4 @@
 pub mod Cuts
+pub mod Marks
 pub mod Scenario
+pub mod Tallies

@@ -1,8 +1,9 @@
 //! The power cuts of a run, and the bytes that they leave.
 
-ghost use Rattle.std.specs.Prelude.{IfOk};
+ghost use Rattle.std.specs.Prelude.{◌≡◌, IfOk};
 ghost use Rattle.device_texts.specs.FlashOf.{armed_in};
 ghost use Rattle.sweep.specs.Cuts.{AreArmedFor, IsCopies, IsTorn};
+ghost use Rattle.sweep.specs.Tallies.{cuts_place, tear_place, torn_place};
 
 use device_texts::CutWrite;
 use flash_model::Torn;
@@ -67,6 +68,25 @@ impl Tear {
             Tear::Half => "half",
         }
     }
+
+    /// Its place in [`TEARS`].
+    fn place(self) -> u32
+        ensures { result ≡ tear_place self }
+    {
+        match self {
+            Tear::Keep => 0,
+            Tear::Done => 1,
+            Tear::Ones => 2,
+            Tear::Zeros => 3,
+            Tear::Magic => 4,
+            Tear::Half => 5,
+        }
+    }
+}
+
+/// The way to tear a write that has this name.
+pub fn tear_named(name: &str) -> Option<Tear> {
+    TEARS.iter().find(|tear| tear.name() == name).copied()
 }
 
 /// The torn write that leaves copies of these bytes.
@@ -108,6 +128,27 @@ pub enum Cuts {
     One(TornWrite),
     /// Two power cuts. The second is in the boot after the first.
     Two(TornWrite, TornWrite),
+}
+
+/// The place of the cuts of a run in the order of a sweep: by the first cut, and then by the second
+/// one. The run without a cut is before all others.
+pub fn place_of(cuts: Option<Cuts>) -> u128
+    ensures { result ≡ cuts_place cuts }
+{
+    match cuts {
+        None => 0,
+        Some(Cuts::One(cut)) => place_of_cut(cut) * (1 << 36),
+        Some(Cuts::Two(first, second)) => {
+            place_of_cut(first) * (1 << 36) + place_of_cut(second) + 1
+        }
+    }
+}
+
+/// The place of a torn write: by its number, and then by the way to tear it.
+fn place_of_cut(cut: TornWrite) -> u128
+    ensures { result ≡ torn_place cut }
+{
+    u128::from(cut.write) * 8 + u128::from(cut.tear.place())
 }
 
 impl fmt::Display for Cuts {

@@ -1,31 +1,14 @@
 //! The findings of a sweep, counted over its runs.
 
-use crate::cuts::Cuts;
+use crate::cuts::{Cuts, place_of};
+use crate::marks::Mark;
 use crate::notes::{BootOutcome, ScenarioEnd};
+use crate::tally::Tally;
 use arrayvec::ArrayVec;
+use common::event::Event;
 use common::limits::MOST_IMAGES;
-use std::alloc::AllocError;
+use std::alloc::{AllocError, Global};
 use version_order::Version;
-
-/// The outcomes of the boots after power cuts at one write.
-#[derive(Clone, Copy)]
-pub enum Mark {
-    /// No run had a power cut at the write.
-    NotTried,
-    /// All boots had this outcome.
-    All(BootOutcome),
-    /// The outcome depended on what the power cut left.
-    Several,
-}
-
-/// A number of runs.
-#[derive(Clone, Copy)]
-pub struct Tally {
-    /// The number of runs.
-    pub runs: u64,
-    /// The cuts of the first of these runs. `None` if it is the run without a power cut.
-    pub first: Option<Cuts>,
-}
 
 /// The runs that ended with these images.
 #[derive(Drop)]
@@ -36,18 +19,20 @@ pub struct SetTally {
     pub tally: Tally,
 }
 
-/// The findings of a sweep.
+/// The findings of a sweep, or of a part of its runs.
 #[derive(Drop)]
 pub struct Found {
+    /// The events, without their bytes.
+    pub events: Vec<Event<()>>,
     /// For each event the number of writes up to its end, without a power cut.
     pub writes: Vec<u32>,
     /// The mark of each write.
     pub marks: Vec<Mark>,
-    /// The sets that ran at the end of a run, in the order in which they were found. The first is
-    /// that of the run without a power cut.
+    /// The number of runs.
+    pub runs: u64,
+    /// The sets that ran at the end of a run. [`Found::sort`] puts them in the order of their first
+    /// runs.
     pub sets: Vec<SetTally>,
-    /// All runs.
-    pub all: Tally,
     /// The runs with an unexpected end. Expected are the end of the run without a power cut, and
     /// the ends beside the first cut: without the event of the cut, and with a power failure in
     /// place of that event or after it.
@@ -65,42 +50,20 @@ pub(crate) struct EventWrites<'f> {
     pub marks: &'f [Mark],
 }
 
-impl Mark {
-    /// The mark after one more power cut at its write, with the outcome of the boot after it.
-    fn and(self, outcome: BootOutcome) -> Self {
-        match self {
-            Mark::NotTried => Mark::All(outcome),
-            Mark::All(before) => {
-                if before == outcome {
-                    Mark::All(outcome)
-                } else {
-                    Mark::Several
-                }
-            }
-            Mark::Several => Mark::Several,
-        }
-    }
-}
-
-impl Tally {
-    /// The tally of no runs.
-    pub fn none() -> Self {
-        Tally {
-            runs: 0,
-            first: None,
-        }
-    }
-
-    /// Counts a run with these cuts.
-    pub fn count(&mut self, cuts: Option<Cuts>) {
-        if self.runs == 0 {
-            self.first = cuts;
-        }
-        self.runs = self.runs.saturating_add(1);
-    }
-}
-
 impl Found {
+    /// The findings of no runs, and of no events yet. Its lists are in memory of `alloc`.
+    pub(crate) fn nothing(alloc: Global) -> Self {
+        Found {
+            events: Vec::new(alloc),
+            writes: Vec::new(alloc),
+            marks: Vec::new(alloc),
+            runs: 0,
+            sets: Vec::new(alloc),
+            others: Tally::none(),
+            refused: Tally::none(),
+        }
+    }
+
     /// Whether no boot was refused, and no run had an unexpected end, as `others` defines it.
     pub fn is_good(&self) -> bool {
         self.others.runs == 0 && self.refused.runs == 0
@@ -124,28 +87,25 @@ impl Found {
         cuts: Option<Cuts>,
         end: ScenarioEnd,
     ) -> Result<(), AllocError> {
-        self.all.count(cuts);
+        self.runs = self.runs.saturating_add(1);
         if end.is_refused {
             self.refused.count(cuts);
         }
-        self.count_set(cuts, end.versions)
+        self.add_set(SetTally {
+            versions: end.versions,
+            tally: Tally::one(cuts),
+        })
     }
 
-    /// Counts a run that ended with these images.
-    fn count_set(
-        &mut self,
-        cuts: Option<Cuts>,
-        versions: Option<ArrayVec<Version, MOST_IMAGES>>,
-    ) -> Result<(), AllocError> {
+    /// Counts runs that ended with these images.
+    pub(crate) fn add_set(&mut self, more: SetTally) -> Result<(), AllocError> {
         for set in &mut self.sets {
-            if is_same(&set.versions, &versions) {
-                set.tally.count(cuts);
+            if is_same(&set.versions, &more.versions) {
+                set.tally = set.tally.sum(more.tally);
                 return Ok(());
             }
         }
-        let mut tally = Tally::none();
-        tally.count(cuts);
-        match self.sets.push(SetTally { versions, tally }) {
+        match self.sets.push(more) {
             Ok(()) => Ok(()),
             Err(_) => Err(AllocError),
         }
@@ -156,7 +116,26 @@ impl Found {
         let Some(mark) = self.marks.get_mut((write as usize).wrapping_sub(1)) else {
             return;
         };
-        *mark = mark.and(outcome);
+        *mark = mark.sum(Mark::All(outcome));
+    }
+
+    /// Puts the sets in the order of their first runs.
+    pub(crate) fn sort(&mut self) {
+        self.sets
+            .sort_unstable_by_key(|set| place_of(set.tally.first));
+    }
+}
+
+/// The event without its bytes.
+pub(crate) fn without_bytes(event: &Event<Vec<u8>>) -> Event<()> {
+    match event {
+        Event::Accept(_) => Event::Accept(()),
+        Event::Piece(image, _) => Event::Piece(*image, ()),
+        Event::Finish(image) => Event::Finish(*image),
+        Event::Withdraw(image) => Event::Withdraw(*image),
+        Event::Confirm(image) => Event::Confirm(*image),
+        Event::Boot => Event::Boot,
+        Event::Reset => Event::Reset,
     }
 }
 

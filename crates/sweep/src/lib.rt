@@ -2,34 +2,41 @@
 //!
 //! - Promises: Each run of a sweep is a run of the machine over whole images, in which the flash
 //!   tears exactly the given writes. The versions that are reported to run at its end are those in
-//!   the primary slots.
-//! - Main calls: `run_scenario`
+//!   the primary slots. Marks and tallies of parts of the runs add up to those of all runs.
+//! - Main calls: `run_scenario`, `Mark::sum`, `Tally::sum`
 //! - Allocates: a copy of the flash for each run, a few numbers for each write and event, the text
 //!   of the answer.
 //! - Callers: any program that has provisioned a flash in memory.
 //!
-//! Tests check what is counted, printed and drawn.
+//! Tests check what is counted, printed, drawn and read back.
 #![tactic(auto)]
 
 mod cuts;
 mod device;
 mod found;
+mod marks;
+mod merging;
 mod notes;
 mod picture;
 mod plan;
 mod random_numbers;
+mod reading;
 mod running;
 mod scenario;
 mod scenario_run;
 mod sweeping;
+mod tally;
 mod text;
 
-pub use cuts::{Cuts, TEARS, Tear, TornWrite};
-pub use found::{Found, Mark, SetTally, Tally};
+pub use cuts::{Cuts, TEARS, Tear, TornWrite, place_of};
+pub use found::{Found, SetTally};
+pub use marks::Mark;
+pub use merging::add_output;
 pub use notes::{BootOutcome, CutNote, ScenarioEnd};
 pub use picture::picture_of;
-pub use plan::{Plan, Step, Watch};
+pub use plan::{Cutting, Part, Plan, Step, Watch};
 pub use scenario::Scenario;
 pub use scenario_run::run_scenario;
 pub use sweeping::sweep;
+pub use tally::Tally;
 pub use text::found_text;

@@ -1,8 +1,8 @@
-//! Draws a sweep: a row for each event, with a square for each write.
+//! Draws a sweep: rows for each event, with a square for each write.
 
-use crate::found::{EventWrites, Found, Mark};
+use crate::found::{EventWrites, Found};
+use crate::marks::Mark;
 use crate::notes::BootOutcome;
-use crate::scenario::Scenario;
 use crate::text::write_event;
 use common::event::Event;
 use std::alloc::{AllocError, Global};
@@ -16,6 +16,12 @@ const SQUARE: u64 = 8;
 /// The height of a row, in pixels.
 const ROW: u64 = 22;
 
+/// The number of squares in a row. An event with more writes has several rows.
+const MOST_SQUARES: u32 = 120;
+
+/// The width of the legend, in pixels.
+const LEGEND: u64 = 280;
+
 /// The marks, in the order of the legend.
 const MARKS: [Mark; 8] = [
     Mark::All(BootOutcome::Plain),
@@ -28,45 +34,58 @@ const MARKS: [Mark; 8] = [
     Mark::NotTried,
 ];
 
-/// The SVG picture of a sweep, in memory of `alloc`.
+/// The SVG picture of a sweep, in memory of `alloc`. The legend is on the right of the rows.
 ///
 /// # Errors
 /// `AllocError` if memory is refused.
-pub fn picture_of(
-    alloc: Global,
-    scenario: &Scenario<'_>,
-    found: &Found,
-) -> Result<String, AllocError> {
-    let width = width_of(&found.writes);
-    let rows = scenario.events.len() as u64;
-    let height = height_of(rows.saturating_add(MARKS.len() as u64 + 1));
+pub fn picture_of(alloc: Global, found: &Found) -> Result<String, AllocError> {
+    let right = right_of(&found.writes);
+    let width = right.saturating_add(LEGEND);
+    let height = height_of(rows_of(&found.writes).max(MARKS.len() as u64)).saturating_add(ROW / 2);
     let mut text = String::new(alloc);
     writeln!(
         text,
         "<svg xmlns=\"http://www.w3.org/2000/svg\" width=\"{width}\" height=\"{height}\" \
-         font-family=\"sans-serif\" font-size=\"12\">\n\
+         viewBox=\"0 0 {width} {height}\" font-family=\"sans-serif\" font-size=\"12\">\n\
          <rect width=\"100%\" height=\"100%\" fill=\"white\"/>"
     )?;
-    for (row, event) in scenario.events.iter().enumerate() {
-        draw_event(&mut text, row, event)?;
-        draw_writes(&mut text, row, found.writes_of(row))?;
+    let mut row = 0;
+    for (place, event) in found.events.iter().enumerate() {
+        let writes = found.writes_of(place);
+        draw_event(&mut text, row, place, event)?;
+        draw_writes(&mut text, row, writes)?;
+        row = row.saturating_add(rows_for(writes.marks.len() as u64));
     }
-    draw_legend(&mut text, rows.saturating_add(1))?;
+    draw_legend(&mut text, right)?;
     text.push_str("</svg>\n")?;
     Ok(text)
 }
 
-/// The width of the picture: the row with the most writes has to fit, and so do the texts.
-fn width_of(writes: &[u32]) -> u64 {
+/// The number of rows of an event with this many writes.
+fn rows_for(writes: u64) -> u64 {
+    writes.div_ceil(u64::from(MOST_SQUARES)).max(1)
+}
+
+/// The number of rows of all events.
+fn rows_of(writes: &[u32]) -> u64 {
+    let mut before = 0;
+    let mut rows: u64 = 0;
+    for end in writes {
+        rows = rows.saturating_add(rows_for(u64::from(end.saturating_sub(before))));
+        before = *end;
+    }
+    rows
+}
+
+/// The left edge of the legend: after the longest row.
+fn right_of(writes: &[u32]) -> u64 {
     let mut before = 0;
     let mut most = 0;
     for end in writes {
         most = end.saturating_sub(before).max(most);
         before = *end;
     }
-    SQUARE
-        .saturating_mul(u64::from(most).max(24))
-        .saturating_add(LEFT + SQUARE)
+    LEFT + SQUARE * (u64::from(most.min(MOST_SQUARES)) + 2)
 }
 
 /// The distance of a row from the top.
@@ -74,25 +93,30 @@ fn height_of(row: u64) -> u64 {
     row.saturating_mul(ROW).saturating_add(ROW / 2)
 }
 
-/// Draws the event of a row.
-fn draw_event(text: &mut String, row: usize, event: &Event<Vec<u8>>) -> Result<(), AllocError> {
-    let base = height_of(row as u64).saturating_add(13);
+/// Draws the event of this index in a row.
+fn draw_event(
+    text: &mut String,
+    row: u64,
+    place: usize,
+    event: &Event<()>,
+) -> Result<(), AllocError> {
+    let base = height_of(row).saturating_add(13);
     write!(text, "<text x=\"8\" y=\"{base}\">")?;
-    write_event(text, row, event)?;
+    write_event(text, place, event)?;
     text.push_str("</text>\n")
 }
 
-/// Draws a square for each write of the event of a row.
-fn draw_writes(text: &mut String, row: usize, writes: EventWrites<'_>) -> Result<(), AllocError> {
-    let top = height_of(row as u64);
-    let mut left = LEFT;
+/// Draws a square for each write of an event, from this row on.
+fn draw_writes(text: &mut String, row: u64, writes: EventWrites<'_>) -> Result<(), AllocError> {
     let mut write = u64::from(writes.before);
-    for mark in writes.marks {
+    for (place, mark) in writes.marks.iter().enumerate() {
+        let line = place as u64 / u64::from(MOST_SQUARES);
+        let top = height_of(row.saturating_add(line));
+        let left = LEFT + SQUARE * (place as u64 % u64::from(MOST_SQUARES));
         write = write.saturating_add(1);
         draw_square(text, *mark, left, top)?;
         let name = name_of(*mark);
         writeln!(text, "<title>write {write}: {name}</title></rect>")?;
-        left = left.saturating_add(SQUARE);
     }
     Ok(())
 }
@@ -107,16 +131,18 @@ fn draw_square(text: &mut String, mark: Mark, left: u64, top: u64) -> Result<(),
     )
 }
 
-/// Draws the legend of the squares, from this row on.
-fn draw_legend(text: &mut String, row: u64) -> Result<(), AllocError> {
-    let mut row = row;
-    for mark in &MARKS {
-        let top = height_of(row);
+/// Draws the legend of the squares, from this left edge on.
+fn draw_legend(text: &mut String, left: u64) -> Result<(), AllocError> {
+    let right = left.saturating_add(2 * SQUARE);
+    for (row, mark) in MARKS.iter().enumerate() {
+        let top = height_of(row as u64);
         let base = top.saturating_add(13);
-        draw_square(text, *mark, 8, top)?;
+        draw_square(text, *mark, left, top)?;
         let name = name_of(*mark);
-        writeln!(text, "</rect>\n<text x=\"24\" y=\"{base}\">{name}</text>")?;
-        row = row.saturating_add(1);
+        writeln!(
+            text,
+            "</rect>\n<text x=\"{right}\" y=\"{base}\">{name}</text>"
+        )?;
     }
     Ok(())
 }

@@ -4,9 +4,10 @@ ghost use Rattle.std.specs.Prelude.{◌≡◌, true};
 
 use crate::cuts::{Cuts, TEARS, Tear, TornWrite};
 use crate::device::device_over;
-use crate::found::{Found, Mark, Tally, is_same};
+use crate::found::{Found, is_same, without_bytes};
+use crate::marks::Mark;
 use crate::notes::{CutNote, ScenarioEnd, had_memory};
-use crate::plan::{Plan, Step, Watch};
+use crate::plan::{Cutting, Plan, Step, Watch};
 use crate::random_numbers::Random;
 use crate::scenario::Scenario;
 use crate::scenario_run::run_scenario;
@@ -41,17 +42,21 @@ struct Runs<'s, 'w, W> {
     alloc: Global,
     scenario: &'s Scenario<'s>,
     watch: &'w mut W,
+    plan: Plan,
     found: Found,
+    /// The versions that run at the end without a power cut. `None` if an image is damaged.
+    uncut: Option<ArrayVec<Version, MOST_IMAGES>>,
     /// The ends beside the event of the last cut.
     beside: Option<EndsBeside>,
-    /// The number of finished parts.
-    done: u32,
-    /// The number of parts.
-    all: u32,
+    /// How far the runs are.
+    at: Cutting,
 }
 
 /// Runs a scenario once without a power cut, and then once for each write and each way to tear it,
 /// or as `plan` says. `watch` sees each event of the first run, and each run after it.
+///
+/// If `plan` has a part of the runs, the findings are those of this part. The findings of all parts
+/// add up to those of all runs.
 ///
 /// Memory of `alloc` holds two copies of the flash at a time, and a few numbers for each write and
 /// each event.
@@ -64,31 +69,44 @@ pub fn sweep<W: Watch>(
     plan: Plan,
     watch: &mut W,
 ) -> Result<Found, AllocError> {
-    let writes = count_writes::<Brand, _>(alloc, Blank::new(2), scenario, watch)?;
-    let count = writes.last().copied().unwrap_or(0);
-    let marks = vec![in alloc; Mark::NotTried; count as usize]?;
+    let mut found = Found::nothing(alloc);
+    found.writes = count_writes::<Brand, _>(alloc, Blank::new(2), scenario, watch)?;
+    let count = found.writes.last().copied().unwrap_or(0);
+    found.marks = vec![in alloc; Mark::NotTried; count as usize]?;
+    for event in scenario.events {
+        found.events.push(without_bytes(event))?;
+    }
     let mut runs = Runs {
         alloc,
         scenario,
         watch,
-        found: Found {
-            writes,
-            marks,
-            sets: Vec::new(alloc),
-            all: Tally::none(),
-            others: Tally::none(),
-            refused: Tally::none(),
-        },
+        plan,
+        found,
+        uncut: None,
         beside: None,
-        done: 0,
-        all: plan.sample.unwrap_or(count),
+        at: Cutting {
+            done: 0,
+            all: plan.part.share(firsts_of(plan, count)),
+            seconds_done: 0,
+            seconds: 0,
+            runs: 0,
+        },
     };
     runs.run_uncut()?;
     match plan.sample {
-        None => runs.cut_each(plan.is_twice)?,
-        Some(_) => runs.cut_sample(plan)?,
+        None => runs.cut_each()?,
+        Some(_) => runs.cut_sample()?,
     }
     Ok(runs.into_found())
+}
+
+/// The number of first cuts that a plan tries, if the run without a cut makes this many writes.
+fn firsts_of(plan: Plan, writes: u32) -> u64 {
+    match plan.sample {
+        None => u64::from(writes) * TEARS.len() as u64,
+        Some(_) if writes == 0 => 0,
+        Some(sample) => u64::from(sample),
+    }
 }
 
 /// Runs the scenario without a power cut. Returns for each event the number of writes up to its
@@ -135,11 +153,15 @@ fn count_through<L: Ledger, W: Watch>(
 }
 
 impl<W: Watch> Runs<'_, '_, W> {
-    /// Runs the scenario without a power cut.
+    /// Runs the scenario without a power cut. The run counts in the first part only.
     fn run_uncut(&mut self) -> Result<(), AllocError> {
         self.watch.see(Step::Uncut);
         let end = run_scenario(self.alloc, self.scenario, &[])?;
-        self.found.count_run(None, end)
+        self.uncut = end.versions.clone()?;
+        if self.plan.part.has_uncut() {
+            self.found.count_run(None, end)?;
+        }
+        Ok(())
     }
 
     /// The number of writes in the run without a power cut.
@@ -148,27 +170,27 @@ impl<W: Watch> Runs<'_, '_, W> {
     }
 
     /// Tears each write in each way.
-    fn cut_each(&mut self, is_twice: bool) -> Result<(), AllocError> {
-        for done in 0..self.writes() {
-            self.done = done;
-            let write = done.saturating_add(1);
-            for tear in &TEARS {
-                self.cut_one(TornWrite { write, tear: *tear }, is_twice)?;
+    fn cut_each(&mut self) -> Result<(), AllocError> {
+        for index in 0..firsts_of(self.plan, self.writes()) {
+            if self.plan.part.has(index) {
+                self.cut_first(first_at(index))?;
             }
         }
         Ok(())
     }
 
-    /// Makes a run with this power cut. If `is_twice`, also makes one for each write of the boot
-    /// after it.
-    fn cut_one(&mut self, first: TornWrite, is_twice: bool) -> Result<(), AllocError> {
+    /// Makes a run with this power cut. If the plan has second cuts, also makes one for each write of
+    /// the boot after it.
+    fn cut_first(&mut self, first: TornWrite) -> Result<(), AllocError> {
         let writes = self.try_cuts(Cuts::One(first))?;
-        if is_twice {
+        if self.plan.is_twice {
+            self.at.seconds = u64::from(writes) * TEARS.len() as u64;
             for place in 0..writes {
                 let write = first.write.saturating_add(place).saturating_add(1);
                 self.cut_second(first, write)?;
             }
         }
+        self.end_first();
         Ok(())
     }
 
@@ -177,28 +199,48 @@ impl<W: Watch> Runs<'_, '_, W> {
         for tear in &TEARS {
             let second = TornWrite { write, tear: *tear };
             self.try_cuts(Cuts::Two(first, second))?;
+            self.at.seconds_done = self.at.seconds_done.saturating_add(1);
         }
         Ok(())
     }
 
     /// Makes a sample of runs, with random writes and random ways to tear them.
-    fn cut_sample(&mut self, plan: Plan) -> Result<(), AllocError> {
+    fn cut_sample(&mut self) -> Result<(), AllocError> {
         let count = self.writes();
         // The generator takes any number but 0.
-        let mut random = Random::new(plan.seed.max(1));
-        for done in 0..self.all {
-            self.done = done;
-            let Some(first) = drawn(&mut random, 0, count) else {
-                return Ok(());
+        let mut random = Random::new(self.plan.seed.max(1));
+        for index in 0..firsts_of(self.plan, count) {
+            // Each run draws the same numbers in each part, and however the other runs end.
+            let first = Draw::from(&mut random);
+            let second = match self.plan.is_twice {
+                true => Some(Draw::from(&mut random)),
+                false => None,
             };
-            let writes = self.try_cuts(Cuts::One(first))?;
-            if plan.is_twice {
-                if let Some(second) = drawn(&mut random, first.write, writes) {
-                    self.try_cuts(Cuts::Two(first, second))?;
-                }
+            if self.plan.part.has(index) {
+                self.cut_drawn(first, second)?;
             }
         }
         Ok(())
+    }
+
+    /// Makes a run with the first cut that was drawn, and one with both if there is a second one.
+    fn cut_drawn(&mut self, first: Draw, second: Option<Draw>) -> Result<(), AllocError> {
+        let Some(first) = first.cut(0, self.writes()) else {
+            return Ok(());
+        };
+        let writes = self.try_cuts(Cuts::One(first))?;
+        if let Some(second) = second.and_then(|second| second.cut(first.write, writes)) {
+            self.try_cuts(Cuts::Two(first, second))?;
+        }
+        self.end_first();
+        Ok(())
+    }
+
+    /// Notes that all runs of a first cut are finished.
+    fn end_first(&mut self) {
+        self.at.done = self.at.done.saturating_add(1);
+        self.at.seconds = 0;
+        self.at.seconds_done = 0;
     }
 
     /// Runs the scenario with these power cuts, and counts the outcome. Returns the number of
@@ -221,20 +263,15 @@ impl<W: Watch> Runs<'_, '_, W> {
             }
         }
         self.found.count_run(Some(cuts), end)?;
-        self.watch.see(Step::Cutting {
-            done: self.done,
-            all: self.all,
-            runs: self.found.all.runs,
-        });
+        self.at.runs = self.found.runs;
+        self.watch.see(Step::Cutting(self.at));
         Ok(writes)
     }
 
     /// Whether a run had an unexpected end, as [`Found::others`] defines it.
     fn is_other(&mut self, cut: &CutNote, end: &ScenarioEnd) -> Result<bool, AllocError> {
-        if let Some(uncut) = self.found.sets.first() {
-            if is_same(&uncut.versions, &end.versions) {
-                return Ok(false);
-            }
+        if is_same(&self.uncut, &end.versions) {
+            return Ok(false);
         }
         if let Some(known) = &self.beside {
             if known.event == cut.event {
@@ -253,31 +290,54 @@ impl<W: Watch> Runs<'_, '_, W> {
             alloc,
             scenario,
             watch,
-            found,
+            plan,
+            mut found,
+            uncut,
             beside,
-            done,
-            all,
+            at,
         } = self;
+        found.sort();
         found
     }
 }
 
-/// A random cut at one of the `count` writes after the first `before`. `None` if `count` is 0.
-fn drawn(random: &mut Random, before: u32, count: u32) -> Option<TornWrite> {
-    if count == 0 {
-        return None;
+/// The first cut of this index, in the order of a sweep that tears each write in each way.
+fn first_at(index: u64) -> TornWrite {
+    let tears = TEARS.len() as u64;
+    let write = (index / tears).saturating_add(1).min(u64::from(u32::MAX)) as u32;
+    TornWrite {
+        write,
+        tear: TEARS[(index % tears) as usize],
     }
-    let place = random.number() % count;
-    let tear = tear_at(random.number());
-    Some(TornWrite {
-        write: before.saturating_add(place).saturating_add(1),
-        tear,
-    })
 }
 
-/// The way to tear a write that a random number selects.
-fn tear_at(number: u32) -> Tear {
-    TEARS[(number % TEARS.len() as u32) as usize]
+/// Two random numbers, which select a write and a way to tear it.
+#[derive(Clone, Copy)]
+struct Draw {
+    write: u32,
+    tear: u32,
+}
+
+impl Draw {
+    /// The next two numbers.
+    fn from(random: &mut Random) -> Self {
+        Draw {
+            write: random.number(),
+            tear: random.number(),
+        }
+    }
+
+    /// The cut at one of the `count` writes after the first `before`. `None` if `count` is 0.
+    fn cut(self, before: u32, count: u32) -> Option<TornWrite> {
+        if count == 0 {
+            return None;
+        }
+        let place = self.write % count;
+        Some(TornWrite {
+            write: before.saturating_add(place).saturating_add(1),
+            tear: TEARS[(self.tear % TEARS.len() as u32) as usize],
+        })
+    }
 }
 
 impl EndsBeside {

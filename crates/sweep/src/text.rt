@@ -1,8 +1,7 @@
 //! Prints the findings of a sweep.
 
-use crate::found::{EventWrites, Found, Mark, SetTally, Tally};
-use crate::notes::BootOutcome;
-use crate::scenario::Scenario;
+use crate::found::{EventWrites, Found, SetTally};
+use crate::tally::Tally;
 use common::event::Event;
 use std::alloc::{AllocError, Global};
 
@@ -12,18 +11,14 @@ use std::alloc::{AllocError, Global};
 ///
 /// # Errors
 /// `AllocError` if memory is refused.
-pub fn found_text(
-    alloc: Global,
-    scenario: &Scenario<'_>,
-    found: &Found,
-) -> Result<String, AllocError> {
+pub fn found_text(alloc: Global, found: &Found) -> Result<String, AllocError> {
     let mut text = String::new(alloc);
-    for (place, event) in scenario.events.iter().enumerate() {
+    for (place, event) in found.events.iter().enumerate() {
         write_event(&mut text, place, event)?;
         write_marks(&mut text, found.writes_of(place))?;
         text.push_str("\n")?;
     }
-    let runs = found.all.runs;
+    let runs = found.runs;
     writeln!(text, "runs {runs}")?;
     write_sets(&mut text, &found.sets)?;
     write_wrong(&mut text, "other", &found.others)?;
@@ -36,7 +31,7 @@ pub fn found_text(
 pub(crate) fn write_event(
     text: &mut String,
     place: usize,
-    event: &Event<Vec<u8>>,
+    event: &Event<()>,
 ) -> Result<(), AllocError> {
     let number = place.saturating_add(1);
     write!(text, "{number} ")?;
@@ -60,23 +55,9 @@ fn write_marks(text: &mut String, writes: EventWrites<'_>) -> Result<(), AllocEr
     let first = writes.before.saturating_add(1);
     write!(text, " from {first} ")?;
     for mark in writes.marks {
-        text.push_str(character_of(*mark))?;
+        text.push_str(mark.character())?;
     }
     Ok(())
-}
-
-/// The character of a mark.
-fn character_of(mark: Mark) -> &'static str {
-    match mark {
-        Mark::NotTried => "_",
-        Mark::Several => "*",
-        Mark::All(BootOutcome::Plain) => ".",
-        Mark::All(BootOutcome::Trial) => "t",
-        Mark::All(BootOutcome::Permanent) => "p",
-        Mark::All(BootOutcome::Reverted) => "r",
-        Mark::All(BootOutcome::TrialAgain) => "a",
-        Mark::All(BootOutcome::Refused) => "x",
-    }
 }
 
 /// Adds the sets that ran at the end of a run, each with its number of runs and the cuts of the
