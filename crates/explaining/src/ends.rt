@@ -4,6 +4,7 @@ use crate::answers::explain_answer;
 use crate::choices::explain_choice;
 use crate::ended::Ended;
 use crate::files::{explain_flash, explain_lock, explain_source};
+use crate::fleets::explain_fleet;
 use crate::order_sources::{flash_name, image_name};
 use crate::remembering::Remembering;
 use crate::scripts::explain_line;
@@ -57,6 +58,7 @@ fn explain_refusal<H: Host>(
         Refusal::ReportLine(number) => {
             explain_report_line(notes, host.bytes_of(sources.report), number)
         }
+        Refusal::FleetLine => explain_fleet(notes),
         Refusal::NotValid => match Table::parse(host.bytes_of(sources.table)) {
             Ok(table) => explain_running(notes, &table),
             Err(_) => Ok(()),

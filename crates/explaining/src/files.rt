@@ -1,5 +1,7 @@
 //! Explains why a file can't be read or written.
 
+use crate::fleets::{explain_output, explain_summary};
+use crate::images::explain_bytes;
 use crate::order_sources::OrderSources;
 use crate::remembering::Remembering;
 use crate::scripts::explain_place;
@@ -11,7 +13,8 @@ use std::alloc::AllocError;
 const BAD_FILE: i32 = 9;
 
 /// Adds why a source is refused: the system's reason, the first script line that names a file which
-/// can't be read, and how to replace a file that isn't an image.
+/// can't be read, how to replace a file that isn't an image, why a requested file is no image, and
+/// the wrong line of a summary.
 pub fn explain_source<H: Host>(
     notes: &mut String,
     order: &Order<'_>,
@@ -26,7 +29,14 @@ pub fn explain_source<H: Host>(
             explain_place(notes, source, host.bytes_of(script))
         }
         SourceFault::CannotReplace => explain_error(notes, source, host),
-        SourceFault::NoImage => explain_names(notes, order, source),
+        SourceFault::NoImage => match order {
+            Order::Plan(_) => explain_bytes(notes, host.bytes_of(Some(source))),
+            _ => explain_names(notes, order, source),
+        },
+        SourceFault::CannotMerge(line) => match order {
+            Order::Plan(_) => explain_summary(notes, host.bytes_of(Some(source)), line),
+            _ => explain_output(notes, host.bytes_of(Some(source)), line),
+        },
         SourceFault::TooLong(_) => Ok(()),
     }
 }

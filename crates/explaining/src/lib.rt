@@ -7,9 +7,9 @@
 //!
 //! A command runs over a host that remembers what was read ([`Remembering`]). After its end, the
 //! notes are made from that ([`explain_end`]). Notes on a reply of a run follow the reply
-//! ([`ReplyNotes`]). So nothing is read twice, and a note speaks of the bytes that the command
-//! read. Only the length of a file that is too short or too long is read afterwards. `diagnostics`
-//! makes most sentences.
+//! ([`ReplyNotes`]), and notes on a plan follow its text ([`NotedPlan`]). So nothing is read twice,
+//! and a note speaks of the bytes that the command read. Only the length of a file that is too
+//! short or too long is read afterwards. `diagnostics` makes most sentences.
 //!
 //! Tests check the notes. If memory for a note runs out, or standard error takes no more, the other
 //! notes are left out. The exit status doesn't change.
@@ -22,9 +22,12 @@ mod ends;
 mod faults;
 mod files;
 mod flash_states;
+mod fleets;
 mod images;
 mod new_files;
+mod noted_plan;
 mod order_sources;
+mod plan_items;
 mod read_log;
 mod remembering;
 mod replies;
@@ -36,6 +39,8 @@ mod upload_log;
 mod uploads;
 
 pub use ends::explain_end;
+pub use noted_plan::{NotedPlan, explain_rows, notes_on_item};
+pub use plan_items::{PlanItems, first_piece};
 pub use read_log::ReadLog;
 pub use remembering::Remembering;
 pub use replies::ReplyNotes;

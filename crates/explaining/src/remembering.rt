@@ -67,6 +67,8 @@ impl<H: Host> Host for Remembering<H> {
 
     ghost file = { λ it. H.file it.host };
 
+    ghost stream = { λ it. H.stream it.host };
+
     ghost opened = { λ it. H.opened it.host };
 
     ghost synced = { λ it. H.synced it.host };
@@ -89,6 +91,22 @@ impl<H: Host> Host for Remembering<H> {
         match &read {
             Ok(bytes) => self.log.add_input(bytes),
             Err(error) => self.error.set(Some(*error)),
+        }
+        read
+    }
+
+    fn open_stream(&mut self, source: Source<'_>) -> io::Result<()> {
+        let opened = self.host.open_stream(source);
+        if let Err(error) = &opened {
+            self.error.set(Some(*error));
+        }
+        opened
+    }
+
+    fn read_stream(&mut self, buffer: &mut [u8]) -> io::Result<usize> {
+        let read = self.host.read_stream(buffer);
+        if let Err(error) = &read {
+            self.error.set(Some(*error));
         }
         read
     }
