@@ -75,6 +75,7 @@ with_arguments command arguments = fold with_argument command arguments
 abbrev pub name_for : Subcommand → Text
 name_for sub.Choose = codes "choose"
 name_for sub.Check = codes "check"
+name_for sub.Plan = codes "plan"
 name_for sub.Image = codes "image"
 name_for sub.Manifest = codes "manifest"
 name_for sub.MakeDevice = codes "make-device"
@@ -93,6 +94,9 @@ abbrev pub rules_of : Subcommand → List Rule
 rules_of sub.Choose = one_name (codes "TABLE") ∷ one_flag (codes "json") ∷ []
 rules_of sub.Check =
     one_name (codes "TABLE") ∷ one_name (codes "REPORT") ∷ one_flag (codes "json") ∷ []
+rules_of sub.Plan =
+    all_names (codes "FLEET") ∷ options (codes "request") ∷ one_flag (codes "summary")
+    ∷ one_flag (codes "merge") ∷ one_flag (codes "json") ∷ []
 rules_of sub.Image = one_name (codes "FILE") ∷ one_flag (codes "json") ∷ []
 rules_of sub.Manifest =
     one_name (codes "DEVICE") ∷ one_name (codes "FILE") ∷ one_flag (codes "json") ∷ []
@@ -123,9 +127,9 @@ rules_of sub.Run =
     one_name (codes "DEVICE") ∷ one_name (codes "FLASH") ∷ one_name (codes "SCRIPT")
     ∷ one_flag (codes "durable") ∷ one_flag (codes "strict") ∷ one_flag (codes "json") ∷ []
 rules_of sub.Sweep =
-    one_name (codes "DEVICE") ∷ one_name (codes "SCRIPT") ∷ all_names (codes "IMAGE")
-    ∷ one_flag (codes "twice") ∷ one_option (codes "sample") false
-    ∷ one_option (codes "seed") false ∷ one_option (codes "svg") false ∷ one_flag (codes "json") ∷ []
+    all_names (codes "FILE") ∷ one_flag (codes "merge") ∷ one_flag (codes "twice")
+    ∷ one_option (codes "sample") false ∷ one_option (codes "seed") false
+    ∷ one_option (codes "part") false ∷ one_option (codes "svg") false ∷ one_flag (codes "json") ∷ []
 rules_of sub.Codes = one_flag (codes "json") ∷ []
 
 -- The options that each subcommand has.
@@ -138,9 +142,9 @@ shape_for one = record (new_shape (name_for one)) { rules = rules_of one ++ opti
 
 -- The subcommands, in the order of the help.
 abbrev pub subcommands : List Subcommand
-subcommands = sub.Choose ∷ sub.Check ∷ sub.Image ∷ sub.Manifest ∷ sub.MakeDevice ∷ sub.MakeImage
-    ∷ sub.MakeManifest ∷ sub.Provision ∷ sub.Extract ∷ sub.Show ∷ sub.Slots ∷ sub.Run
-    ∷ sub.Sweep ∷ sub.Codes ∷ []
+subcommands = sub.Choose ∷ sub.Check ∷ sub.Plan ∷ sub.Image ∷ sub.Manifest ∷ sub.MakeDevice
+    ∷ sub.MakeImage ∷ sub.MakeManifest ∷ sub.Provision ∷ sub.Extract ∷ sub.Show ∷ sub.Slots
+    ∷ sub.Run ∷ sub.Sweep ∷ sub.Codes ∷ []
 
 -- The program without its subcommands. It has a version, and requires a subcommand.
 abbrev pub program : App

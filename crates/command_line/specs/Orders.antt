@@ -27,8 +27,12 @@ use Rattle.command_line.specs.declared.orders.NewFile.{NewFile}
 use Rattle.command_line.specs.declared.orders.NewImage.{NewImage}
 use Rattle.command_line.specs.declared.orders.NewManifest.{NewManifest}
 use Rattle.command_line.specs.declared.orders.Order.{Order}
+use Rattle.command_line.specs.declared.orders.PlanOrder.{PlanOrder}
+use Rattle.command_line.specs.declared.orders.PlanOrder.TheVariants.{Fleet, Merge}
+use Rattle.command_line.specs.declared.orders.RequestedFile.{RequestedFile}
 use Rattle.command_line.specs.declared.orders.SweepChoices.{SweepChoices}
-use Rattle.command_line.specs.declared.orders.Order.TheVariants.{Read, MakeDevice, MakeImage, MakeManifest, Device, Extract, Sweep}
+use Rattle.command_line.specs.declared.orders.SweepPart.{SweepPart}
+use Rattle.command_line.specs.declared.orders.Order.TheVariants.{Read, Plan, MakeDevice, MakeImage, MakeManifest, Device, Extract, Sweep, MergeSweeps}
 use Rattle.command_line.specs.declared.orders.ReadOrder.{ReadOrder}
 use Rattle.command_line.specs.declared.orders.ReadOrder.TheVariants.{Choose, Check, Image, Manifest, Show, Slots, Codes}
 
@@ -45,12 +49,14 @@ subcommand_to_read Codes = sub.Codes
 -- The subcommand of any order.
 abbrev pub subcommand_for : Order → Subcommand
 subcommand_for (Read order) = subcommand_to_read order
+subcommand_for (Plan order) = sub.Plan
 subcommand_for (MakeDevice device) = sub.MakeDevice
 subcommand_for (MakeImage image body values) = sub.MakeImage
 subcommand_for (MakeManifest device manifest) = sub.MakeManifest
 subcommand_for (Device order) = of_device.subcommand_for order
 subcommand_for (Extract device flash image side out) = sub.Extract
 subcommand_for (Sweep device script images choices) = sub.Sweep
+subcommand_for (MergeSweeps outputs picture) = sub.Sweep
 
 -- A word is this number: it has only digits, and is below 2 ^ 32.
 abbrev pub IsNumber : Text → ℕ → Type 0
@@ -158,12 +164,80 @@ pub record SaysManifest (rows : List Row) (manifest : NewManifest) : Type 0 wher
   pub components : SaysComponents rows manifest.components.items
   pub strict : manifest.is_strict ≡ is_given (codes "strict") rows
 
+-- `/`, which separates the number of a part from the number of parts.
+abbrev pub is_slash : ℕ → Bool
+is_slash byte = byte == 47
+
+-- A value names this part of a sweep: its number, `/`, and the number of parts.
+pub record IsSweepPart (word : Text) (part : SweepPart) : Type 0 where
+  pub parted : position_or_len is_slash word < length word
+  pub number : IsNumber (before_first is_slash word) part.number
+  pub parts : IsNumber (after_first is_slash word) part.parts
+  pub first : 1 ≤ part.number
+  pub last : part.number ≤ part.parts
+
+-- The part of a sweep that the matches have, if they have one.
+abbrev pub HasSweepPart : List Row → Option SweepPart → Type 0
+HasSweepPart rows None = first_of (codes "part") rows ≡ None
+HasSweepPart rows (Some part) =
+    IsSomeAnd (first_of (codes "part") rows) (λ word. IsSweepPart word part)
+
+-- The picture that the matches have, if they have one.
+abbrev pub HasPicture : List Row → Option (Bor Text) → Type 0
+HasPicture rows picture = option_map (λ file. file.now) picture ≡ first_of (codes "svg") rows
+
 -- The matches have these options of a sweep.
 pub record SaysSweep (rows : List Row) (choices : SweepChoices) : Type 0 where
   pub twice : choices.is_twice ≡ is_given (codes "twice") rows
   pub sample : HasNumber (codes "sample") (2 ^ 32) rows choices.sample
   pub seed : HasNumber (codes "seed") (2 ^ 32) rows choices.seed
-  pub picture : option_map (λ file. file.now) choices.picture ≡ first_of (codes "svg") rows
+  pub part : HasSweepPart rows choices.part
+  pub picture : HasPicture rows choices.picture
+
+-- The matches name the files of a sweep: the device file, the script, and at least one image.
+pub record NamesSweep (rows : List Row) (device script : Text) (images : List Text) : Type 0 where
+  pub files : all_of (codes "FILE") rows ≡ Some (device ∷ script ∷ images)
+  pub some : 0 < length images
+  pub swept : is_given (codes "merge") rows ≡ false
+
+-- The matches name outputs of sweeps that are to be merged. They have no option of a sweep but the
+-- picture.
+pub record NamesOutputs (rows : List Row) (outputs : List Text) : Type 0 where
+  pub files : all_of (codes "FILE") rows ≡ Some outputs
+  pub merged : is_given (codes "merge") rows ≡ true
+  pub once : is_given (codes "twice") rows ≡ false
+  pub no_sample : first_of (codes "sample") rows ≡ None
+  pub no_seed : first_of (codes "seed") rows ≡ None
+  pub no_part : first_of (codes "part") rows ≡ None
+
+-- A value names this file and the image that it is requested as: the number of the image, below 8,
+-- `=`, and the name of the file, which is all that follows the first `=`, and isn't `-`.
+pub record IsRequestedFile (word : Text) (requested : RequestedFile) : Type 0 where
+  pub parted : position_or_len is_equals_sign word < length word
+  pub image : number_below 256 (before_first is_equals_sign word) ≡ Some requested.image
+  pub there : requested.image < 8
+  pub file : requested.file.now ≡ after_first is_equals_sign word
+  pub plain : is_standard_input requested.file ≡ false
+
+-- The matches name one fleet, and these images that are requested.
+pub record SaysFleet (rows : List Row) (fleet : Text) (requests : List RequestedFile) (is_summary : Bool) : Type 0 where
+  pub one : all_of (codes "FLEET") rows ≡ Some (fleet ∷ [])
+  pub requests_are : AllZip IsRequestedFile (texts_at (codes "request") rows) requests
+  pub summary : is_summary ≡ is_given (codes "summary") rows
+  pub plan : is_given (codes "merge") rows ≡ false
+
+-- The matches name these summaries to add, and nothing that a plan would need.
+pub record SaysMerge (rows : List Row) (summaries : List Text) : Type 0 where
+  pub all : all_of (codes "FLEET") rows ≡ Some summaries
+  pub merge : is_given (codes "merge") rows ≡ true
+  pub requests : texts_at (codes "request") rows ≡ []
+  pub summary : is_given (codes "summary") rows ≡ false
+
+-- The matches of `plan` give this order.
+abbrev pub SaysPlan : List Row → PlanOrder → Type 0
+SaysPlan rows (Fleet fleet requests is_summary) =
+    SaysFleet rows fleet.now requests.items is_summary
+SaysPlan rows (Merge summaries) = SaysMerge rows (map (λ name. name.now) summaries.items)
 
 -- The matches describe this image file that is to be made.
 pub record IsNewFile (rows : List Row) (file : NewFile) : Type 0 where
@@ -201,6 +275,7 @@ HasNamesToRead rows Codes = ⊤
 -- The names and options of any order are those that the matches of its subcommand have.
 abbrev pub HasNames : List Row → Order → Type 0
 HasNames rows (Read order) = HasNamesToRead rows order
+HasNames rows (Plan order) = SaysPlan rows order
 HasNames rows (MakeDevice device) = SaysDevice rows device
 HasNames rows (MakeImage image body values) =
     IsNewFile rows image × IsNamed rows (codes "BODY") body.now
@@ -213,9 +288,10 @@ HasNames rows (Extract device flash image side out) =
     × (image_at rows ≡ Some image) × (side_at rows ≡ Some side)
     × IsNewFile rows out
 HasNames rows (Sweep device script images choices) =
-    IsNamed rows (codes "DEVICE") device.now × IsNamed rows (codes "SCRIPT") script.now
-    × (all_of (codes "IMAGE") rows ≡ Some (map (λ image. image.now) images.items))
+    NamesSweep rows device.now script.now (map (λ image. image.now) images.items)
     × SaysSweep rows choices
+HasNames rows (MergeSweeps outputs picture) =
+    NamesOutputs rows (map (λ output. output.now) outputs.items) × HasPicture rows picture
 
 -- A subcommand with these matches gives this order.
 abbrev pub Asks : Text → List Row → Order → Type 0
@@ -250,15 +326,22 @@ names_to_read (Show device flash) = device ∷ flash ∷ []
 names_to_read (Slots device flash) = device ∷ flash ∷ []
 names_to_read Codes = []
 
+-- The names of the fleet or of the summaries. The files of images aren't standard input.
+abbrev pub names_to_plan : PlanOrder → List (Bor Text)
+names_to_plan (Fleet fleet requests is_summary) = fleet ∷ []
+names_to_plan (Merge summaries) = summaries.items
+
 -- All the names of any order.
 abbrev pub names_of : Order → List (Bor Text)
 names_of (Read order) = names_to_read order
+names_of (Plan order) = names_to_plan order
 names_of (MakeDevice device) = []
 names_of (MakeImage image body values) = image.name ∷ body ∷ []
 names_of (MakeManifest device manifest) = device ∷ files_of manifest
 names_of (Device order) = of_device.names_of order
 names_of (Extract device flash image side out) = device ∷ flash ∷ out.name ∷ []
 names_of (Sweep device script images choices) = device ∷ script ∷ images.items
+names_of (MergeSweeps outputs picture) = outputs.items
 
 -- Whether the file that an order writes is standard input.
 abbrev pub writes_to_standard_input : Order → Bool
@@ -267,6 +350,8 @@ writes_to_standard_input (Device order) = of_device.writes_to_standard_input ord
 writes_to_standard_input (Extract device flash image side out) = is_standard_input out.name
 writes_to_standard_input (Sweep device script images choices) =
     option_map_or is_standard_input choices.picture false
+writes_to_standard_input (MergeSweeps outputs picture) =
+    option_map_or is_standard_input picture false
 writes_to_standard_input _ = false
 
 -- The fault of an order that misuses standard input.

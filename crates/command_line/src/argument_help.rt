@@ -8,6 +8,14 @@ pub const TABLE_FILE: &str = "The file of the table; `-` is standard input";
 
 pub const REPORT_FILE: &str = "The file of the report; `-` is standard input";
 
+pub const FLEET_FILES: &str = "The file of the fleet, or of summaries; `-` is standard input";
+
+pub const REQUEST: OptionHelp = OptionHelp("I=FILE", "Request FILE as image I of each device");
+
+pub const SUMMARY: &str = "Count the results instead of listing them";
+
+pub const MERGE_SUMMARIES: &str = "Add the summaries in these files";
+
 pub const IMAGE_FILE: &str = "The file of the image; `-` is standard input";
 
 pub const DEVICE_FILE: &str = "The device file; `-` is standard input";
@@ -89,6 +97,10 @@ pub const STRICT: &str = "End with status 1 if there is a note";
 
 pub const STRICT_RUN: &str = "End with status 1 if any reply is a refusal";
 
+pub const SWEPT_FILES: &str = "DEVICE, SCRIPT and IMAGEs, or OUTPUTs; `-` is standard input";
+
+pub const MERGE_OUTPUTS: &str = "Merge the outputs of parts, and run nothing";
+
 pub const TWICE: &str = "Also cut each write of the boot after a cut";
 
 pub const SAMPLE: OptionHelp = OptionHelp(
@@ -100,5 +112,7 @@ pub const SEED: OptionHelp = OptionHelp(
     "N",
     "Seed of the random cuts, 0 to 4294967295 [default: 1]",
 );
+
+pub const PART: OptionHelp = OptionHelp("K/N", "Make the share K of N of the runs, such as 1/4");
 
 pub const SVG: OptionHelp = OptionHelp("FILE", "The picture to make");

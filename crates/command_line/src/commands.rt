@@ -8,7 +8,7 @@ ghost use Rattle.command_line.specs.Given.{Finds};
 
 use crate::arguments::{Argument, with_arguments};
 use crate::help::Help;
-use crate::{argument_help, help};
+use crate::{argument_help, help, table_help};
 use clap::Command;
 use std::alloc::{AllocError, Global};
 
@@ -17,6 +17,14 @@ pub mod named {
     pub const TABLE: &str = "TABLE";
 
     pub const REPORT: &str = "REPORT";
+
+    pub const FLEET: &str = "FLEET";
+
+    pub const REQUEST: &str = "request";
+
+    pub const SUMMARY: &str = "summary";
+
+    pub const MERGE: &str = "merge";
 
     pub const FILE: &str = "FILE";
 
@@ -80,6 +88,8 @@ pub mod named {
 
     pub const SVG: &str = "svg";
 
+    pub const PART: &str = "part";
+
     pub const JSON: &str = "json";
 
     pub const EXPLAIN: &str = "explain";
@@ -132,6 +142,20 @@ const CHECK: &Definition = &Definition {
     arguments: &[
         Argument::File(named::TABLE, argument_help::TABLE_FILE),
         Argument::File(named::REPORT, argument_help::REPORT_FILE),
+        JSON,
+        EXPLAIN,
+        COLOR,
+    ],
+};
+
+const PLAN: &Definition = &Definition {
+    name: "plan",
+    usage_name: "bootswap plan",
+    arguments: &[
+        Argument::Files(named::FLEET, argument_help::FLEET_FILES),
+        Argument::Repeated(named::REQUEST, argument_help::REQUEST),
+        Argument::Flag(named::SUMMARY, argument_help::SUMMARY),
+        Argument::Flag(named::MERGE, argument_help::MERGE_SUMMARIES),
         JSON,
         EXPLAIN,
         COLOR,
@@ -288,12 +312,12 @@ const SWEEP: &Definition = &Definition {
     name: "sweep",
     usage_name: "bootswap sweep",
     arguments: &[
-        Argument::File(named::DEVICE, argument_help::DEVICE_FILE),
-        Argument::File(named::SCRIPT, argument_help::SCRIPT_FILE),
-        Argument::Files(named::IMAGE, argument_help::IMAGE_FILES),
+        Argument::Files(named::FILE, argument_help::SWEPT_FILES),
+        Argument::Flag(named::MERGE, argument_help::MERGE_OUTPUTS),
         Argument::Flag(named::TWICE, argument_help::TWICE),
         Argument::Optional(named::SAMPLE, argument_help::SAMPLE),
         Argument::Optional(named::SEED, argument_help::SEED),
+        Argument::Optional(named::PART, argument_help::PART),
         Argument::Optional(named::SVG, argument_help::SVG),
         JSON,
         EXPLAIN,
@@ -312,6 +336,7 @@ const CODES: &Definition = &Definition {
 pub enum Subcommand {
     Choose,
     Check,
+    Plan,
     Image,
     Manifest,
     MakeDevice,
@@ -327,9 +352,10 @@ pub enum Subcommand {
 }
 
 /// The subcommands, in the order of the help.
-pub const SUBCOMMANDS: [Subcommand; 14] = [
+pub const SUBCOMMANDS: [Subcommand; 15] = [
     Subcommand::Choose,
     Subcommand::Check,
+    Subcommand::Plan,
     Subcommand::Image,
     Subcommand::Manifest,
     Subcommand::MakeDevice,
@@ -420,6 +446,7 @@ impl Subcommand {
         match self {
             Subcommand::Choose => CHOOSE,
             Subcommand::Check => CHECK,
+            Subcommand::Plan => PLAN,
             Subcommand::Image => IMAGE,
             Subcommand::Manifest => MANIFEST,
             Subcommand::MakeDevice => MAKE_DEVICE,
@@ -438,8 +465,9 @@ impl Subcommand {
     /// Returns its help.
     pub fn help(self) -> &'static Help {
         match self {
-            Subcommand::Choose => help::CHOOSE,
-            Subcommand::Check => help::CHECK,
+            Subcommand::Choose => table_help::CHOOSE,
+            Subcommand::Check => table_help::CHECK,
+            Subcommand::Plan => table_help::PLAN,
             Subcommand::Image => help::IMAGE,
             Subcommand::Manifest => help::MANIFEST,
             Subcommand::MakeDevice => help::MAKE_DEVICE,

@@ -41,8 +41,8 @@ Without arguments the program does `choose` on standard input. `-` as a file
 name is standard input. With `--explain` a command prints on standard error why
 its answer is as it is: what is wrong in a refused file, what may stand there,
 and why a request is refused. With `--json` the commands `choose`, `check`,
-`image`, `manifest`, `show`, `slots`, `run`, `sweep` and `codes` print their
-answer as JSON.",
+`plan`, `image`, `manifest`, `show`, `slots`, `run`, `sweep` and `codes` print
+their answer as JSON.",
     after: "Exit status: 0 done, 1 refused, 2 usage error, 3 power cut, 4 flash file failed.
 See `bootswap --help` for more, `bootswap help run` for the lines of a script,
 and `bootswap codes` for the codes and names of refusals.",
@@ -69,108 +69,11 @@ Examples:
   bootswap choose table.txt
   bootswap choose table.txt > report.txt
   bootswap check table.txt report.txt --explain
+  bootswap plan fleet.txt --summary --request 0=a.img
   bootswap image firmware.img
   bootswap manifest device.json manifest.json
 
 See `bootswap help COMMAND` for what a command reads and prints.",
-};
-
-pub const CHOOSE: &Help = &Help {
-    usage: "bootswap choose [OPTIONS] <TABLE>",
-    about: "Decide which requested images of a table run together",
-    long_about: "Read a table, decide which of its requested images run together, and print the
-report.
-
-A table has 1 to 8 images, in these lines:
-  image IMAGE VERSION COUNTER FLOOR
-      begin an image: its number, from 0 in order; the running version; its
-      security counter; the floor, which is the lowest accepted counter
-  needs IMAGE VERSION
-      the running or requested image above needs that image, in at least that
-      version; at most 16 lines each
-  needs-one IMAGE VERSION ..
-      it needs one of these 1 to 4 images, in at least its version; at most 4
-      lines each, after those with `needs`
-  request VERSION COUNTER
-      this intact image is requested in place of the running one
-  damaged
-      the requested bytes are no intact image
-
-An image has at most one line `request` or `damaged`. One space separates the
-words of a line. VERSION is `major.minor.revision+build`; parts at the end may
-be left out if they are 0. IMAGE is 0 to 255, COUNTER and FLOOR 0 to 4294967295.
-
-A table of two images, of which each request needs the other:
-  image 0 1.0.0+0 0 0
-  request 2.0.0+0 0
-  needs 1 2.0.0+0
-  image 1 1.0.0+0 0 0
-  request 2.0.0+0 0
-  needs 0 2.0.0+0
-
-The report has a line `take IMAGE VERSION` or `run IMAGE VERSION` for each
-image, then a line `refuse IMAGE REASON` for each refused request. The report of
-the table above:
-  take 0 2.0.0+0
-  take 1 2.0.0+0
-
-See `bootswap help check` for the reasons.",
-    after: "Exit status: 0 done, 1 refused, 2 usage error.
-Example: bootswap choose table.txt
-See `bootswap choose --help` for the lines of a table.",
-    long_after: "Exit status:
-  0  the report is printed
-  1  standard error has a line `error: ..`: `table line 3` for the first line
-     after which nothing makes the text a table, `running set not valid` if the
-     running images don't fit each other, `cannot read NAME`, or `memory`; or
-     the report could not be written
-  2  usage error
-
-Examples:
-  bootswap choose table.txt
-  bootswap choose - < table.txt",
-};
-
-pub const CHECK: &Help = &Help {
-    usage: "bootswap check [OPTIONS] <TABLE> <REPORT>",
-    about: "Check whether a report is right for a table",
-    long_about: "Read a table and a report, and print `yes` if the report is right for the table,
-else `no`.
-
-A report is right if it has the table's images, takes a valid set, and refuses
-each other request once, for a reason that holds given the refusals before it.
-Then the set that it takes is the greatest valid set. The reasons:
-  damaged              the requested bytes are no intact image
-  older                its version is below the running one
-  counter              its security counter is below the floor
-  no-such-image IMAGE  it needs an image that the table doesn't have
-  needs IMAGE VERSION  it needs this version of an image, and no request that
-                       can still be taken reaches it
-  needs-one IMAGE VERSION ..
-                       it needs one of these images, and none of them can still
-                       reach its version
-
-A report for a table of three images:
-  run 0 1.0.0+0
-  take 1 2.0.0+0
-  run 2 1.0.0+0
-  refuse 0 older
-  refuse 2 needs 0 1.0.0+1
-
-See `bootswap help choose` for the lines of a table.",
-    after: "Exit status: 0 yes, 1 no or refused, 2 usage error.
-Example: bootswap check table.txt report.txt
-See `bootswap check --help` for the lines of a report.",
-    long_after: "Exit status:
-  0  the answer is `yes`
-  1  the answer is `no`; or standard error has a line `error: ..`, such as
-     `table line 3`, or `report line 2` for the first line after which nothing
-     makes the text a report; or the answer could not be written
-  2  usage error
-
-Examples:
-  bootswap check table.txt report.txt
-  bootswap choose table.txt | bootswap check table.txt -",
 };
 
 pub const IMAGE: &Help = &Help {
@@ -671,7 +574,8 @@ Examples:
 };
 
 pub const SWEEP: &Help = &Help {
-    usage: "bootswap sweep [OPTIONS] <DEVICE> <SCRIPT> <IMAGE>...",
+    usage: "bootswap sweep [OPTIONS] <DEVICE> <SCRIPT> <IMAGE>...
+       bootswap sweep --merge [--svg <FILE>] <OUTPUT>...",
     about: "Cut power at each write of a script, and print how runs end",
     long_about: "Provision a device in memory with these images, as `provision` does, and run a
 script on it as `run` does: once for each write of its flash and each way to
@@ -705,7 +609,11 @@ script can end if power fails before or after the event, or if the event is left
 out. `refused COUNT cut WRITE TORN` counts runs in which a boot gave no answer.
 
 `--twice` also cuts each write of the boot after a cut. `--sample N` tries N
-random cuts instead of all, for a long script. `--svg FILE` draws the output.",
+random cuts instead of all, for a long script. `--svg FILE` draws the output.
+
+`--part K/N` makes the share K of N of the runs, so that N processes can share a
+sweep. The run without a cut counts in part 1. `--merge` reads the outputs of
+all parts, and prints what one process prints for all runs.",
     after: "Exit status: 0 done, 1 refused, 2 usage error.
 Example: bootswap sweep device.json script.txt a.img b.img
 See `bootswap sweep --help` for what is printed.",
@@ -717,14 +625,18 @@ See `bootswap sweep --help` for what is printed.",
      line `error: ..`: `device file`, `image count`, `image 1 too big`,
      `script line 1` for the first wrong line, `picture is an input` if FILE is
      an input file or one that the script names, `cannot write NAME` if it can't
-     be made, `cannot read NAME`, or `memory`; or the output could not be
-     written
+     be made, `cannot read NAME`, `cannot merge NAME line 3` for the first line
+     of an OUTPUT that is wrong or doesn't fit those before it, or `memory`; or
+     the output could not be written
   2  usage error
 
 Examples:
   bootswap sweep device.json script.txt a.img b.img
   bootswap sweep --twice --svg sweep.svg device.json script.txt a.img b.img
-  bootswap sweep --sample 10000 --seed 7 device.json long.txt a.img b.img",
+  bootswap sweep --sample 10000 --seed 7 device.json long.txt a.img b.img
+  bootswap sweep --part 1/2 device.json script.txt a.img b.img > 1.txt
+  bootswap sweep --part 2/2 device.json script.txt a.img b.img > 2.txt
+  bootswap sweep --merge 1.txt 2.txt",
 };
 
 pub const CODES: &Help = &Help {

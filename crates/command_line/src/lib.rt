@@ -24,6 +24,7 @@ mod matching;
 mod orders;
 mod sizes;
 mod standard_input;
+mod table_help;
 
 pub use argument_help::OptionHelp;
 pub use arguments::Argument;
@@ -37,8 +38,8 @@ pub use matching::{
     images_in, is_explained, is_given, is_json, matches_of, name_in, named_in, names_in,
 };
 pub use orders::{
-    NewComponent, NewDevice, NewFile, NewImage, NewManifest, Order, ReadOrder, Request,
-    SweepChoices,
+    NewComponent, NewDevice, NewFile, NewImage, NewManifest, Order, PlanOrder, ReadOrder, Request,
+    RequestedFile, SweepChoices, SweepPart,
 };
 pub use sizes::size_of;
 pub use standard_input::{inputs_with, is_standard_input, standard_inputs};

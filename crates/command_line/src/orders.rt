@@ -71,6 +71,15 @@ pub struct NewManifest<'a> {
     pub is_strict: bool,
 }
 
+/// A part of the runs of a sweep, which is shared by several processes.
+#[derive(Clone, Copy)]
+pub struct SweepPart {
+    /// Its number, from 1.
+    pub number: u32,
+    /// The number of parts, at least `number`.
+    pub parts: u32,
+}
+
 /// The options of `sweep`.
 #[derive(Clone, Copy)]
 pub struct SweepChoices<'a> {
@@ -80,8 +89,38 @@ pub struct SweepChoices<'a> {
     pub sample: Option<u32>,
     /// The seed of the random cuts, if it is given.
     pub seed: Option<u32>,
+    /// The part of the runs to make. If `None`, it is all of them.
+    pub part: Option<SweepPart>,
     /// The name of the picture to make, if it is given.
     pub picture: Option<&'a str>,
+}
+
+/// A file whose image is requested of each device of a fleet.
+#[derive(Clone, Copy)]
+pub struct RequestedFile<'a> {
+    /// The number of the image, 0 to 7.
+    pub image: u8,
+    /// The name of the file, which isn't that of standard input.
+    pub file: &'a str,
+}
+
+/// What `plan` is asked for.
+#[derive(Drop)]
+pub enum PlanOrder<'a> {
+    /// Decides over the table of each device of a fleet.
+    Fleet {
+        /// The name of the fleet.
+        fleet: &'a str,
+        /// The images that are requested in place of the requests in the tables.
+        requests: Vec<RequestedFile<'a>>,
+        /// Whether the results are counted instead of listed.
+        is_summary: bool,
+    },
+    /// `--merge`: adds summaries.
+    Merge {
+        /// The names of the summaries, in the order of their parts of the fleet.
+        summaries: Vec<&'a str>,
+    },
 }
 
 /// An order of a command that only reads.
@@ -134,6 +173,8 @@ pub enum ReadOrder<'a> {
 pub enum Order<'a> {
     /// A command that writes nothing but its answer.
     Read(ReadOrder<'a>),
+    /// `plan`: decides for each device of a fleet, or adds summaries.
+    Plan(PlanOrder<'a>),
     /// `make-device`: makes a device file.
     MakeDevice {
         /// The device.
@@ -180,6 +221,13 @@ pub enum Order<'a> {
         images: Vec<&'a str>,
         /// Its options.
         choices: SweepChoices<'a>,
+    },
+    /// `sweep --merge`: adds up the outputs of sweeps.
+    MergeSweeps {
+        /// The names of the outputs.
+        outputs: Vec<&'a str>,
+        /// The name of the picture to make, if it is given.
+        picture: Option<&'a str>,
     },
 }
 
