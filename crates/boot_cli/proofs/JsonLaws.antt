@@ -6,7 +6,7 @@ use Rattle.std.proofs.KnownBytes.{Appends-kept}
 use Rattle.command_line.specs.declared.orders.Order.{Order}
 use Rattle.host.specs.declared.answer.Answer.TheVariants.{Done}
 use Rattle.host.specs.Input.{FileBytes}
-use Rattle.boot_cli.specs.JsonEnd.{AnswersJson, WritesValue, is_by_replies}
+use Rattle.boot_cli.specs.JsonEnd.{AnswersJson, WritesValue, is_by_lines}
 use Rattle.boot_cli.specs.OrderEnd.{AnswersOrder}
 
 WritesValue-kept : (old mid new : Option (List ℕ)) → WritesValue old mid → Keeps mid new → WritesValue old new
@@ -29,5 +29,5 @@ pub AnswersJson-kept : (asked : Order) (input : Option (List ℕ)) (file then : 
     → AnswersJson Done asked input file then old mid → Keeps mid new
     → AnswersJson Done asked input file then old new
 AnswersJson-kept asked input file then old mid new answered kept =
-    either-kept (is_by_replies asked) _ (λ text. AnswersOrder Done asked input file then (Some []) (Some text))
+    either-kept (is_by_lines asked) _ (λ text. AnswersOrder Done asked input file then (Some []) (Some text))
     old mid new answered kept

@@ -3,5 +3,6 @@ mod Found
 mod JsonLaws
 mod NeedLaws
 mod OrderLaws
+mod PlanWordsLaws
 mod SweepLaws
 mod WordsLaws

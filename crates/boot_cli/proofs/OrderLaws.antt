@@ -9,6 +9,7 @@ use Rattle.host.specs.declared.answer.Answer.TheVariants.{Done}
 use Rattle.host.specs.declared.error.Refusal.{Refusal}
 use Rattle.host.specs.Status.{Ends}
 use Rattle.host.specs.Input.{FileBytes}
+use Rattle.inspecting.proofs.PlanAnswerLaws.{AnswersPlan-kept}
 use Rattle.inspecting.proofs.ReadingLaws.{AnswersReading-kept}
 use Rattle.device_commands.proofs.KeptLaws.{AnswersCore-kept}
 use Rattle.device_commands.proofs.WordsLaws.{only_cut}
@@ -44,8 +45,11 @@ AnswersOrder-kept (order.Extract device flash image side out) input file then ol
 )
 AnswersOrder-kept (order.Sweep device script images choices) input file then old mid new answered kept =
     (answered.0, answered.1, answered.2, answered.3, answered.4)
+AnswersOrder-kept (order.MergeSweeps outputs picture) input file then old mid new answered kept = answered
 AnswersOrder-kept (order.Device asked) input file then old mid new answered kept =
     AnswersCore-kept asked input file then old mid new answered kept
+AnswersOrder-kept (order.Plan asked) input file then old mid new answered kept =
+    AnswersPlan-kept asked input file old mid new answered kept
 AnswersOrder-kept (order.Read asked) input file then old mid new answered kept =
     AnswersReading-kept asked input file old mid new answered kept
 

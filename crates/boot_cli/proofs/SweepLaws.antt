@@ -7,7 +7,7 @@ use Rattle.device_texts.specs.declared.line.Line.{Line}
 use Rattle.device_texts.proofs.LineLaws.{one_line}
 use Rattle.inputs.specs.Loading.{IsNextLine}
 use Rattle.inputs.specs.declared.lines.Lines.{Lines}
-use Rattle.std.specs.Prelude.{IsSomeAnd}
+use Rattle.std.specs.Prelude.{IfSome, IsSomeAnd}
 use Rattle.std.specs.Borrow.{Bor}
 use Rattle.host.specs.declared.answer.Answer.{Answer}
 use Rattle.host.specs.declared.answer.Answer.TheVariants.{Done, Refused, Cut}
@@ -18,7 +18,8 @@ use Rattle.inputs.specs.DeviceInput.{GivesDevice}
 use Rattle.host.specs.declared.source.Source.TheVariants.{StandardInput, File}
 use Rattle.host.specs.Doings.{KeepsSource}
 use Rattle.host.specs.Input.{FileBytes, Gives, IsKnownAs, KeepsFiles, KeepsOthers}
-use Rattle.boot_cli.specs.SweepEnd.{AnswersSweep, IsNamedBy, IsNamedIn, IsOther, KeepsInputs, KeepsRead, LineNames, SaysFile, SomeNames, SweepsDevice}
+use Rattle.device_commands.specs.ProvisionEnd.{AreOthers}
+use Rattle.boot_cli.specs.SweepEnd.{AnswersSweep, KeepsBesides, KeepsOutputs, IsNamedBy, IsNamedIn, IsOther, KeepsInputs, KeepsRead, LineNames, SaysFile, SomeNames, SweepsDevice}
 use Rattle.inputs.specs.Script.{IsScript, Known, StaysKnown, known_after}
 use Rattle.host.specs.Status.{status_of_answer}
 use Rattle.host.proofs.InputLaws.{IsKnownAs-kept, GiveEach-one, GiveEach-read, KeepsFiles-twice, KeepsSource-kept, kept_twice}
@@ -137,3 +138,22 @@ pub apart_more : (apart : List ℕ → List ℕ → Bool) (picture text : List �
     → AreApartBefore apart picture text old.rest.now → AreApartBefore apart picture text new.rest.now
 apart_more apart picture text old new line next others before name named =
     apart_on apart picture old new line next others name (before name named)
+
+-- If all files were kept, the outputs that are merged were.
+pub outputs_kept : (outputs : List (Bor (List ℕ))) (picture : Option (Bor (List ℕ))) (old new : FileBytes)
+    → KeepsFiles old new → KeepsOutputs outputs picture old new
+outputs_kept outputs picture old new kept =
+    record { outputs_kept = λ place word at differs. kept word.now; all_kept = λ none. kept }
+
+-- They were also kept if all files were kept before, and the picture is no output.
+pub outputs_later : (outputs : List (Bor (List ℕ))) (picture : Option (Bor (List ℕ)))
+    (apart : List ℕ → List ℕ → Bool) (old mid new : FileBytes) → KeepsFiles old mid
+    → IfSome picture (λ one. AreOthers (apart one.now) outputs) → KeepsBesides picture apart mid new
+    → KeepsOutputs outputs picture old new
+outputs_later outputs None apart old mid new before others later =
+    outputs_kept outputs None old new (KeepsFiles-twice old mid new before later)
+outputs_later outputs (Some picture) apart old mid new before others later = record {
+  outputs_kept = λ place word at differs. kept_twice (old word.now) (mid word.now) (new word.now) (before word.now)
+      (later word.now (others place word at differs));
+  all_kept = λ none. absurd (cc none);
+}

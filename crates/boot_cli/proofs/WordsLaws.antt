@@ -22,7 +22,9 @@ no_order_helps_none kind other no_help same helps = absurd (cc (ap is_help same,
 helped : (words : List Text) (kind : ErrorKind) → is_help kind ≡ true → IsFault words kind → AskHelp words
 helped words kind helps (of_clap among) = record { kind = kind; among = among; helps = helps }
 helped words kind helps (no_order taken none (inl same)) = absurd (no_order_helps_none kind _ refl same helps)
-helped words kind helps (no_order taken none (inr same)) = absurd (no_order_helps_none kind _ refl same helps)
+helped words kind helps (no_order taken none (inr (inl same))) = absurd (no_order_helps_none kind _ refl same helps)
+helped words kind helps (no_order taken none (inr (inr (inl same)))) = absurd (no_order_helps_none kind _ refl same helps)
+helped words kind helps (no_order taken none (inr (inr (inr same)))) = absurd (no_order_helps_none kind _ refl same helps)
 helped words kind helps (misuse order taken asks is_misuse) =
     absurd (misuse_helps_none (writes_to_standard_input order) _ kind is_misuse helps)
 

@@ -1,9 +1,11 @@
 -- The answer to an order as JSON, or as text.
-use Rattle.std.specs.Prelude.{ℕ, Bool, List, [], ◌∷◌, ◌++◌, MatchBool, None, Option, Some, false, true}
+use Rattle.std.specs.Prelude.{ℕ, Bool, List, [], ◌∷◌, ◌++◌, MatchBool, None, Option, Some, false, not, true}
 use Rattle.std.specs.Io.KnownBytes.{Appends}
 use Rattle.serde_json.specs.Data.{Data}
 use Rattle.serde_json.specs.Written.{IsInOrder}
 use Rattle.command_line.specs.declared.orders.Order.{Order}
+use Rattle.command_line.specs.declared.orders.PlanOrder.{PlanOrder}
+use Rattle.command_line.specs.declared.orders.PlanOrder.TheVariants.{Fleet, Merge}
 use Rattle.command_line.specs.declared.orders.Order.TheVariants as order
 use Rattle.host.specs.declared.answer.Answer.{Answer}
 use Rattle.host.specs.Input.{FileBytes}
@@ -16,19 +18,32 @@ pub record WritesValue (old new : Option (List ℕ)) : Type 0 where
   pub spelled : IsInOrder text value
   pub taken : Appends old new (text ++ 10 ∷ [])
 
--- Whether the answer to an order is written reply by reply.
-abbrev pub is_by_replies : Order → Bool
-is_by_replies (order.Device asked) = true
-is_by_replies _ = false
+-- Whether a plan lists the devices of a fleet. Otherwise it counts them, or adds summaries.
+abbrev pub lists_devices : PlanOrder → Bool
+lists_devices (Fleet fleet requests is_summary) = not is_summary
+lists_devices (Merge summaries) = false
 
--- The answer to an order as JSON. The command wrote its own answer as a text, and the output took a
--- JSON value. A run writes a value for each reply, and this says nothing of these values.
+-- Whether the answer to an order is several objects: one for each reply of a run, or for each device
+-- of a plan.
+abbrev pub is_by_lines : Order → Bool
+is_by_lines (order.Device asked) = true
+is_by_lines (order.Plan asked) = lists_devices asked
+is_by_lines _ = false
+
+-- The command wrote its own answer as a text, and the output took a JSON value.
+abbrev pub AnswersObject : Answer → Order → Option (List ℕ) → FileBytes → FileBytes
+    → Option (List ℕ) → Option (List ℕ) → Type 0
+AnswersObject answer asked input file then old new =
+    (text : List ℕ) × AnswersOrder answer asked input file then (Some []) (Some text)
+    × WritesValue old new
+
+-- The answer to an order as JSON. Of several objects this says nothing: it says what the command did
+-- with its files, as without JSON.
 abbrev pub AnswersJson : Answer → Order → Option (List ℕ) → FileBytes → FileBytes
     → Option (List ℕ) → Option (List ℕ) → Type 0
-AnswersJson answer asked input file then old new = MatchBool (is_by_replies asked)
+AnswersJson answer asked input file then old new = MatchBool (is_by_lines asked)
     (AnswersOrder answer asked input file then None None)
-    ((text : List ℕ) × AnswersOrder answer asked input file then (Some []) (Some text)
-    × WritesValue old new)
+    (AnswersObject answer asked input file then old new)
 
 -- The answer to an order, as JSON or as text.
 abbrev pub AnswersIn : Bool → Answer → Order → Option (List ℕ) → FileBytes → FileBytes

@@ -1,18 +1,20 @@
 -- The answer to an order, and which files a sweep keeps.
-use Rattle.std.specs.Prelude.{ℕ, List, Option}
+use Rattle.std.specs.Prelude.{◌≤◌, ℕ, List, Option}
 use Rattle.command_line.specs.declared.orders.Order.{Order}
 use Rattle.command_line.specs.declared.orders.Order.TheVariants as order
 use Rattle.host.specs.declared.answer.Answer.{Answer}
 use Rattle.host.specs.declared.source.Source.{Source}
 use Rattle.host.specs.Input.{AreNamed, FileBytes, IsNamed}
+use Rattle.host.specs.Status.{status_of_answer}
 use Rattle.creating.specs.CopyEnd.{AnswersCopy}
 use Rattle.creating.specs.NewDeviceEnd.{AnswersNewDevice}
 use Rattle.creating.specs.NewFileEnd.{Replaces}
 use Rattle.creating.specs.NewImageEnd.{AnswersNewImage}
 use Rattle.creating.specs.NewManifestEnd.{AnswersNewManifest}
+use Rattle.inspecting.specs.PlanAnswers.{AnswersPlan}
 use Rattle.inspecting.specs.ReadingEnd.{AnswersReading}
 use Rattle.device_commands.specs.CoreEnd.{AnswersCore}
-use Rattle.boot_cli.specs.SweepEnd.{AnswersSweep, KeepsInputs}
+use Rattle.boot_cli.specs.SweepEnd.{AnswersSweep, KeepsInputs, KeepsOutputs}
 
 -- The answer to an order of this command. The files hold `then` after it.
 abbrev pub AnswersOrder : Answer → Order → Option (List ℕ) → FileBytes → FileBytes
@@ -34,14 +36,20 @@ AnswersOrder answer (order.Sweep device script images choices) input file then o
     (one other : Source) × AreNamed device.now script.now one other
     × AnswersSweep answer one other input file old new
     × KeepsInputs one other images.items choices.picture file then
+AnswersOrder answer (order.MergeSweeps outputs picture) input file then old new =
+    (status_of_answer answer ≤ 1) × KeepsOutputs outputs.items picture file then
 AnswersOrder answer (order.Device asked) input file then old new =
     AnswersCore answer asked input file then old new
+AnswersOrder answer (order.Plan asked) input file then old new =
+    AnswersPlan answer asked input file old new
 AnswersOrder answer (order.Read asked) input file then old new =
     AnswersReading answer asked input file old new
 
--- `sweep` keeps what it reads, whatever its answer. Other orders promise nothing here.
+-- `sweep` keeps what it reads, also with `--merge`, whatever its answer. Other orders promise nothing here.
 abbrev pub KeepsSwept : Order → FileBytes → FileBytes → Type 0
 KeepsSwept (order.Sweep device script images choices) file then =
     (one other : Source) × AreNamed device.now script.now one other
     × KeepsInputs one other images.items choices.picture file then
+KeepsSwept (order.MergeSweeps outputs picture) file then =
+    KeepsOutputs outputs.items picture file then
 KeepsSwept asked file then = Unit {0}

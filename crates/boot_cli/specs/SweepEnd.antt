@@ -97,6 +97,13 @@ pub record KeepsRead (device script : Source) (images : List (Bor (List ℕ)))
   pub named_kept : (name : List ℕ) → IsNamed name → Keeps (old name) (new name)
   pub all_kept : picture ≡ None → KeepsFiles old new
 
+-- Outputs of sweeps that are merged keep what they are known to hold. Without a picture, every file
+-- does.
+pub record KeepsOutputs (outputs : List (Bor (List ℕ))) (picture : Option (Bor (List ℕ)))
+    (old new : FileBytes) : Type 0 where
+  pub outputs_kept : KeepsWords outputs old new
+  pub all_kept : picture ≡ None → KeepsFiles old new
+
 -- A sweep keeps its inputs, among them the files that the script names.
 abbrev pub KeepsInputs : Source → Source → List (Bor (List ℕ)) → Option (Bor (List ℕ))
     → FileBytes → FileBytes → Type 0

@@ -1,9 +1,12 @@
 //! Runs the command that an order names.
 ghost use Rattle.std.specs.Prelude.{IfOk};
+ghost use Rattle.inspecting.specs.PlanAnswers.{AnswersPlan};
 ghost use Rattle.boot_cli.specs.OrderEnd.{AnswersOrder, KeepsSwept};
 
+use crate::flushed::refuse_after;
+use crate::merging::run_merge;
 use crate::sweeping::{Named, run_sweep};
-use command_line::Order;
+use command_line::{Order, PlanOrder};
 use creating::extract::{Copying, run_extract};
 use creating::make_device::run_make_device;
 use creating::make_image::run_make_image;
@@ -11,7 +14,7 @@ use creating::make_manifest::run_make_manifest;
 use device_commands::run_device_order;
 use host::{Answer, Host, Refusal, Source};
 use inputs::NoNotes;
-use inspecting::run_inspection;
+use inspecting::{run_inspection, run_plan};
 use std::alloc::Global;
 use std::io::Write;
 
@@ -34,6 +37,7 @@ pub fn run_command<H: Host, O: Write, E: Write>(
 {
     match *order {
         Order::Read(order) => run_inspection(alloc, order, host, out),
+        Order::Plan(ref order) => answer_plan(alloc, order, host, out),
         Order::MakeDevice { ref device } => run_make_device(alloc, device, out, err),
         Order::MakeImage {
             image,
@@ -69,5 +73,25 @@ pub fn run_command<H: Host, O: Write, E: Write>(
             let named = Named::of(device, script, images, choices);
             run_sweep(alloc, named, host, out, err)
         }
+        Order::MergeSweeps {
+            ref outputs,
+            picture,
+        } => run_merge(alloc, outputs, picture, host, out),
+    }
+}
+
+/// Runs `plan`. If it refuses, the devices before that are flushed.
+fn answer_plan<H: Host, O: Write>(
+    alloc: Global,
+    order: &PlanOrder<'_>,
+    host: &mut H,
+    out: &mut O,
+) -> Result<Answer, Refusal>
+    ensures { IfOk result (λ answer. AnswersPlan answer order.now
+        (H.input host.old) (H.file host.old) (O.contents out.old) (O.contents out.new)) }
+{
+    match run_plan(alloc, order, host, out) {
+        Ok(answer) => Ok(answer),
+        Err(refusal) => Err(refuse_after(refusal, out)),
     }
 }

@@ -1,18 +1,20 @@
 //! Runs an order whose answer `--explain` explains.
 ghost use Rattle.std.specs.Prelude.{◌≡◌, ◌≢◌, IfOk};
-ghost use Rattle.boot_cli.specs.JsonEnd.{AnswersIn};
+ghost use Rattle.boot_cli.specs.JsonEnd.{AnswersIn, AnswersObject};
 ghost use Rattle.boot_cli.specs.OrderEnd.{AnswersOrder};
 ghost use Rattle.boot_cli.specs.WordsEnd.{EndsByCut};
 
 use crate::commands::run_command;
+use crate::explained_plan::run_noted_plan;
 use crate::json::{
-    answer_noted_replies, layout_of, outcome_in_memory, write_note_object, write_object,
+    answer_devices, answer_noted_replies, layout_of, lists_devices, outcome_in_memory,
+    write_note_object, write_object,
 };
 use crate::until_failed::UntilFailed;
 use command_line::{Order, Request};
 use core::mem::replace_with;
 use device_commands::run_device_order;
-use explaining::{Remembering, ReplyNotes, explain_end};
+use explaining::{Remembering, ReplyNotes, explain_end, explain_rows};
 use host::{Answer, Host, Refusal, finish};
 use std::alloc::Global;
 use std::io::Write;
@@ -37,9 +39,9 @@ pub struct Explained<'o, O> {
 
 /// Runs the command of an order as [`crate::run_order`] does, and writes why its answer is as it is.
 ///
-/// The notes on the answer go to `err`. As JSON, they are members of the object of the answer. The
-/// notes on a reply of `run` are an object of their own after that of the reply. Without an answer
-/// the notes follow the error line on `err`.
+/// The notes on the answer go to `err`. As JSON, they are members of the object of the answer, or of
+/// that of a device of `plan`. The notes on a reply of `run` are an object of their own after that
+/// of the reply. Without an answer the notes follow the error line on `err`.
 ///
 /// A host that remembers what is read owns the host below it. So `host` is moved into one, and
 /// moved back after the command has ended. No other code can see the moved host, since nothing
@@ -123,22 +125,50 @@ fn answer_noted<H: Host, O: Write, E: Write>(
     if !request.is_json {
         return run_noted(alloc, &request.order, host, out, err);
     }
-    if let Order::Device(ref order) = request.order {
-        let outcome = answer_noted_replies(alloc, order, host, out);
-        explain_end(alloc, &request.order, &outcome, host, notes);
-        let answer = outcome?;
-        write_note_object(alloc, notes, out)?;
-        return Ok(answer);
+    match request.order {
+        Order::Device(ref order) => {
+            let outcome = answer_noted_replies(alloc, order, host, out);
+            explain_end(alloc, &request.order, &outcome, host, notes);
+            let answer = outcome?;
+            write_note_object(alloc, notes, out)?;
+            Ok(answer)
+        }
+        Order::Plan(ref order) if lists_devices(order) => {
+            let outcome = answer_devices(alloc, order, true, host, out);
+            explain_end(alloc, &request.order, &outcome, host, notes);
+            outcome
+        }
+        _ => answer_noted_object(alloc, &request.order, host, out, err, notes),
     }
+}
+
+/// Runs the command of an order, and writes an object with its answer and the notes on it to `out`.
+/// The notes on an end without an answer are added to `notes`.
+fn answer_noted_object<H: Host, O: Write, E: Write>(
+    alloc: Global,
+    order: &Order<'_>,
+    host: &mut Remembering<H>,
+    out: &mut O,
+    err: &mut E,
+    notes: &mut Vec<u8>,
+) -> Result<Answer, Refusal>
+    ensures { IfOk result (λ answer. AnswersObject answer order.now
+        (H.input host.old.host) (H.file host.old.host) (H.file host.new.host)
+        (O.contents out.old) (O.contents out.new)) }
+{
     let mut text = Vec::new(alloc);
-    let outcome = outcome_in_memory(run_command(alloc, &request.order, host, &mut text, err));
-    explain_end(alloc, &request.order, &outcome, host, notes);
+    let outcome = outcome_in_memory(run_command(alloc, order, host, &mut text, err));
+    explain_end(alloc, order, &outcome, host, notes);
     let answer = outcome?;
-    write_object(alloc, layout_of(&request.order), &text, notes, out)?;
+    if let Order::Plan(_) = order {
+        explain_rows(alloc, &text, notes);
+    }
+    write_object(alloc, layout_of(order), &text, notes, out)?;
     Ok(answer)
 }
 
-/// Runs the command of an order. Notes on the replies of `run` go to `err`.
+/// Runs the command of an order. Notes on the replies of `run` and on the results of `plan` go to
+/// `err`.
 fn run_noted<H: Host, O: Write, E: Write>(
     alloc: Global,
     order: &Order<'_>,
@@ -154,6 +184,7 @@ fn run_noted<H: Host, O: Write, E: Write>(
         Order::Device(ref order) => {
             run_device_order(alloc, order, host, out, &mut ReplyNotes::new(alloc, err))
         }
+        Order::Plan(ref order) => run_noted_plan(alloc, order, host, out, err),
         _ => run_command(alloc, order, host, out, err),
     }
 }

@@ -32,6 +32,7 @@ fn has_notes<H: Host>(alloc: Global, refusal: &Refusal, host: &H) -> bool {
     match refusal {
         Refusal::TableLine(_)
         | Refusal::ReportLine(_)
+        | Refusal::FleetLine
         | Refusal::NotValid
         | Refusal::DeviceFile
         | Refusal::FlashSize
@@ -43,7 +44,7 @@ fn has_notes<H: Host>(alloc: Global, refusal: &Refusal, host: &H) -> bool {
         | Refusal::ScriptLine(_)
         | Refusal::FlashFile => true,
         Refusal::OfSource(refused) => match refused.fault {
-            SourceFault::CannotRead | SourceFault::NoImage => true,
+            SourceFault::CannotRead | SourceFault::NoImage | SourceFault::CannotMerge(_) => true,
             SourceFault::CannotReplace => !is_in_use(alloc, refused, host),
             SourceFault::TooLong(_) => false,
         },

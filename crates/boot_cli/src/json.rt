@@ -2,10 +2,12 @@
 //!
 //! The commands write their texts as without the option. `grammar` has the forms of lines,
 //! `grammars` those of each command, and `reading` makes an object of a text. A run has an object
-//! for each reply, which `replies` writes. `running` runs the order of a device for them.
+//! for each reply, which `replies` writes. `running` runs the order of a device for them. A plan
+//! has an object for each device, which `devices` writes.
 
 mod answer;
 mod code_list;
+mod devices;
 mod fields;
 mod grammar;
 mod grammars;
@@ -15,5 +17,6 @@ mod running;
 mod words;
 
 pub use answer::{layout_of, outcome_in_memory, write_object};
+pub use devices::{answer_devices, lists_devices};
 pub use replies::write_note_object;
 pub use running::{answer_noted_replies, answer_replies};

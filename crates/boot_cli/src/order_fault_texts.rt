@@ -19,6 +19,16 @@ pub const NO_PERMANENT: &str = "`--permanent` is the number of an image and its 
 pub const NO_COMPONENTS: &str =
     "give one to eight files that may come, by `--test I=FILE` or `--permanent I=FILE`";
 
+/// A file that is requested isn't valid.
+pub const NO_REQUEST: &str = "`--request` is the number of an image, 0 to 7, and its file, which \
+     can't be standard input: 0=a.img";
+
+/// The arguments name more than one fleet.
+pub const SEVERAL_FLEETS: &str = "name one fleet, or add summaries by `--merge`";
+
+/// The arguments give more than summaries for their sum.
+pub const NOT_MERGED: &str = "`--merge` adds summaries, so there is no `--request` or `--summary`";
+
 /// The version isn't valid.
 pub const NO_VERSION: &str = "`--version` is `major.minor.revision+build`, such as 1.4.2+7; last \
      parts may be left out";
@@ -65,6 +75,21 @@ pub const NO_SAMPLE: &str = "`--sample` is a number, in digits, below 4294967296
 
 /// The seed of the random cuts isn't a number.
 pub const NO_SEED: &str = "`--seed` is a number, in digits, below 4294967296";
+
+/// The part of a sweep isn't valid.
+pub const NO_PART: &str = "`--part` is the number of a part, `/`, and the number of parts: 1/4";
+
+/// An option of the runs of a sweep is given beside `--merge`.
+pub const MERGE_ALONE: &str =
+    "`--merge` makes no runs, so it can't be used with --twice, --sample, --seed or --part";
+
+/// The arguments of `sweep` name a device file alone.
+pub const NO_SWEPT_SCRIPT: &str =
+    "the following required arguments were not provided:\n  <SCRIPT>\n  <IMAGE>...";
+
+/// The arguments of `sweep` name a device file and a script, and no image.
+pub const NO_SWEPT_IMAGE: &str =
+    "the following required arguments were not provided:\n  <IMAGE>...";
 
 /// The order makes an image on standard input.
 pub const IMAGE_WRITTEN: &str = "the image file is made, so it can't be standard input, `-`";

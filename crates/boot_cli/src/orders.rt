@@ -3,9 +3,9 @@
 ghost use Rattle.std.specs.Prelude.{◌≡◌, ◌∷◌, IfOk, codes, nat_lt, option_map};
 ghost use Rattle.clap.specs.Words.{found_of, rows_of};
 ghost use Rattle.command_line.specs.Commands.{name_for};
-ghost use Rattle.command_line.specs.Given.{Finds, HasImages, standard_inputs};
+ghost use Rattle.command_line.specs.Given.{Finds, standard_inputs};
 ghost use Rattle.command_line.specs.Orders.{Asks, IsNewFile, files_of, image_at, names_of};
-ghost use Rattle.command_line.specs.Orders.{names_to_read, side_at, side_of, subcommand_for};
+ghost use Rattle.command_line.specs.Orders.{names_to_plan, names_to_read, side_at, side_of, subcommand_for};
 ghost use Rattle.command_line.specs.Orders.{subcommand_to_read, writes_to_standard_input};
 ghost use Rattle.command_line.specs.declared.orders.Order.TheVariants.{Device};
 
@@ -13,10 +13,11 @@ use crate::device_words::device_in;
 use crate::image_words::image_values_in;
 use crate::manifest_words::manifest_values_in;
 use crate::order_fault_texts;
-use crate::sweep_words::sweep_choices_in;
+use crate::plan_words::plan_order_in;
+use crate::sweep_words::sweep_in;
 use clap::ArgMatches;
 use command_line::{
-    DeviceOrder, NewFile, NewManifest, Order, ReadOrder, Subcommand, fault_texts, images_in,
+    DeviceOrder, NewFile, NewManifest, Order, PlanOrder, ReadOrder, Subcommand, fault_texts,
     inputs_with, is_given, is_standard_input, name_in, named, provision_in, run_in,
     standard_inputs,
 };
@@ -36,6 +37,7 @@ pub fn order_of<'a>(
     match subcommand {
         Subcommand::Choose => Ok(choose_in(names)),
         Subcommand::Check => Ok(check_in(names)),
+        Subcommand::Plan => plan_in(alloc, names),
         Subcommand::Image => Ok(image_in(names)),
         Subcommand::Manifest => Ok(manifest_in(names)),
         Subcommand::MakeDevice => make_device_in(alloc, names),
@@ -74,6 +76,15 @@ fn check_in<'a>(names: &ArgMatches<'a>) -> Option<Order<'a>>
     let table = name_in(names, named::TABLE)?;
     let report = name_in(names, named::REPORT)?;
     Some(Order::Read(ReadOrder::Check { table, report }))
+}
+
+fn plan_in<'a>(alloc: Global, names: &ArgMatches<'a>) -> Result<Option<Order<'a>>, AllocError>
+    ensures { IfOk result (Finds (Asks (codes "plan") (rows_of (found_of names.now)))) }
+{
+    match plan_order_in(alloc, names)? {
+        Some(order) => Ok(Some(Order::Plan(order))),
+        None => Ok(None),
+    }
 }
 
 fn image_in<'a>(names: &ArgMatches<'a>) -> Option<Order<'a>>
@@ -206,26 +217,6 @@ fn side_of(word: &str) -> Option<Side>
     None
 }
 
-fn sweep_in<'a>(alloc: Global, names: &ArgMatches<'a>) -> Result<Option<Order<'a>>, AllocError>
-    ensures { IfOk result (Finds (Asks (codes "sweep") (rows_of (found_of names.now)))) }
-{
-    let images = images_in(alloc, names)?;
-    Ok(sweep_of(names, images))
-}
-
-/// Returns the order of the arguments of `sweep`, which name these images.
-fn sweep_of<'a>(names: &ArgMatches<'a>, images: Option<Vec<&'a str>>) -> Option<Order<'a>>
-    requires { HasImages (rows_of (found_of names.now)) images }
-    ensures { Finds (Asks (codes "sweep") (rows_of (found_of names.now))) result }
-{
-    Some(Order::Sweep {
-        device: name_in(names, named::DEVICE)?,
-        script: name_in(names, named::SCRIPT)?,
-        images: images?,
-        choices: sweep_choices_in(names)?,
-    })
-}
-
 /// Returns the text of the fault of arguments of `extract` that name no slot.
 pub fn invalid_slot(names: &ArgMatches<'_>) -> &'static str {
     if image_in_words(names).is_none() {
@@ -239,7 +230,7 @@ pub fn invalid_slot(names: &ArgMatches<'_>) -> &'static str {
 pub fn written_text(order: &Order<'_>) -> &'static str {
     match order {
         Order::MakeImage { .. } | Order::Extract { .. } => order_fault_texts::IMAGE_WRITTEN,
-        Order::Sweep { .. } => order_fault_texts::PICTURE_WRITTEN,
+        Order::Sweep { .. } | Order::MergeSweeps { .. } => order_fault_texts::PICTURE_WRITTEN,
         _ => fault_texts::WRITTEN,
     }
 }
@@ -250,12 +241,13 @@ pub fn subcommand_for(order: &Order<'_>) -> Subcommand
 {
     match order {
         Order::Read(order) => subcommand_to_read(order),
+        Order::Plan(_) => Subcommand::Plan,
         Order::MakeDevice { .. } => Subcommand::MakeDevice,
         Order::MakeImage { .. } => Subcommand::MakeImage,
         Order::MakeManifest { .. } => Subcommand::MakeManifest,
         Order::Device(order) => order.subcommand(),
         Order::Extract { .. } => Subcommand::Extract,
-        Order::Sweep { .. } => Subcommand::Sweep,
+        Order::Sweep { .. } | Order::MergeSweeps { .. } => Subcommand::Sweep,
     }
 }
 
@@ -268,7 +260,9 @@ pub fn writes_to_standard_input(order: &Order<'_>) -> bool
         Order::MakeImage { image: file, .. } | Order::Extract { out: file, .. } =>
             is_standard_input(file.name),
         Order::Sweep { choices, .. } => choices.picture.is_some_and(|file| is_standard_input(file)),
-        Order::Read(_) | Order::MakeDevice { .. } | Order::MakeManifest { .. } => false,
+        Order::MergeSweeps { picture, .. } => picture.is_some_and(|file| is_standard_input(file)),
+        Order::Read(_) | Order::Plan(_) | Order::MakeDevice { .. } | Order::MakeManifest { .. } =>
+            false,
     }
 }
 
@@ -278,6 +272,7 @@ pub fn reads_standard_input_twice(order: &Order<'_>) -> bool
 {
     match order {
         Order::Read(order) => reads_twice(order),
+        Order::Plan(order) => plans_twice(order),
         Order::MakeDevice { .. } => false,
         Order::MakeImage { image, body, .. } => {
             is_standard_input(image.name) && is_standard_input(body)
@@ -296,6 +291,7 @@ pub fn reads_standard_input_twice(order: &Order<'_>) -> bool
             images,
             ..
         } => inputs_with(device, script, images.as_slice()) > 1,
+        Order::MergeSweeps { outputs, .. } => standard_inputs(outputs.as_slice()) > 1,
     }
 }
 
@@ -336,6 +332,16 @@ fn reads_twice(order: &ReadOrder<'_>) -> bool
             device: one,
             flash: other,
         } => is_standard_input(one) && is_standard_input(other),
+    }
+}
+
+/// Returns whether two of the files to plan are standard input, which can be read only once.
+fn plans_twice(order: &PlanOrder<'_>) -> bool
+    ensures { result ≡ nat_lt 1 (standard_inputs (names_to_plan order.now)) }
+{
+    match order {
+        PlanOrder::Fleet { .. } => false,
+        PlanOrder::Merge { summaries } => standard_inputs(summaries) > 1,
     }
 }
 

@@ -1,13 +1,15 @@
 //! Runs the order that the arguments give, and returns the exit status.
 ghost use Rattle.std.specs.Prelude.{◌≡◌, ◌≢◌, IfOk, map};
-ghost use Rattle.boot_cli.specs.JsonEnd.{AnswersIn};
+ghost use Rattle.boot_cli.specs.JsonEnd.{AnswersIn, AnswersObject};
 ghost use Rattle.boot_cli.specs.OrderEnd.{KeepsSwept};
 ghost use Rattle.boot_cli.specs.WordsEnd.{EndsByCut, EndsProgram};
 
 use crate::commands::run_command;
 use crate::explained::run_explained;
 use crate::hint::hint_at_notes;
-use crate::json::{answer_replies, layout_of, outcome_in_memory, write_object};
+use crate::json::{
+    answer_devices, answer_replies, layout_of, lists_devices, outcome_in_memory, write_object,
+};
 use crate::until_failed::UntilFailed;
 use crate::words::request_in;
 use command_line::{Order, Request};
@@ -92,12 +94,31 @@ fn answer_request<H: Host, O: Write, E: Write>(
     if !request.is_json {
         return run_command(alloc, &request.order, host, out, err);
     }
-    if let Order::Device(ref order) = request.order {
-        return answer_replies(alloc, order, host, out);
+    match request.order {
+        Order::Device(ref order) => answer_replies(alloc, order, host, out),
+        Order::Plan(ref order) if lists_devices(order) => {
+            answer_devices(alloc, order, false, host, out)
+        }
+        _ => answer_object(alloc, &request.order, host, out, err),
     }
+}
+
+/// Runs the command of an order, and writes an object with its answer to `out`.
+fn answer_object<H: Host, O: Write, E: Write>(
+    alloc: Global,
+    order: &Order<'_>,
+    host: &mut H,
+    out: &mut O,
+    err: &mut E,
+) -> Result<Answer, Refusal>
+    ensures answers { IfOk result (λ answer. AnswersObject answer order.now
+        (H.input host.old) (H.file host.old) (H.file host.new)
+        (O.contents out.old) (O.contents out.new)) }
+    ensures swept { KeepsSwept order.now (H.file host.old) (H.file host.new) }
+{
     let mut text = Vec::new(alloc);
-    let outcome = run_command(alloc, &request.order, host, &mut text, err);
+    let outcome = run_command(alloc, order, host, &mut text, err);
     let answer = outcome_in_memory(outcome)?;
-    write_object(alloc, layout_of(&request.order), &text, &[], out)?;
+    write_object(alloc, layout_of(order), &text, &[], out)?;
     Ok(answer)
 }

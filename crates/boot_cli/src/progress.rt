@@ -2,7 +2,7 @@
 
 use host::Host;
 use std::io::Write;
-use sweep::{Step, Watch};
+use sweep::{Cutting, Step, Watch};
 
 /// Writes the progress of a sweep to standard error, if that is a terminal.
 #[derive(Drop)]
@@ -46,16 +46,21 @@ impl<'a, H: Host, E: Write> Progress<'a, H, E> {
                 )
             }
             Step::Uncut => write!(self.err, "\rsweep: second run\x1b[K"),
-            Step::Cutting { done: 0, all, runs } => {
-                write!(self.err, "\rsweep: cuts 0 of {all}, {runs} runs\x1b[K")
-            }
-            Step::Cutting { done, all, runs } => {
+            Step::Cutting(at) => {
+                let Cutting {
+                    done,
+                    all,
+                    runs,
+                    ..
+                } = at;
                 let went = now.saturating_sub(self.began.unwrap_or(now));
-                let left = seconds_left(done, all, went);
-                write!(
-                    self.err,
-                    "\rsweep: cuts {done} of {all}, {runs} runs, {left} s left\x1b[K"
-                )
+                match seconds_left(at, went) {
+                    None => write!(self.err, "\rsweep: cuts {done} of {all}, {runs} runs\x1b[K"),
+                    Some(left) => write!(
+                        self.err,
+                        "\rsweep: cuts {done} of {all}, {runs} runs, {left} s left\x1b[K"
+                    ),
+                }
             }
         };
         let _ = self.err.flush();
@@ -67,7 +72,7 @@ impl<H: Host, E: Write> Watch for Progress<'_, H, E> {
         let Some(now) = self.host.watched_seconds() else {
             return;
         };
-        if let (None, Step::Cutting { .. }) = (self.began, step) {
+        if let (None, Step::Cutting(_)) = (self.began, step) {
             self.began = Some(now);
         }
         if self.told == Some(now) {
@@ -78,8 +83,11 @@ impl<H: Host, E: Write> Watch for Progress<'_, H, E> {
     }
 }
 
-/// The estimated seconds of the other runs, if `done` of `all` runs took `went` seconds.
-fn seconds_left(done: u32, all: u32, went: u64) -> u64 {
-    let left = u64::from(all.saturating_sub(done));
-    went.saturating_mul(left) / u64::from(done.max(1))
+/// The estimated seconds of the other runs, if the runs so far took `went` seconds. `None` before a
+/// thousandth of the runs of the first cut is finished.
+fn seconds_left(at: Cutting, went: u64) -> Option<u64> {
+    let part = at.seconds_done.saturating_mul(1000) / at.seconds.max(1);
+    let done = at.done.saturating_mul(1000).saturating_add(part);
+    let left = at.all.saturating_mul(1000).saturating_sub(done);
+    went.saturating_mul(left).checked_div(done)
 }

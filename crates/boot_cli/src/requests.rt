@@ -1,13 +1,11 @@
 //! Reads the order that arguments give, or the reason why they give none.
 
-ghost use Rattle.std.specs.Prelude.{◌≡◌, ◌⊎◌, IfErr, IfOk, None, [], map, option_map};
+ghost use Rattle.std.specs.Prelude.{◌≡◌, IfErr, IfOk, IfSome, None, [], map, option_map};
 ghost use Rattle.clap.specs.Words.{fault_of, kind_of, subcommand_rows_of};
-ghost use Rattle.clap.specs.declared.error.kind.ErrorKind.TheVariants.{InvalidValue};
-ghost use Rattle.clap.specs.declared.error.kind.ErrorKind.TheVariants.{MissingSubcommand};
 ghost use Rattle.command_line.specs.Commands.{bootswap};
-ghost use Rattle.command_line.specs.Faults.{IsUsage};
+ghost use Rattle.command_line.specs.Faults.{IsAnswered};
 ghost use Rattle.command_line.specs.Given.{Finds, is_explained, is_json};
-ghost use Rattle.command_line.specs.OrderFaults.{IsRefusal};
+ghost use Rattle.command_line.specs.OrderFaults.{IsKindOfNoOrder, IsRefusal};
 ghost use Rattle.command_line.specs.Orders.{GiveOrder, IsOrder, IsOrderOf, misuse_of};
 
 use crate::device_words::invalid_device;
@@ -18,7 +16,8 @@ use crate::orders::{
     invalid_slot, order_of, reads_standard_input_twice, subcommand_for, writes_to_standard_input,
     written_text,
 };
-use crate::sweep_words::invalid_choices;
+use crate::plan_words::invalid_plan;
+use crate::sweep_words::invalid_sweep;
 use clap::error::ErrorKind;
 use clap::{ArgMatches, Error};
 use command_line::{
@@ -106,7 +105,7 @@ fn order_in<'a>(alloc: Global, matches: &ArgMatches<'a>) -> Result<Option<Order<
 /// Returns the fault of arguments that `clap` accepts but that give no order: a value isn't valid,
 /// or there is no subcommand.
 fn no_order(alloc: Global, matches: &ArgMatches<'_>) -> OrderError
-    ensures { IsUsage InvalidValue result ⊎ IsUsage MissingSubcommand result }
+    ensures { IsAnswered IsKindOfNoOrder result }
 {
     match no_order_error(alloc, matches) {
         Ok(error) => OrderError::from(error),
@@ -116,10 +115,10 @@ fn no_order(alloc: Global, matches: &ArgMatches<'_>) -> OrderError
 
 fn no_order_error(alloc: Global, matches: &ArgMatches<'_>) -> Result<Error, AllocError>
     ensures { IfOk result
-        (λ error. (kind_of error ≡ InvalidValue) ⊎ (kind_of error ≡ MissingSubcommand)) }
+        (λ error. IsKindOfNoOrder (kind_of error)) }
 {
     match invalid_value(alloc, matches)? {
-        Some((command, text)) => subcommand_error(alloc, command, ErrorKind::InvalidValue, text),
+        Some((command, kind, text)) => subcommand_error(alloc, command, kind, text),
         None => program_error(
             alloc,
             ErrorKind::MissingSubcommand,
@@ -128,12 +127,14 @@ fn no_order_error(alloc: Global, matches: &ArgMatches<'_>) -> Result<Error, Allo
     }
 }
 
-/// Returns the subcommand of arguments with a value that isn't valid, and the text of the fault.
-/// Returns `None` if the subcommand takes any value, or if there is no subcommand.
+/// Returns the subcommand of arguments with a value that isn't valid, and the kind and the text of the
+/// fault. Returns `None` if the subcommand takes any value, or if there is no subcommand.
 fn invalid_value(
     alloc: Global,
     matches: &ArgMatches<'_>,
-) -> Result<Option<(Subcommand, &'static str)>, AllocError> {
+) -> Result<Option<(Subcommand, ErrorKind, &'static str)>, AllocError>
+    ensures { IfOk result (λ found. IfSome found (λ fault. IsKindOfNoOrder fault.1)) }
+{
     let Some((name, names)) = named_in(matches) else {
         return Ok(None);
     };
@@ -141,14 +142,18 @@ fn invalid_value(
         return Ok(None);
     };
     let text = match command {
+        Subcommand::Plan => invalid_plan(alloc, names)?,
         Subcommand::MakeDevice => invalid_device(names),
         Subcommand::MakeImage => invalid_image(alloc, names)?,
         Subcommand::MakeManifest => invalid_manifest(alloc, names)?,
         Subcommand::Extract => invalid_slot(names),
-        Subcommand::Sweep => invalid_choices(names),
+        Subcommand::Sweep => {
+            let (kind, text) = invalid_sweep(names);
+            return Ok(Some((command, kind, text)));
+        }
         _ => return Ok(None),
     };
-    Ok(Some((command, text)))
+    Ok(Some((command, ErrorKind::InvalidValue, text)))
 }
 
 /// Returns the fault of an order that writes standard input or reads it twice.

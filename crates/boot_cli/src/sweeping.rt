@@ -10,7 +10,7 @@ ghost use Rattle.device_texts.specs.Said.{said};
 ghost use Rattle.boot_cli.specs.SweepEnd.{AnswersSweep, IsNamedBy, IsNoInput, IsOther, KeepsBesides, KeepsInputs, KeepsRead, SaysFile};
 
 use crate::progress::Progress;
-use command_line::SweepChoices;
+use command_line::{SweepChoices, SweepPart};
 use common::event::Event;
 use device_commands::provision::{read_images, write_refused};
 use device_texts::{DeviceFile, Line, flash_of, write_all};
@@ -22,7 +22,7 @@ use std::alloc::{AllocError, Global};
 use std::io::Write;
 use std::marker::Brand;
 use std::sync::ledger::{Blank, Ledger};
-use sweep::{Found, Plan, Scenario, found_text, picture_of, sweep};
+use sweep::{Found, Part, Plan, Scenario, found_text, picture_of, sweep};
 
 /// The arguments of a sweep: the files that it reads, what it tries, and what it makes.
 #[derive(Clone, Copy)]
@@ -169,7 +169,7 @@ fn refuse_line<H: Host>(
 }
 
 /// Refuses a picture whose file is this input, by any name.
-fn refuse_input<H: Host>(
+pub(crate) fn refuse_input<H: Host>(
     alloc: Global,
     host: &H,
     picture: &str,
@@ -260,8 +260,23 @@ fn tell_sweep<H: Host, O: Write, E: Write>(
     let Ok(found) = swept else {
         return Err(Refusal::NoMemory);
     };
-    make_picture(alloc, scenario, &found, choices.picture, host)?;
-    let Ok(text) = found_text(alloc, scenario, &found) else {
+    tell_found(alloc, &found, choices.picture, host, out)
+}
+
+/// Makes the picture of a sweep, if it has a name, and writes the findings to `out`.
+pub(crate) fn tell_found<H: Host, O: Write>(
+    alloc: Global,
+    found: &Found,
+    picture: Option<&str>,
+    host: &mut H,
+    out: &mut O,
+) -> Result<Answer, Refusal>
+    ensures answers { IfOk result (λ answer. status_of_answer answer ≤ 1) }
+    ensures others { KeepsBesides picture.entry (H.apart host.old)
+        (H.file host.old) (H.file host.new) }
+{
+    make_picture(alloc, found, picture, host)?;
+    let Ok(text) = found_text(alloc, found) else {
         return Err(Refusal::NoMemory);
     };
     match write_all(out, text.as_bytes()) {
@@ -276,6 +291,10 @@ fn plan_of(choices: &SweepChoices<'_>) -> Plan {
         is_twice: choices.is_twice,
         sample: choices.sample,
         seed: choices.seed.unwrap_or(1),
+        part: match choices.part {
+            Some(SweepPart { number, parts }) => Part { number, parts },
+            None => Part::WHOLE,
+        },
     }
 }
 
@@ -293,7 +312,6 @@ fn answer_of(is_good: bool) -> Answer
 /// Makes the picture of a sweep, if it has a name.
 fn make_picture<H: Host>(
     alloc: Global,
-    scenario: &Scenario<'_>,
     found: &Found,
     picture: Option<&str>,
     host: &mut H,
@@ -303,7 +321,7 @@ fn make_picture<H: Host>(
     let Some(name) = picture else {
         return Ok(());
     };
-    let Ok(picture) = picture_of(alloc, scenario, found) else {
+    let Ok(picture) = picture_of(alloc, found) else {
         return Err(Refusal::NoMemory);
     };
     replace(alloc, name, picture.as_bytes(), host)
@@ -323,7 +341,11 @@ fn replace<H: Host>(alloc: Global, name: &str, bytes: &[u8], host: &mut H) -> Re
 }
 
 /// Refuses a picture that can neither be made nor replace a file, before the first run.
-fn check_picture<H: Host>(alloc: Global, host: &H, picture: &str) -> Result<(), Refusal> {
+pub(crate) fn check_picture<H: Host>(
+    alloc: Global,
+    host: &H,
+    picture: &str,
+) -> Result<(), Refusal> {
     match host.check_replaceable(alloc, picture) {
         Ok(()) => Ok(()),
         Err(fault) => Err(picture_refusal(alloc, picture, fault)),

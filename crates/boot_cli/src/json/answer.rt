@@ -34,7 +34,8 @@ pub fn layout_of(order: &Order<'_>) -> Layout {
         Order::Read(ReadOrder::Show { .. }) => Layout::Lines(grammars::SHOW),
         Order::Read(ReadOrder::Slots { .. }) => Layout::Lines(grammars::SLOTS),
         Order::Read(ReadOrder::Codes) => Layout::CodeList,
-        Order::Sweep { .. } => Layout::Lines(grammars::SWEEP),
+        Order::Plan(_) => Layout::Lines(grammars::SUMMARY),
+        Order::Sweep { .. } | Order::MergeSweeps { .. } => Layout::Lines(grammars::SWEEP),
         _ => Layout::Lines(grammars::REPLY),
     }
 }

@@ -41,7 +41,7 @@ pub enum Place {
 /// A form that a line may have.
 #[derive(Clone, Copy)]
 pub struct Form {
-    /// The first words of the line. `#` is any number.
+    /// The first words of the line. `#` is any number, and `_` is any word.
     pub pattern: &'static [&'static str],
     /// Where its members belong.
     pub place: Place,

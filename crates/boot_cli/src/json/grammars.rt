@@ -303,3 +303,84 @@ pub const REPLY: &Grammar = &Grammar {
     ],
     section: &[],
 };
+
+/// The plan of a fleet: each device begins with the line `device NAME`. A device without a report
+/// has one of the lines `bad-line N`, `too-long` and `not-valid` instead.
+pub const PLAN: &Grammar = &Grammar {
+    lines: &[
+        Form {
+            pattern: &["device"],
+            place: Place::Here,
+            fields: &[Field::Word, Field::Text("device")],
+        },
+        TAKE,
+        RUN,
+        REFUSE,
+        Form {
+            pattern: &["bad-line"],
+            place: Place::Here,
+            fields: &[Field::Word, Field::Number("bad_line")],
+        },
+        Form {
+            pattern: &["too-long"],
+            place: Place::Here,
+            fields: &[Field::Flag("too_long", true)],
+        },
+        Form {
+            pattern: &["not-valid"],
+            place: Place::Here,
+            fields: &[Field::Flag("not_valid", true)],
+        },
+    ],
+    section: &[],
+};
+
+/// The summary of a plan: rows `COUNT FIRST KEY`.
+pub const SUMMARY: &Grammar = &Grammar {
+    lines: &[
+        Form {
+            pattern: &["#", "_", "take"],
+            place: Place::Each("rows"),
+            fields: &[
+                Field::Number("count"),
+                Field::Text("first"),
+                Field::Text("kind"),
+                Field::Dependencies("take"),
+            ],
+        },
+        Form {
+            pattern: &["#", "_", "refuse", "#", "damaged"],
+            place: Place::Each("rows"),
+            fields: &[
+                Field::Number("count"),
+                Field::Text("first"),
+                Field::Text("kind"),
+                Field::Number("image"),
+                Field::Text("reason"),
+            ],
+        },
+        Form {
+            pattern: &["#", "_", "refuse"],
+            place: Place::Each("rows"),
+            fields: &[
+                Field::Number("count"),
+                Field::Text("first"),
+                Field::Text("kind"),
+                Field::Number("image"),
+                Field::Text("version"),
+                Field::Text("reason"),
+                Field::Dependencies("needs"),
+            ],
+        },
+        Form {
+            pattern: &["#", "_"],
+            place: Place::Each("rows"),
+            fields: &[
+                Field::Number("count"),
+                Field::Text("first"),
+                Field::Text("kind"),
+            ],
+        },
+    ],
+    section: &[],
+};

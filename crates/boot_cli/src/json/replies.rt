@@ -1,6 +1,7 @@
 //! Writes an object for each reply of a run.
 ghost use Rattle.std.specs.Prelude.{◌≡◌, IfOk, Ok};
 
+use crate::flushed::refuse_after;
 use crate::json::answer::{Layout, add_notes, write_object, write_value};
 use crate::json::grammars::REPLY;
 use crate::json::words::number_of;
@@ -52,7 +53,7 @@ impl<'o, 'n, O: Write> ReplyObjects<'o, 'n, O> {
     ///
     /// # Errors
     /// - The refusal of `outcome`, except that it is `NoMemory` if memory ran out for an object. The
-    ///   pending notes are written, unless a write failed before.
+    ///   pending notes are written and flushed, unless a write failed before.
     /// - `NoMemory` and `CannotWrite` as for [`write_object`].
     pub fn end(&mut self, outcome: Result<Answer, Refusal>) -> Result<Answer, Refusal>
         ensures { IfOk result (λ answer. outcome ≡ Ok answer) }
@@ -62,9 +63,9 @@ impl<'o, 'n, O: Write> ReplyObjects<'o, 'n, O> {
             Err(Refusal::CannotWrite) if self.lacks_memory => return Err(Refusal::NoMemory),
             Err(Refusal::CannotWrite) => return Err(Refusal::CannotWrite),
             Err(refusal) => {
-                // The refusal is the end, also if this write fails.
+                // The refusal is the end, also if memory for the notes runs out.
                 let _ = self.write_notes();
-                return Err(refusal);
+                return Err(refuse_after(refusal, self.out));
             }
         };
         self.write_held()?;

@@ -38,11 +38,11 @@ fn fits(pattern: &[&'static str], line: &str) -> bool {
     true
 }
 
-/// Whether a word is this one, or a number if that is `#`.
+/// Whether a word is this one. For `#` any number is, and for `_` any word.
 fn is_as(wanted: &str, word: &str) -> bool {
     if wanted == "#" {
         number_of(word).is_some()
     } else {
-        wanted == word
+        wanted == "_" || wanted == word
     }
 }

@@ -1,0 +1,89 @@
+//! `bootswap sweep --merge`: adds up the outputs of the parts of a sweep.
+ghost use Rattle.std.specs.Prelude.{◌≤◌, IfOk, IfSome, OnOk};
+ghost use Rattle.device_commands.specs.ProvisionEnd.{AreOthers};
+ghost use Rattle.host.specs.Input.{KeepsFiles};
+ghost use Rattle.host.specs.Status.{status_of_answer};
+ghost use Rattle.boot_cli.specs.SweepEnd.{KeepsOutputs};
+
+use crate::sweeping::{check_picture, refuse_input, tell_found};
+use host::{Answer, Host, MOST_FILE, Refusal, Source, SourceFault};
+use std::alloc::Global;
+use std::io::Write;
+use sweep::{Found, add_output};
+
+/// Reads the outputs of the parts of a sweep from `host`, and writes to `out` the output of all their
+/// runs.
+///
+/// `outputs` has the names of the outputs, and `picture` that of the picture to make, if there is
+/// one. All outputs are read before the picture is made. No other file changes. The outputs keep
+/// their bytes on every path: none of them may be the picture.
+///
+/// # Errors
+/// `OfSource` with `CannotMerge` for the first output that is wrong, or that is of other events than
+/// those before it, and else as for any input. `PictureIsInput` if the picture is an output.
+/// `NoMemory` if memory runs out. `CannotWrite` if the answer can't be written.
+pub fn run_merge<H: Host, O: Write>(
+    alloc: Global,
+    outputs: &[&str],
+    picture: Option<&str>,
+    host: &mut H,
+    out: &mut O,
+) -> Result<Answer, Refusal>
+    ensures answers { IfOk result (λ answer. status_of_answer answer ≤ 1) }
+    ensures outputs { KeepsOutputs outputs.now picture.entry (H.file host.old) (H.file host.new) }
+{
+    let found = sum_of(alloc, outputs, host)?;
+    // Not earlier: while the host reads, a name may become that of another file.
+    refuse_outputs(alloc, host, picture, outputs)?;
+    let Some(found) = found else {
+        return Ok(Answer::Done);
+    };
+    tell_found(alloc, &found, picture, host, out)
+}
+
+/// The sum of these outputs. `None` if there are none.
+fn sum_of<H: Host>(alloc: Global, outputs: &[&str], host: &mut H) -> Result<Option<Found>, Refusal>
+    ensures { KeepsFiles (H.file host.old) (H.file host.new) }
+{
+    let mut sum = None;
+    for output in outputs {
+        add_file(alloc, Source::named(output), &mut sum, host)?;
+    }
+    Ok(sum)
+}
+
+/// Adds the findings of an output to `sum`.
+fn add_file<H: Host>(
+    alloc: Global,
+    output: Source<'_>,
+    sum: &mut Option<Found>,
+    host: &mut H,
+) -> Result<(), Refusal>
+    ensures { KeepsFiles (H.file host.old) (H.file host.new) }
+{
+    let text = output.read(alloc, host, MOST_FILE)?;
+    match add_output(alloc, sum, &text) {
+        Ok(Ok(())) => Ok(()),
+        Ok(Err(line)) => Err(output.refused(alloc, SourceFault::CannotMerge(line))),
+        Err(_) => Err(Refusal::NoMemory),
+    }
+}
+
+/// Refuses a picture that can't be made, or whose file is an output.
+fn refuse_outputs<H: Host>(
+    alloc: Global,
+    host: &H,
+    named: Option<&str>,
+    outputs: &[&str],
+) -> Result<(), Refusal>
+    ensures { OnOk result (IfSome named.entry (λ picture.
+        AreOthers (H.apart host.now picture.now) outputs.now)) }
+{
+    let Some(picture) = named else {
+        return Ok(());
+    };
+    for output in outputs {
+        refuse_input(alloc, host, picture, Source::named(output))?;
+    }
+    check_picture(alloc, host, picture)
+}
