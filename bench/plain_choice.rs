@@ -1,8 +1,8 @@
 //! The choice among the requests of a table, from its text, in plain Rust.
 
 /// The results for a text that isn't a table, and for running images that don't fit each other.
-const NO_TABLE: u64 = 1 << 63;
-const NOT_VALID: u64 = NO_TABLE + 1;
+pub const NO_TABLE: u64 = 1 << 63;
+pub const NOT_VALID: u64 = NO_TABLE + 1;
 
 const MOST_IMAGES: usize = 8;
 const MOST_DEPENDENCIES: usize = 16;
@@ -70,6 +70,12 @@ pub fn answer(text: &[u8]) -> u64 {
     });
     let mask = taken.fold(0, |mask, (number, _)| mask | 1 << number);
     mask + 256 * refusals.len() as u64
+}
+
+/// Returns whether a text is a table.
+#[allow(dead_code, reason = "only `plain_plan.rs` calls it")]
+pub fn is_table(text: &[u8]) -> bool {
+    std::hint::black_box(parse(text)).is_some()
 }
 
 fn parse(text: &[u8]) -> Option<Vec<Image>> {
