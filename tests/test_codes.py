@@ -12,7 +12,7 @@ TABLES_OF_CODES = [
     "7. Nothing follows the image",
     "Values that no image can have are refused",
     "A map is refused by the first of these",
-    "| `Cut` | power failed in the call",
+    "- `Cut`: power failed in the call",
     "A device takes a manifest that names",
     "Refusals of uploads:",
 ]

@@ -250,6 +250,18 @@ USAGES = {
         f"{MISSING}\n  <REPORT>": ["check a"],
         ONE_FILE: ["check - -"],
     },
+    "plan [OPTIONS] <FLEET>...": {
+        f"{MISSING}\n  <FLEET>...": ["plan", "plan --summary", "plan --merge"],
+        "name one fleet, or add summaries by `--merge`": ["plan a b", "plan - -", "plan a b --summary"],
+        "`--merge` adds summaries, so there is no `--request` or `--summary`": [
+            "plan --merge a --summary", "plan --merge a b --request 0=c", "plan --merge a --request x",
+        ],
+        "`--request` is the number of an image, 0 to 7, and its file, which can't be standard input: 0=a.img": [
+            f"plan a --request {it}" for it in ("b", "=b", "8=b", "00=b", "256=b", "0=-", "1:b")
+        ],
+        "the argument '--merge' cannot be used multiple times": ["plan --merge --merge a"],
+        ONE_FILE: ["plan --merge - -", "plan --merge - a -"],
+    },
     "image [OPTIONS] <FILE>": {f"{MISSING}\n  <FILE>": ["image"], "unexpected argument 'b' found": ["image a b"]},
     "manifest [OPTIONS] <DEVICE> <FILE>": {f"{MISSING}\n  <FILE>": ["manifest a"], ONE_FILE: ["manifest - -"]},
     "provision [OPTIONS] <DEVICE> <FLASH> <IMAGE>...": {
@@ -287,8 +299,20 @@ USAGES = {
         ONE_FILE: ["run - f -"],
         IS_WRITTEN: ["run d - s", "run - - s"],
     },
-    "sweep [OPTIONS] <DEVICE> <SCRIPT> <IMAGE>...": {
-        f"{MISSING}\n  <IMAGE>...": ["sweep a b"],
+    "sweep [OPTIONS] <DEVICE> <SCRIPT> <IMAGE>...\n       bootswap sweep --merge [--svg <FILE>] <OUTPUT>...": {
+        f"{MISSING}\n  <FILE>...": ["sweep", "sweep --merge"],
+        f"{MISSING}\n  <SCRIPT>\n  <IMAGE>...": ["sweep a"],
+        f"{MISSING}\n  <IMAGE>...": ["sweep a b", "sweep a b --part=1/2"],
+        "`--merge` makes no runs, so it can't be used with --twice, --sample, --seed or --part": [
+            "sweep --merge --twice a",
+            "sweep --merge --sample=1 a",
+            "sweep --merge --seed=x a",
+            "sweep --merge --part=1/2 a",
+        ],
+        "`--part` is the number of a part, `/`, and the number of parts: 1/4": [
+            *(f"sweep a b c --part={it}" for it in ("", "1", "0/1", "2/1", "1/", "/1", "1/2/3", "01/2", "1/4294967296")),
+            "sweep a b c --part 1.0/2",
+        ],
         "the argument '--twice' cannot be used multiple times": ["sweep --twice --twice a b c"],
         "the argument '--sample <N>' cannot be used multiple times": ["sweep a b c --sample=1 --sample=1"],
         "`--sample` is a number, in digits, below 4294967296": [
@@ -296,8 +320,12 @@ USAGES = {
             "sweep a b c --sample=4294967296",
         ],
         "`--seed` is a number, in digits, below 4294967296": ["sweep a b c --seed=", "sweep a b c --seed=1.5"],
-        ONE_FILE: ["sweep - - a", "sweep - b -", "sweep a b - -"],
-        "the picture is made, so it can't be standard input, `-`": ["sweep a b c --svg=-", "sweep - - c --svg -"],
+        ONE_FILE: ["sweep - - a", "sweep - b -", "sweep a b - -", "sweep --merge - a -"],
+        "the picture is made, so it can't be standard input, `-`": [
+            "sweep a b c --svg=-",
+            "sweep - - c --svg -",
+            "sweep --merge - --svg=-",
+        ],
     },
     "codes [OPTIONS]": {"unexpected argument 'a' found": ["codes a"]},
     "make-image [OPTIONS] --version <VERSION> <OUT> <BODY>": {
@@ -330,6 +358,7 @@ class UsageTest(ProgramTest):
     def test_wrong_arguments(self):
         """Wrong arguments end with status 2, and none of their control characters is printed."""
         wrong = [["frob"], ["--frob"], ["choose"], ["choose", "a", "b"], ["check", "a"], ["check", "-", "-"], ["image"]]
+        wrong += [["plan"], ["plan", "a", "b"], ["plan", "--merge", "-", "-"], ["plan", "a", "--request", "8=b"]]
         wrong += [["manifest"], ["manifest", "a"], ["manifest", "-", "-"]]
         wrong += [["provision"], ["provision", "a"], ["provision", "a", "b"], ["provision", "a", "-", "b"]]
         wrong += [

@@ -14,12 +14,16 @@ TOPICS = (*COMMANDS, "man", "completions")
 FILES = ("made/", "one.img", "two.img")
 OFFERED = {
     ("ch",): ("check", "choose"),
+    ("p",): ("plan", "provision"),
     ("make-",): ("make-device", "make-image", "make-manifest"),
     ("help", "c"): ("check", "choose", "codes", "completions"),
     ("help", "man", "s"): ("show", "slots", "sweep"),
     ("help", "completions", ""): ("bash", "fish", "zsh"),
     ("choose", "o"): ("one.img",),
     ("choose", "--ex"): ("--explain",),
+    ("plan", "o"): ("one.img",),
+    ("plan", "--s"): ("--summary",),
+    ("plan", "--merge", "one.img", "t"): ("two.img",),
     ("make-image", "--force", "--cou"): ("--counter",),
     ("make-image", "--sec"): ("--security-counter",),
     ("make-manifest", "--p"): ("--permanent", "--precursor"),

@@ -45,6 +45,8 @@ MORE = [
     ["choose", THREE],
     ["check", THREE, "-"],
     ["check", "-", "-"],
+    ["plan", "-"],
+    ["plan", "--merge", "absent"],
     ["image", ONE],
     ["manifest", PAIR, f"{EXAMPLES}/manifests/both.json"],
     ["show", PAIR, "flash"],

@@ -2,13 +2,16 @@
 
 import hashlib
 import os
+import random
+import subprocess
 
 from support.builders import COUNTER, DEPENDENCY, component, device, image, little, manifest, version
 from support.commands import COMMANDS
 from support.files import EXAMPLES, ONE, PAIR, names_in, read, report, table
+from support.fleet import device_at_random, device_notes, row_note, summary_of
 from support.flashes import flash_of
 from support.printed import note_lines
-from support.program import ProgramTest
+from support.program import ProgramTest, short
 
 VERSIONS = b"""note: a VERSION is major.minor.revision+build, of which last parts may be left out; numbers are
 note: decimal, without leading zeros; one space parts two words
@@ -550,3 +553,93 @@ class ExplainRunTest(ProgramTest):
         made = ["make-device", "--sector=512", "--slots=2,2", "--vendor=python.org", "--class=sensor"]
         status, out, err = self.run_program(made)
         self.expect("explained: make-device", [*made, "--explain"], status, out, err)
+
+
+# A fleet with each result, and the notes on it and on its summary.
+FLEET_TEXT = (
+    b"device a\nimage 0 1.0.0+0 0 0\nrequest 2.0.0+0 0\ndevice b\n" + REFUSED
+    + b"device c\nimage 00 1 0 0\ndevice d\nimage 0 1 0 0\nneeds 7 1\n"
+)
+
+FLEET_NOTES = [
+    b"b refuses image 0, because the bytes that are requested are no intact image",
+    b"b refuses image 1, because 2.0.0+0 runs, which is newer",
+    b"b refuses image 2, because its security counter is below the floor",
+    b"b refuses image 3, because it needs image 9, which isn't there",
+    b"b refuses image 4, because no version of image 2 that is still possible is at least 2.0.0+0",
+    b"b refuses image 5, because none of these is still possible: image 0 from 3.0.0+0 on, image 9 from 1.0.0+0 on",
+    b"c has a bad table: its line 1 is the first wrong one",
+    b"d runs images that don't fit each other",
+]
+
+SUMMARY_NOTES = [
+    b"1 device has a bad table; it is c",
+    b"4 devices are in the fleet; the first is a",
+    b"1 device runs images that don't fit each other; it is d",
+    b"1 device refuses image 0, because the bytes that are requested are no intact image; it is b",
+    b"1 device refuses image 1 version 1.9.0+0, because a newer version runs; it is b",
+    b"1 device refuses image 2 version 2.0.0+0, because its security counter is below the floor; it is b",
+    b"1 device refuses image 3 version 2.0.0+0, because it needs image 9, which isn't there; it is b",
+    b"1 device refuses image 4 version 2.0.0+0, because no version of image 2 that is still possible is at least 2.0.0+0;"
+    b" it is b",
+    b"1 device refuses image 5 version 2.0.0+0, because none of these is still possible: image 0 from 3.0.0+0 on,"
+    b" image 9 from 1.0.0+0 on; it is b",
+    b"1 device takes image 0 version 2.0.0+0; it is a",
+    b"1 device takes image 6 version 2.0.0+0; it is b",
+]
+
+# What a fleet begins with, which doesn't begin with a device.
+FLEET_BEGINS = b"a fleet begins with a line `device NAME`; a NAME is 1 to 255 visible characters of ASCII"
+
+
+class ExplainPlanTest(ProgramTest):
+    """The notes on fleets and on summaries."""
+
+    def expect_notes(self, name, arguments, status, items):
+        """A case: a plan prints these texts, and after each of them its notes."""
+        out, err = (b"".join(it) for it in zip(*items)) if items else (b"", b"")
+        self.expect(f"explained: plan: {name}", [*arguments, "--explain"], status, out, err)
+        # Both outputs to one file have the notes after the lines that they are on.
+        got = self.run_program([*arguments, "--explain"], stderr=subprocess.STDOUT)[1]
+        wanted = b"".join(text + notes for text, notes in items)
+        self.case(f"explained: plan: {name}: in one file", [] if got == wanted else [f"{short(got)}, and not {short(wanted)}"])
+
+    def test_worked_fleet(self):
+        """Each result of a device has its note, and each row of a summary."""
+        for name, options, notes in (("a fleet", [], FLEET_NOTES), ("a summary", ["--summary"], SUMMARY_NOTES)):
+            self.file("fleet", FLEET_TEXT)
+            status, out, err = self.run_program(["plan", "fleet", *options])
+            self.expect(f"explained: plan: {name}", ["plan", "fleet", *options, "--explain"], 1, out, note_lines(*notes))
+            self.case(f"plan without --explain: {name}", [] if (status, err) == (1, b"") and out else [status, err])
+
+    def test_random_fleets(self):
+        """The notes on random fleets, their summaries and sums are those of the definitions."""
+        numbers = random.Random(3)
+        for number in range(20):
+            devices = [device_at_random(numbers, it) for it in range(numbers.randrange(25))]
+            status = 1 if any({b"bad", b"not-valid"} & {*it.keys} for it in devices) else 0
+            self.file("fleet", b"".join(it.lines() for it in devices))
+            items = [(it.plan(), note_lines(*(it.encode() for it in device_notes(it)))) for it in devices]
+            self.expect_notes(f"fleet {number}", ["plan", "fleet"], status, items)
+            rows = summary_of(devices).splitlines(keepends=True)
+            items = [(it, note_lines(row_note(it[:-1]).encode())) for it in rows]
+            self.expect_notes(f"summary {number}", ["plan", "fleet", "--summary"], status, items)
+            self.file("summary", b"".join(rows))
+            self.expect_notes(f"sum {number}", ["plan", "--merge", "summary"], status, items)
+
+    def test_refused_fleets(self):
+        """An error line has a note on what a fleet begins with. The notes on the devices come before it."""
+        error = b"error: fleet line 1\n" + note_lines(FLEET_BEGINS)
+        self.expect("explained: no fleet", ["plan", table("pair"), "--explain"], 1, b"", error)
+        self.expect("explained: a summary of none", ["plan", table("pair"), "--summary", "--explain"], 1, b"", error)
+
+    def test_failed_notes(self):
+        """If standard error takes no note, the plan is printed as without notes."""
+        self.file("fleet", FLEET_TEXT)
+        status, out, _ = self.run_program(["plan", "fleet"])
+        with open("/dev/full", "wb") as full:
+            got = self.run_program(["plan", "fleet", "--explain"], stderr=full)
+        self.case("explained: plan: full standard error", [] if got[:2] == (status, out) else [short(got)])
+        with open("/dev/full", "wb") as full:
+            got = self.run_program(["plan", "fleet", "--explain"], stdout=full)
+        self.case("explained: plan: full standard output", [] if (got[0], got[2]) == (1, b"") else [short(got)])

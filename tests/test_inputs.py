@@ -47,6 +47,7 @@ class UnreadableInputTest(ProgramTest):
                 ("image", [name]),
                 ("check, a table", [name, report("pair")]),
                 ("check, a report", [table("pair"), name]),
+                ("plan, a fleet", [name]),
                 ("manifest, a device", [name, "gone"]),
                 ("manifest, a manifest", [PAIR, name]),
                 ("provision, a device", [name, "new", "gone"]),
@@ -60,7 +61,7 @@ class UnreadableInputTest(ProgramTest):
                 arguments = [command.split(",")[0], *arguments]
                 self.expect(f"cannot read {name!r}: {command}", arguments, 1, err=message(name))
         from_input = [
-            [], ["choose", "-"], ["image", "-"], ["check", "-", report("pair")], ["check", table("pair"), "-"]
+            [], ["choose", "-"], ["plan", "-"], ["image", "-"], ["check", "-", report("pair")], ["check", table("pair"), "-"]
         ]
         from_input += [["provision", PAIR, "new", "-", ONE], ["show", PAIR, "-"], ["run", PAIR, "flash", "-"]]
         for arguments in from_input:

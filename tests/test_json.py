@@ -2,13 +2,17 @@
 
 import json
 import os
+import random
 import re
+import resource
 import subprocess
 
 from support.builders import ABC, CLASS, VENDOR, component, device, image, manifest, version
 from support.files import EXAMPLES, ONE, PAIR, ROOT, names_in, read, report, table
+from support.fleet import device_at_random, device_notes, planned, row_note, summary_of
 from support.flashes import flash_of
 from support.program import LIMIT, ProgramTest, short
+from test_random_tables import Entry, Image
 
 # The devices of the scripts of the examples, except those of the pair.
 DEVICES = {name: f"{EXAMPLES}/devices/{name}.json" for name in ("either", "patient")}
@@ -197,6 +201,36 @@ def of_run(lines):
     return objects
 
 
+def of_plan(lines):
+    """The objects of the devices of a plan."""
+    objects = []
+    for word, *rest in lines:
+        if word == "device":
+            objects.append({"device": rest[0]})
+        elif word == "bad-line":
+            objects[-1]["bad_line"] = int(rest[0])
+        elif word in ("too-long", "not-valid"):
+            objects[-1][word.replace("-", "_")] = True
+        else:
+            report_line(objects[-1], word, rest)
+    return objects
+
+
+def of_summary(lines):
+    """The object of a summary."""
+    found = {}
+    for count, first, kind, *rest in lines:
+        row = {"count": int(count), "first": first, "kind": kind}
+        if kind == "refuse":
+            image, *words = rest
+            row.update({"image": int(image)}, **({} if words == ["damaged"] else {"version": words.pop(0)}))
+            row.update({"reason": words[0]}, **({"needs": pairs(words[1:])} if len(words) > 1 else {}))
+        elif rest:
+            row["take"] = pairs(rest)
+        add(found, "rows", row)
+    return found
+
+
 def of_sweep(lines):
     found, end = {}, None
     for word, *rest in lines:
@@ -233,9 +267,19 @@ READERS = {
 }
 
 
+def table_of(is_older):
+    """A table of one image whose request is taken, or refused since a newer version runs."""
+    return [Image(Entry((2, 0, 0, 0), 0, [], []), 0, Entry((1 if is_older else 3, 0, 0, 0), 0, [], []))]
+
+
+def words_of(text):
+    """The words of each line."""
+    return [line.split(" ") for line in text.decode().splitlines()]
+
+
 def objects_of(command, text):
     """The objects of a text answer."""
-    lines = [line.split(" ") for line in text.decode().splitlines()]
+    lines = words_of(text)
     if not lines:
         return []
     found = READERS[command](lines)
@@ -478,3 +522,99 @@ class JsonTest(ProgramTest):
                 got = ran.stdout.decode()
                 faults = [] if got == wanted else [f"{short(got)}, and not {short(wanted)}"]
                 self.case(f"docs/JSON.md: {command}", faults)
+
+
+# How many random fleets are planned, and the most devices of one.
+FLEETS, MOST_DEVICES = 20, 25
+
+# How many devices a large fleet has, and the bytes of memory that the program may use for it.
+LARGE, MOST_MEMORY = 250_000, 10 << 20
+
+
+class PlanTest(ProgramTest):
+    """The answers of `plan` as JSON, beside what they have to be by the definitions."""
+
+    def fleets(self):
+        """Random fleets with the members that each device and each row has."""
+        numbers = random.Random(2)
+        for _ in range(FLEETS):
+            devices = [device_at_random(numbers, it) for it in range(numbers.randrange(MOST_DEVICES))]
+            is_good = not any({b"bad", b"not-valid"} & {*it.keys} for it in devices)
+            self.file("fleet", b"".join(it.lines() for it in devices))
+            yield devices, 0 if is_good else 1
+
+    def same(self, name, arguments, *wanted):
+        """A case: a command has this status and these answers."""
+        got = self.run_program(arguments)
+        faults = [f"{short(one)}, and not {short(other)}" for one, other in zip(got, wanted) if one != other]
+        self.case(f"json: plan: {name}", faults)
+
+    def test_devices(self):
+        """`plan` prints an object for each device, with its notes if `--explain` is given."""
+        for number, (devices, status) in enumerate(self.fleets()):
+            objects = of_plan(words_of(b"".join(it.plan() for it in devices)))
+            self.same(f"fleet {number}", ["plan", "fleet", "--json"], status, json_lines(objects), b"")
+            notes = [[*device_notes(it)] for it in devices]
+            noted = [{**it, **({"notes": own} if own else {})} for it, own in zip(objects, notes)]
+            arguments = ["plan", "fleet", "--json", "--explain"]
+            self.same(f"notes on fleet {number}", arguments, status, json_lines(noted), b"")
+
+    def test_summaries(self):
+        """`plan --summary` and `plan --merge` print an object with the rows, and a note on each with `--explain`."""
+        for number, (devices, status) in enumerate(self.fleets()):
+            half = len(devices) // 2
+            parts = [self.file(name, summary_of(it)) for name, it in (("one", devices[:half]), ("two", devices[half:]))]
+            text = summary_of(devices)
+            found = of_summary(words_of(text))
+            notes = {"notes": [*map(row_note, text.splitlines())]} if text else {}
+            for arguments in (["fleet", "--summary"], ["--merge", *parts]):
+                name, arguments = f"fleet {number}: {arguments[-1]}", ["plan", *arguments, "--json"]
+                self.same(name, arguments, status, json_lines([found]), b"")
+                self.same(f"notes on {name}", [*arguments, "--explain"], status, json_lines([{**found, **notes}]), b"")
+
+    def test_refused_fleets(self):
+        """Without an answer nothing is printed but the error line."""
+        for arguments in (["plan", table("pair")], ["plan", table("pair"), "--summary"], ["plan", "--merge", table("pair")]):
+            usual = self.run_program(arguments)
+            self.case(f"json: {arguments} is refused", [] if usual[:2] == (1, b"") and usual[2] else [usual])
+            self.same(f"refused {arguments}", [*arguments, "--json"], *usual)
+
+    def large_fleet(self, count):
+        """A fleet of one table that is taken, and one that isn't, in turn."""
+        bare = planned(b"%b", table_of(False)), planned(b"%b", table_of(True))
+        return b"".join(bare[it % 2]._replace(name=b"%d" % it).lines() for it in range(count))
+
+    def test_each_device_is_printed_when_it_comes(self):
+        """The object of a device is printed before the fleet ends."""
+        command = [self.program, "plan", "-", "--json"]
+        with subprocess.Popen(command, stdin=subprocess.PIPE, stdout=subprocess.PIPE) as ran:
+            # The objects are longer than the program's buffer, and the fleet is hardly longer than that of a pipe.
+            ran.stdin.write(self.large_fleet(1_200))
+            ran.stdin.flush()
+            first = json.loads(ran.stdout.readline())
+            ran.stdin.close()
+            names = [first["device"], *(json.loads(line)["device"] for line in ran.stdout)]
+            status = ran.wait(LIMIT)
+        is_right = status == 0 and names == [str(it) for it in range(1_200)]
+        self.case("json: plan: each device when it comes", [] if is_right else [status, short(names)])
+
+    def test_large_fleet(self):
+        """A fleet of more bytes than the memory that the program may use is planned as any other."""
+        fleet = self.large_fleet(LARGE)
+        self.assertGreater(len(fleet), MOST_MEMORY)
+        self.file("fleet", fleet)
+        for options in (["--json"], ["--json", "--explain"], ["--explain"], ["--json", "--summary", "--explain"]):
+            ran = subprocess.run(
+                [self.program, "plan", "fleet", *options], cwd=self.folder, stdout=subprocess.DEVNULL,
+                stderr=subprocess.DEVNULL,
+                preexec_fn=lambda: resource.setrlimit(resource.RLIMIT_AS, (MOST_MEMORY, MOST_MEMORY)),
+            )
+            self.case(f"memory of a large fleet: {options}", [f"status {ran.returncode}"] * (ran.returncode != 0))
+
+    def test_failed_output(self):
+        """A failed write ends a plan as it does without `--json`."""
+        self.file("fleet", self.large_fleet(10))
+        for options in ([], ["--summary"], ["--explain"]):
+            with open("/dev/full", "wb") as full:
+                got = self.run_program(["plan", "fleet", "--json", *options], stdout=full)
+            self.case(f"json: full output of plan {options}", [] if got[0] == 1 and not got[2] else [got])

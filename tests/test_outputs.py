@@ -23,6 +23,7 @@ def commands(version):
     yield ["choose", "-"], read(pair), read(report("pair")), none
     yield ["check", pair, "-"], read(report("pair")), b"yes\n", none
     yield ["check", "-", report("three")], read(pair), b"no\n", none
+    yield ["plan", "-"], b"device a\n" + read(pair), b"device a\n" + read(report("pair")), none
     yield ["image", f"{EXAMPLES}/images/either.img"], none, described, none
     yield ["image", "-"], b"image 0 1.0.0 0 0\n", b"refused 1 Short\n", none
     yield ["manifest", PAIR, "-"], read(ABC_MANIFEST), message, none
@@ -55,7 +56,9 @@ class UnwritableOutputTest(ProgramTest):
         abc = f"{EXAMPLES}/manifests/abc.json"
         flash_of(self)
         boot = self.file("boot", b"boot\n")
-        prints = [["choose", pair], ["check", pair, report("pair")], ["image", one], ["manifest", PAIR, abc]]
+        fleet = self.file("fleet", b"device a\n" + read(pair))
+        prints = [["choose", pair], ["check", pair, report("pair")], ["plan", fleet]]
+        prints += [["image", one], ["manifest", PAIR, abc]]
         prints += [["provision", PAIR, "flash", one, one], ["show", PAIR, "flash"], ["run", PAIR, "flash", boot]]
         prints += [make_device(512, [2, 2], "v", "c"), ["--help"], ["--version"]]
         with open("/dev/full", "wb") as full:

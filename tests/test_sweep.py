@@ -6,6 +6,7 @@ import hashlib
 import os
 import re
 import select
+import shutil
 import subprocess
 import time
 import xml.etree.ElementTree
@@ -160,6 +161,138 @@ class SweepTest(ProgramTest):
         self.case("sweep: the least and the greatest seed", [] if seeds == {0} else [f"{seeds}"])
 
 
+# The options of sweeps that are shared.
+SHARED = [[], ["--twice"], ["--sample=30", "--seed=7"], ["--twice", "--sample=30"], ["--sample=0"]]
+
+# An output of one run of two events.
+OUTPUT = b"1 boot\n2 accept from 1 .t\nruns 1\nend 1 uncut\nrun 0 1.0.0+0\n"
+
+# Texts that can't be merged with OUTPUT: the part of it that is replaced, the new text, and the line that is wrong.
+WRONG = [
+    (b"1 boot", b"2 boot", 1),
+    (b"1 boot", b"1 reset", 1),
+    (b"1 boot", b"1 frob", 1),
+    (b"1 boot", b"1 boot ", 1),
+    (b"1 boot", b"\xff boot", 1),
+    (b"1 boot\n", b"", 1),
+    (b"accept from 1", b"accept from 2", 2),
+    (b".t", b".u", 2),
+    (b".t", b"..t", 2),
+    (b".t", b"", 2),
+    (b" from 1 .t", b"", 2),
+    (b"runs", b"3 boot\nruns", 3),
+    (b"runs 1", b"runs 01", 3),
+    (b"runs 1", b"runs 18446744073709551616", 3),
+    (b"runs 1\n", b"", 3),
+    (b"end 1", b"end 0", 4),
+    (b"uncut", b"cut 1", 4),
+    (b"uncut", b"cut 1 frob", 4),
+    (b"uncut", b"cut 1 keep cut 2", 4),
+    (b"run 0", b"run 1", 5),
+    (b"1.0.0+0", b"1.0.0", 5),
+    (b"run 0 1.0.0+0\n", b"", 5),
+    (b"1.0.0+0\n", b"1.0.0+0", 5),
+    (b"1.0.0+0\n", b"1.0.0+0\n\n", 6),
+    (b"1.0.0+0\n", b"1.0.0+0\nrefused 1\n", 6),
+    (b"1.0.0+0\n", b"1.0.0+0\nrefused 1 cut 1 keep\nother 1 cut 1 keep\n", 6),
+]
+
+
+class SweepPartsTest(ProgramTest):
+    """Sweeps whose runs are shared by several processes."""
+
+    def parts_of(self, count, options, files):
+        """Runs the parts of a sweep, and returns the names of their outputs. Each must end with status 0 or 1."""
+        names = []
+        for number in range(1, count + 1):
+            status, out, err = self.run_program(["sweep", f"--part={number}/{count}", *options, *files])
+            assert status in (0, 1) and not err, short((status, err))
+            names.append(self.file(f"part-{number}", out))
+        return names
+
+    def test_parts(self):
+        """The outputs of all parts add up to the output of one process, in any order."""
+        old, new = (self.file(f"image-{major}", image((), own=version(major))) for major in (1, 2))
+        events = ["boot\n", *upload_events(self, 1, "permanent", [new]), "boot\n"]
+        small = self.file("small.json", device(sector=512, sectors=[1]))
+        files = [small, self.file("script", "".join(events).encode()), old]
+        for options in SHARED:
+            whole = self.run_program(["sweep", *options, *files])
+            for count in (3,) if options == ["--twice"] else (1, 3, 8):
+                names = self.parts_of(count, options, files)
+                merged = self.run_program(["sweep", "--merge", *names])
+                turned = self.run_program(["sweep", "--merge", *reversed(names)])
+                given = read(f"{self.folder}/{names[-1]}")
+                piped = self.run_program(["sweep", "--merge", *names[:-1], "-"], given=given)
+                faults = [short(it) for it in (merged, turned, piped) if it != whole]
+                self.case(f"sweep: {count} parts: {' '.join(options)}", faults)
+
+    def test_worked_parts(self):
+        """The parts of the worked run have a third of its runs each. The merged picture and JSON are those of one
+        process."""
+        flash_of(self)
+        names = self.parts_of(3, [], SWEEP[1:])
+        texts = [read(f"{self.folder}/{name}").decode() for name in names]
+        counts = [int(re.search(r"^runs (\d+)$", text, re.M)[1]) for text in texts]
+        faults = [] if counts == [1 + 2 * SUM_OF_WRITES, 2 * SUM_OF_WRITES, 2 * SUM_OF_WRITES] else [f"{counts}"]
+        self.case("sweep: the runs of three parts", faults)
+        merged = self.run_program(["sweep", "--merge", "--svg=merged.svg", "--json", *names])
+        whole = self.run_program(["sweep", "--svg=whole.svg", "--json", *SWEEP[1:]])
+        faults = [] if merged == whole else [short(merged)]
+        faults += [] if read(f"{self.folder}/merged.svg") == read(f"{self.folder}/whole.svg") else ["another picture"]
+        self.case("sweep: merged parts, as JSON and drawn", faults)
+        untried = self.run_program(["sweep", "--part=300/300", *SWEEP[1:]])
+        marks = "".join(re.findall(r" from \d+ (\S+)$", untried[1].decode(), re.M))
+        is_good = untried[0] == 0 and len(marks) == SUM_OF_WRITES and marks.count("_") == SUM_OF_WRITES - 1
+        self.case("sweep: writes that no run of a part cut", [] if is_good else [short(untried)])
+
+    def test_parallel(self):
+        """GNU `parallel` runs the parts of a sweep at the same time."""
+        if not shutil.which("parallel"):
+            self.skipTest("GNU parallel isn't installed")
+        command = ["parallel", "-j2", self.program, "sweep", "--part={}/3", *SWEEP[1:], ">", "part-{}", ":::", *"123"]
+        ran = subprocess.run(command, cwd=self.folder, capture_output=True, timeout=60)
+        merged = self.run_program(["sweep", "--merge", "part-1", "part-2", "part-3"])
+        whole = self.run_program(SWEEP)
+        faults = [] if ran.returncode == 0 else [short(ran.stderr)]
+        faults += [] if merged == whole else [short(merged)]
+        self.case("sweep: parts by GNU parallel", faults)
+
+    def test_wrong_outputs(self):
+        """`sweep --merge` refuses an output that is wrong or of other events, with its file and line."""
+        self.file("right", OUTPUT)
+        twice = OUTPUT.replace(b"runs 1", b"runs 2").replace(b"end 1", b"end 2")
+        self.expect("sweep: merged twice", ["sweep", "--merge", "right", "right"], 0, twice)
+        self.file("empty", b"")
+        rows = [("empty", 1)]
+        for number, (old, new, line) in enumerate(WRONG):
+            assert OUTPUT.count(old) == 1
+            rows.append((self.file(f"wrong-{number}", OUTPUT.replace(old, new)), line))
+        for name, line in rows:
+            message = f"error: cannot merge {name} line {line}\n".encode()
+            text = short(read(f"{self.folder}/{name}"))
+            self.expect(f"sweep: a wrong output: {text}", ["sweep", "--merge", "right", name], 1, err=message)
+        message = b"error: cannot read nothing\n"
+        self.expect("sweep: no output", ["sweep", "--merge", "right", "nothing"], 1, err=message)
+        message = b"error: picture is an input\n"
+        self.expect("sweep: a picture over an output", ["sweep", "--merge", "--svg=./right", "right"], 1, err=message)
+        is_kept = read(f"{self.folder}/right") == OUTPUT
+        self.case("sweep: an output is kept", [] if is_kept else ["it was changed"])
+
+    def test_merged_tallies(self):
+        """Merging adds the numbers of runs, joins the characters, and keeps the first cuts."""
+        one = b"1 boot from 1 _.t*_x\nruns 5\nend 3 uncut\nrun 0 1.0.0+0\nend 2 cut 3 done\ndamaged\n"
+        two = b"1 boot from 1 _.r.tx\nruns 4\nend 3 cut 3 keep\ndamaged\nend 1 cut 3 done cut 5 half\nrun 0 2.0.0+0\n"
+        one += b"other 2 cut 2 hex:ff cut 5 keep\n"
+        two += b"other 1 cut 2 hex:ff\nrefused 1 cut 6 half\n"
+        wanted = b"1 boot from 1 _.**tx\nruns 9\nend 3 uncut\nrun 0 1.0.0+0\nend 5 cut 3 keep\ndamaged\n"
+        wanted += b"end 1 cut 3 done cut 5 half\nrun 0 2.0.0+0\n"
+        wanted += b"other 3 cut 2 hex:ff\nrefused 1 cut 6 half\n"
+        names = [self.file("one", one), self.file("two", two)]
+        self.expect("sweep: two outputs", ["sweep", "--merge", *names], 1, wanted)
+        self.expect("sweep: two outputs, turned", ["sweep", "--merge", *reversed(names)], 1, wanted)
+
+
 # The same, with both images confirmed by the last two events, and a boot that ends the trial.
 KEPT = "boot\naccept {0}/manifests/trial.json\npiece 0 {0}/images/needing.img\npiece 1 {0}/images/partner.img\n"
 KEPT += "finish 0\nfinish 1\nboot\nconfirm 0\nconfirm 1\nboot\n"
@@ -234,6 +367,29 @@ class PictureTest(ProgramTest):
         faults += [] if read(picture) == read(f"{ROOT}/docs/sweep.svg") else ["it isn't the one of docs/"]
         faults += [] if labels[:10] == [f"{at} {it}" for at, it in enumerate(EVENTS, 1)] else [short(labels)]
         self.case("sweep: the picture", faults)
+
+    def test_size(self):
+        """A row of the picture has at most 120 squares, and the picture shows each of them and the legend."""
+        old, new = (self.file(f"image-{it}", image([], body=bytes(7000), own=version(it))) for it in (1, 2))
+        script = "".join(["boot\n", *upload_events(self, 1, "permanent", [new]), "boot\n"])
+        files = [self.file("big.json", device(sector=512, sectors=[16])), self.file("script", script.encode()), old]
+        status, out, err = self.run_program(["sweep", "--sample=0", "--svg=long.svg", *files])
+        counts = [len(it) for it in re.findall(rb" from \d+ (\S+)$", out, re.M)]
+        faults = [] if (status, err) == (0, b"") and max(counts) > 120 else [f"{status} {short(err)}, {counts} writes"]
+        tree = xml.etree.ElementTree.parse(f"{self.folder}/long.svg").getroot()
+        width, height = int(tree.get("width")), int(tree.get("height"))
+        faults += [] if tree.get("viewBox") == f"0 0 {width} {height}" else [f"viewBox {tree.get('viewBox')}"]
+        faults += [] if width < 1500 else [f"it is {width} pixels wide"]
+        rows = {}
+        for square in tree.iter(f"{SVG}rect"):
+            if square.find(f"{SVG}title") is not None:
+                rows.setdefault(square.get("y"), []).append(int(square.get("x")))
+        faults += [] if max(map(len, rows.values())) == 120 else ["the longest row hasn't 120 squares"]
+        faults += [] if sum(map(len, rows.values())) == sum(counts) else ["squares lack"]
+        ends = [(int(it.get("x")), int(it.get("y"))) for it in tree.iter(f"{SVG}text")]
+        faults += [] if all(x < width - 250 and y < height for x, y in ends) else ["a text lies outside"]
+        faults += [] if max(map(int, rows)) + 16 < height else ["a row lies outside"]
+        self.case("sweep: the picture of a long event", faults)
 
     def test_picture_over_an_input(self):
         """`sweep` refuses a picture that is the script, or a file that the script names, by any name."""

@@ -1,6 +1,8 @@
 """What the program does if a system call or a request for memory fails, or transfers one byte."""
 
+import json
 import os
+import subprocess
 
 from support.commands import MAKING
 from support.compiled import needs_compiler, preloaded
@@ -80,6 +82,7 @@ def runs_with_faults():
     yield from [["--help"], ["--version"], ["help", "man", "run"], ["help", "man", "frob"]]
     yield from [["help", "completions", it] for it in ("bash", "zsh", "fish")]
     yield from [["choose", table("groups"), "--json"], ["image", f"{EXAMPLES}/images/either.img", "--json"]]
+    yield ["slots", PAIR, "flash", "--json"]
 
 
 def is_explained_after(fault, got, usual):
@@ -360,6 +363,19 @@ def is_other_end_after(fault, got, usual):
     return is_untold or is_unread or is_unwritten
 
 
+def text_of_reply(line):
+    """The lines of a reply that this JSON object is."""
+    said = json.loads(line)
+    words = [said["event"], said["reply"], *said.get("images", []), *(["left", said["left"]] if "left" in said else [])]
+    words += [said["refused"][it] for it in ("layer", "code", "name", "image", "check") if it in said.get("refused", {})]
+    images = [(it["image"], word, it["version"]) for word in ("take", "run") for it in said.get(word, [])]
+    lines = [words, *([word, image, version] for image, word, version in sorted(images))]
+    for refused in said.get("refuse", []):
+        needs = [value for it in refused.get("needs", []) for _, value in sorted(it.items())]
+        lines.append(["refuse", refused["image"], refused["reason"], *needs])
+    return "".join(" ".join(map(str, it)) + "\n" for it in lines).encode()
+
+
 @needs_compiler
 class RunFaultTest(ProgramTest):
     """Runs of a device."""
@@ -395,6 +411,46 @@ class RunFaultTest(ProgramTest):
         added = calls["--durable", "fail"] - calls["run", "fail"]
         is_right = added == SUM_OF_WRITES + SYNCED_ONCE
         self.case("run --durable: its calls", [] if is_right else [f"{added}, and not {SUM_OF_WRITES + SYNCED_ONCE}"])
+
+    def test_json_faults(self):
+        """The same for the worked run with `--json`, whose objects are read as text."""
+        before = flash_of(self)
+        flashes = [*flashes_of(self, before)]
+
+        def run(env=os.environ):
+            self.file("flash", before)
+            status, out, err = self.run_program(["run", "--json", PAIR, "flash", SCRIPT], env=env)
+            return (status, b"".join(map(text_of_reply, out.splitlines(keepends=True))), err), read(f"{self.folder}/flash")
+
+        usual = run()
+        self.case("run --json of a device", [] if usual == ((0, numbered(USUAL), b""), flashes[-1]) else [short(usual[0])])
+        for fault in ("fail", "short", "memory"):
+            faults = []
+            for at, (got, kept) in each_fault(self, fault, run):
+                wrong = wrong_call(self)
+                if not is_run_after(fault, wrong, got, kept, flashes) or not boots_after(self):
+                    faults.append(f"at call {at}, to {wrong}: {short(got)}")
+            self.case(f"{fault}: run --json of a device, {at} calls", faults[:5])
+
+    def test_notes_before_an_error(self):
+        """With `--json --explain`, the notes on the last reply of a run come before an error line."""
+        before = flash_of(self)
+        self.file("script", f"boot\nconfirm 0\naccept {TRIAL}\n".encode())
+
+        def run(env=os.environ):
+            self.file("flash", before)
+            arguments = ["run", "--json", "--explain", PAIR, "flash", "script"]
+            return self.run_program(arguments, env=env, stderr=subprocess.STDOUT)[:2]
+
+        status, out = run()
+        refused, noted = [line for line in out.splitlines(keepends=True) if line.startswith(b'{"event":2,')]
+        is_right = status == 0 and b'"refused"' in refused and b'"notes"' in noted and refused + noted in out
+        self.case("run --json --explain: notes on a reply", [] if is_right else [short(out)])
+        ends = [got for _, got in each_fault(self, "fail", run) if b"error: cannot read " in got[1]]
+        ends = [(status, *text.split(b"error: ", 1)) for status, text in ends if refused in text]
+        wanted = out[: out.index(noted) + len(noted)]
+        faults = [short(it) for it in ends if it[:2] != (1, wanted)]
+        self.case("run --json --explain: notes before an error line", faults if ends else ["no file failed after the reply"])
 
     def test_other_ends(self):
         """The same for runs that end in other ways: the device boots from the flash file."""

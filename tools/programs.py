@@ -14,7 +14,7 @@ WHOLE, CORE = "bootswap", "bootswap_core"
 
 # The commands that the core lacks, and the options that it doesn't accept.
 OF_WHOLE = (
-    *("choose", "check", "image", "manifest", "show", "slots", "codes"),
+    *("choose", "check", "plan", "image", "manifest", "show", "slots", "codes"),
     *("make-device", "make-image", "make-manifest", "extract", "sweep"),
 )
 OPTIONS = ("--explain", "--json")

@@ -11,7 +11,7 @@ SECONDS = {
     "boot_cli": 120, "boot_core": 161, "bootswap": 70, "bootswap_core": 50, "c_interface": 150, "certificate": 177,
     "chooser": 61, "command_line": 127, "common": 28, "creating": 142, "decision": 39, "device_commands": 100,
     "device_texts": 105, "diagnostics": 218, "explaining": 126, "flash_model": 72, "host": 70, "image_header": 31,
-    "image_reading": 106, "inputs": 120, "inspecting": 151, "machine": 50, "manifest": 86, "manifest_interface": 60,
+    "image_reading": 106, "inputs": 120, "inspecting": 250, "machine": 50, "manifest": 86, "manifest_interface": 60,
     "manual": 55, "sector_map": 33, "set_log": 68, "slice_flash": 45, "swap_scratch": 35,
     "sweep": 144, "system_host": 220, "tlv": 53, "trailer": 75, "upload": 106, "version_order": 27,
 }

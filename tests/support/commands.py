@@ -10,7 +10,7 @@ def make_device(sector, slots, vendor, name, *boots):
     return arguments + [it for many in boots for it in ("--trial-boots", str(many))]
 
 
-COMMANDS = ("choose", "check", "image", "manifest", "make-device", "make-image", "make-manifest", "provision")
+COMMANDS = ("choose", "check", "plan", "image", "manifest", "make-device", "make-image", "make-manifest", "provision")
 COMMANDS += ("extract", "show", "slots", "run", "sweep", "codes")
 
 
