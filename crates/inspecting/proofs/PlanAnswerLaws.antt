@@ -4,6 +4,7 @@ use Rattle.std.proofs.KnownBytes.{Appends-kept}
 use Rattle.std.proofs.lemmas.List.{append-nil, map-append, take_more}
 use Rattle.std.specs.List.{AllZip}
 use Rattle.std.specs.Io.KnownBytes.{Keeps}
+use Rattle.certificate.specs.declared.table.Entry.{Entry}
 use Rattle.command_line.specs.declared.orders.PlanOrder.{PlanOrder}
 use Rattle.command_line.specs.declared.orders.PlanOrder.TheVariants.{Fleet, Merge}
 use Rattle.host.specs.declared.answer.Answer.{Answer}
@@ -12,7 +13,9 @@ use Rattle.host.specs.declared.source.Source.{Source}
 use Rattle.host.specs.Input.{FileBytes, Gives, IsNamed, KeepsOthers}
 use Rattle.host.specs.Inputs.{GiveEach, names_of}
 use Rattle.host.proofs.InputLaws.{GiveEach-read}
-use Rattle.inspecting.specs.PlanAnswers.{AnswersPlan, ReadsEach}
+use Rattle.inspecting.specs.PlanAnswers.{AnswersPlan, ReadsEach, telling_of}
+use Rattle.inspecting.specs.PlanEnd.{WritesPlan}
+use Rattle.inspecting.specs.declared.fleet.telling.Telling.{Telling}
 
 -- Sources were read, and whatever others give afterwards, all of them give before.
 pub record HasReadEach (words : List (List ℕ)) (texts : List (List ℕ)) (input now_input : Option (List ℕ)) (file now_file : FileBytes) : Type 0 where
@@ -75,7 +78,20 @@ ReadsEach-all names texts input now_input file now_file has = record {
   given = rw (← append-nil has.sources, ← append-nil (map (λ text. text.items) texts)) (has.given [] [] tt);
 }
 
--- What was known before the flush is known after it.
+-- What was known before a flush is known after it.
+WritesPlan-kept : {entries : List (Option Entry)} {bytes : List ℕ} {answer : Answer} (telling : Telling)
+    (old mid new : Option (List ℕ)) → WritesPlan entries bytes telling answer old mid → Keeps mid new
+    → WritesPlan entries bytes telling answer old new
+WritesPlan-kept telling old mid new writes kept = record {
+  plan = writes.plan;
+  is = writes.is;
+  answered = writes.answered;
+  text = writes.text;
+  is_text = writes.is_text;
+  written = Appends-kept old mid new writes.text writes.written kept;
+}
+
+-- The same of an answer.
 pub AnswersPlan-kept : (asked : PlanOrder) (input : Option (List ℕ)) (file : FileBytes)
     (old mid new : Option (List ℕ)) → AnswersPlan Done asked input file old mid → Keeps mid new
     → AnswersPlan Done asked input file old new
@@ -89,12 +105,7 @@ AnswersPlan-kept (Fleet fleet requests is_summary) input file old mid new answer
         plans = record {
           bytes = plans.bytes;
           given = plans.given;
-          plan = plans.plan;
-          is = plans.is;
-          answered = plans.answered;
-          text = plans.text;
-          is_text = plans.is_text;
-          written = Appends-kept old mid new plans.text plans.written kept;
+          writes = WritesPlan-kept (telling_of is_summary) old mid new plans.writes kept;
         };
       },
     )

@@ -87,10 +87,12 @@ Plans-ended {telling = telling} {input = input} {mid = mid} {rest = rest} {a = a
       bytes = was.bytes;
       read = subst (Consumes input rest) (append-nil was.bytes) (Consumes-trans input mid rest was.bytes [] was.read read);
       end = end;
-      plan = was.plan ++ last.more;
-      is = last.is;
-      answered = last.answered;
-      text = told_text telling was.plan ++ last.text;
-      is_text = last.is_text;
-      written = Appends-trans a b c (told_text telling was.plan) last.text was.written last.written;
+      writes = record {
+        plan = was.plan ++ last.more;
+        is = last.is;
+        answered = last.answered;
+        text = told_text telling was.plan ++ last.text;
+        is_text = last.is_text;
+        written = Appends-trans a b c (told_text telling was.plan) last.text was.written last.written;
+      };
     }

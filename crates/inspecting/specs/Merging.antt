@@ -1,5 +1,6 @@
 -- Sums of summaries, and where a sum is while the rows of a text are added.
-use Rattle.std.specs.Prelude.{◌≡◌, ℕ, ◌<◌, Bool, ◌||◌, List, ◌∷◌, ◌++◌, [], codes, length, map, Option, is_some, String, Vec}
+use Rattle.std.specs.Prelude.{◌≡◌, ℕ, ◌<◌, Bool, ◌||◌, List, ◌∷◌, ◌++◌, [], codes, length, map}
+use Rattle.std.specs.Prelude.{Option, is_some, String, Vec}
 use Rattle.std.specs.BTreeMap.{BTreeMap, get_by_text}
 use Rattle.std.specs.Cmp.Lexicographic.{slice_cmp}
 use Rattle.std.specs.Io.KnownBytes.{Appends}
@@ -24,7 +25,8 @@ pub record IsNext (last text : List ℕ) (row : Row) (rest : List ℕ) : Type 0 
   pub fewer : length rest < length text
 
 -- The rows of a text before the rest are added. A key above the last one is above all of theirs.
-pub record HasAdded {Y : Type 0} (text rest last : List ℕ) (old new : BTreeMap (String Y) Tally) : Type 0 where
+pub record HasAdded {Y : Type 0} (text rest last : List ℕ) (old new : BTreeMap (String Y) Tally)
+    : Type 0 where
   pub rows : List Row
   pub split : text ≡ summary_text rows ++ rest
   pub each : AllByRecursion FitsRow rows
@@ -47,7 +49,8 @@ has_bad_at rows =
     is_some (get_by_text rows (codes "bad")) || is_some (get_by_text rows (codes "not-valid"))
 
 -- The text of rows in memory is written.
-pub record WritesSum {Y : Type 0} (tallies : BTreeMap (String Y) Tally) (answer : Answer) (old new : Option (List ℕ)) : Type 0 where
+pub record WritesSum {Y : Type 0} (tallies : BTreeMap (String Y) Tally) (answer : Answer)
+    (old new : Option (List ℕ)) : Type 0 where
   pub rows : List Row
   pub are : AreRows rows tallies
   pub answered : IsAnswerFor (has_bad_at tallies) answer
@@ -55,7 +58,8 @@ pub record WritesSum {Y : Type 0} (tallies : BTreeMap (String Y) Tally) (answer 
 
 -- The texts are those of summaries, and a writer took the text of their sum. The answer says
 -- whether a device has no report.
-pub record Merges {Y : Type 0} (texts : List (Vec ℕ Y)) (answer : Answer) (old new : Option (List ℕ)) : Type 0 where
+pub record Merges {Y : Type 0} (texts : List (Vec ℕ Y)) (answer : Answer)
+    (old new : Option (List ℕ)) : Type 0 where
   pub parts : List (List Row)
   pub spelled : AllZip IsSummaryText (map (λ text. text.items) texts) parts
   pub rows : List Row

@@ -12,8 +12,7 @@ use Rattle.host.specs.declared.source.Source.{Source}
 use Rattle.host.specs.Input.{FileBytes, Gives, IsNamed}
 use Rattle.host.specs.Inputs.{GiveEach, names_of}
 use Rattle.inspecting.specs.Merging.{has_bad_row}
-use Rattle.inspecting.specs.Plan.{IsPlan, Planned, has_bad}
-use Rattle.inspecting.specs.PlanEnd.{IsAnswerFor, IsPlanText}
+use Rattle.inspecting.specs.PlanEnd.{IsAnswerFor, WritesPlan}
 use Rattle.inspecting.specs.Release.{IsRelease}
 use Rattle.inspecting.specs.Row.{Row, summary_text}
 use Rattle.inspecting.specs.Summary.{IsSum}
@@ -23,30 +22,31 @@ use Rattle.inspecting.specs.declared.fleet.telling.Telling.TheVariants as tell
 
 -- A fleet was read, and a text of its plan was written: each device with its result, or their
 -- summary.
-pub record PlansSource (answer : Answer) (fleet : Source) (entries : List (Option Entry)) (telling : Telling) (input : Option (List ℕ)) (file : FileBytes) (old new : Option (List ℕ)) : Type 0 where
+pub record PlansSource (answer : Answer) (fleet : Source) (entries : List (Option Entry))
+    (telling : Telling) (input : Option (List ℕ)) (file : FileBytes) (old new : Option (List ℕ))
+    : Type 0 where
   pub bytes : List ℕ
   pub given : Gives fleet input file bytes
-  pub plan : List Planned
-  pub is : IsPlan entries bytes plan
-  pub answered : IsAnswerFor (has_bad plan) answer
-  pub text : List ℕ
-  pub is_text : IsPlanText telling plan text
-  pub written : Appends old new text
+  pub writes : WritesPlan entries bytes telling answer old new
 
 -- The same with the requests of these files.
-pub record AnswersFleet (answer : Answer) (fleet : Source) (files : List RequestedFile) (telling : Telling) (input : Option (List ℕ)) (file : FileBytes) (old new : Option (List ℕ)) : Type 0 where
+pub record AnswersFleet (answer : Answer) (fleet : Source) (files : List RequestedFile)
+    (telling : Telling) (input : Option (List ℕ)) (file : FileBytes) (old new : Option (List ℕ))
+    : Type 0 where
   pub entries : List (Option Entry)
   pub release : IsRelease file files entries
   pub plans : PlansSource answer fleet entries telling input file old new
 
 -- These texts were read of sources with these names, one after the other.
-pub record ReadsEach (names : List (Bor (List ℕ))) (input : Option (List ℕ)) (file : FileBytes) (texts : List (List ℕ)) : Type 0 where
+pub record ReadsEach (names : List (Bor (List ℕ))) (input : Option (List ℕ)) (file : FileBytes)
+    (texts : List (List ℕ)) : Type 0 where
   pub sources : List Source
   pub named : AllZip IsNamed (names_of names) sources
   pub given : GiveEach sources input file texts
 
 -- Summaries were read, and their sum was written.
-pub record AnswersMerge (answer : Answer) (names : List (Bor (List ℕ))) (input : Option (List ℕ)) (file : FileBytes) (old new : Option (List ℕ)) : Type 0 where
+pub record AnswersMerge (answer : Answer) (names : List (Bor (List ℕ))) (input : Option (List ℕ))
+    (file : FileBytes) (old new : Option (List ℕ)) : Type 0 where
   pub texts : List (List ℕ)
   pub read : ReadsEach names input file texts
   pub parts : List (List Row)

@@ -24,11 +24,9 @@ IsPlanText tell.Devices plan text = text ≡ plan_text plan
 IsPlanText tell.Summary plan text =
     (rows : List Row) × IsSummary plan rows × (text ≡ summary_text rows)
 
--- A reader gave a fleet to its end. A writer took a text of its plan.
-pub record Plans (entries : List (Option Entry)) (telling : Telling) (answer : Answer) (input rest old new : Option (List ℕ)) : Type 0 where
-  pub bytes : List ℕ
-  pub read : Consumes input rest bytes
-  pub end : IsAtEnd rest
+-- A writer took a text of the plan of a fleet.
+pub record WritesPlan (entries : List (Option Entry)) (bytes : List ℕ) (telling : Telling)
+    (answer : Answer) (old new : Option (List ℕ)) : Type 0 where
   pub plan : List Planned
   pub is : IsPlan entries bytes plan
   pub answered : IsAnswerFor (has_bad plan) answer
@@ -36,8 +34,17 @@ pub record Plans (entries : List (Option Entry)) (telling : Telling) (answer : A
   pub is_text : IsPlanText telling plan text
   pub written : Appends old new text
 
+-- A reader gave a fleet to its end. A writer took a text of its plan.
+pub record Plans (entries : List (Option Entry)) (telling : Telling) (answer : Answer)
+    (input rest old new : Option (List ℕ)) : Type 0 where
+  pub bytes : List ℕ
+  pub read : Consumes input rest bytes
+  pub end : IsAtEnd rest
+  pub writes : WritesPlan entries bytes telling answer old new
+
 -- Some more devices have their results. Those before and these are the plan of a fleet.
-pub record EndsWith (entries : List (Option Entry)) (telling : Telling) (answer : Answer) (bytes : List ℕ) (plan : List Planned) (old new : Option (List ℕ)) : Type 0 where
+pub record EndsWith (entries : List (Option Entry)) (telling : Telling) (answer : Answer)
+    (bytes : List ℕ) (plan : List Planned) (old new : Option (List ℕ)) : Type 0 where
   pub more : List Planned
   pub is : IsPlan entries bytes (plan ++ more)
   pub answered : IsAnswerFor (has_bad (plan ++ more)) answer
@@ -46,14 +53,16 @@ pub record EndsWith (entries : List (Option Entry)) (telling : Telling) (answer 
   pub written : Appends old new text
 
 -- The rest of a text of a plan is written, after what was written while the fleet was read.
-pub record WritesRest (telling : Telling) (plan : List Planned) (old new : Option (List ℕ)) : Type 0 where
+pub record WritesRest (telling : Telling) (plan : List Planned) (old new : Option (List ℕ))
+    : Type 0 where
   pub text : List ℕ
   pub is_text : IsPlanText telling plan (told_text telling plan ++ text)
   pub written : Appends old new text
 
 -- A reader gave these bytes, and a planner has read them. A writer took the devices that have their
 -- results.
-pub record HasPlanned (entries : List (Option Entry)) (telling : Telling) (planner : Planner) (input rest old new : Option (List ℕ)) : Type 0 where
+pub record HasPlanned (entries : List (Option Entry)) (telling : Telling) (planner : Planner)
+    (input rest old new : Option (List ℕ)) : Type 0 where
   pub bytes : List ℕ
   pub read : Consumes input rest bytes
   pub plan : List Planned

@@ -58,7 +58,8 @@ Tells planned old new before after =
     × Appends before after (told_text telling (planned ∷ []))
 
 -- A planner has read these lines, and these devices have their results.
-pub record HasRead (entries : List (Option Entry)) (telling : Telling) (planner : Planner) (lines : List (List ℕ)) (plan : List Planned) : Type 0 where
+pub record HasRead (entries : List (Option Entry)) (telling : Telling) (planner : Planner)
+    (lines : List (List ℕ)) (plan : List Planned) : Type 0 where
   pub lines_are : AreLinesOf lines plan planner.device
   pub devices : AllByRecursion (λ planned. IsDevice planned.device) plan
   pub each : AllByRecursion (IsPlanned entries) plan
@@ -66,13 +67,15 @@ pub record HasRead (entries : List (Option Entry)) (telling : Telling) (planner 
   pub told : IsTold telling planner.summary plan
 
 -- A planner has read these lines. Then some more devices have their results, which are written.
-pub record ReadsLines (entries : List (Option Entry)) (telling : Telling) (planner : Planner) (lines : List (List ℕ)) (plan : List Planned) (before after : Option (List ℕ)) : Type 0 where
+pub record ReadsLines (entries : List (Option Entry)) (telling : Telling) (planner : Planner)
+    (lines : List (List ℕ)) (plan : List Planned) (before after : Option (List ℕ)) : Type 0 where
   pub more : List Planned
   pub has : HasRead entries telling planner lines (plan ++ more)
   pub written : Appends before after (told_text telling more)
 
 -- A planner has read these bytes, and these devices have their results.
-pub record Stands (entries : List (Option Entry)) (telling : Telling) (planner : Planner) (bytes : List ℕ) (plan : List Planned) : Type 0 where
+pub record Stands (entries : List (Option Entry)) (telling : Telling) (planner : Planner)
+    (bytes : List ℕ) (plan : List Planned) : Type 0 where
   pub lines : List (List ℕ)
   pub prefix : List ℕ
   pub read : IsReadAs bytes lines prefix
@@ -80,7 +83,8 @@ pub record Stands (entries : List (Option Entry)) (telling : Telling) (planner :
   pub has : HasRead entries telling planner lines plan
 
 -- A planner has read these bytes. Then some more devices have their results, which are written.
-pub record ReadsBytes (entries : List (Option Entry)) (telling : Telling) (planner : Planner) (bytes : List ℕ) (plan : List Planned) (before after : Option (List ℕ)) : Type 0 where
+pub record ReadsBytes (entries : List (Option Entry)) (telling : Telling) (planner : Planner)
+    (bytes : List ℕ) (plan : List Planned) (before after : Option (List ℕ)) : Type 0 where
   pub more : List Planned
   pub stands : Stands entries telling planner bytes (plan ++ more)
   pub written : Appends before after (told_text telling more)
@@ -97,14 +101,16 @@ abbrev pub left_in : Option (List ℕ) → List ℕ
 left_in rest = unwrap_or rest []
 
 -- A planner reads these bytes up to those that are left. If any are left, they are fewer.
-pub record ReadsSome (entries : List (Option Entry)) (old new : Planner) (bytes : List ℕ) (rest before after : Option (List ℕ)) : Type 0 where
+pub record ReadsSome (entries : List (Option Entry)) (old new : Planner) (bytes : List ℕ)
+    (rest before after : Option (List ℕ)) : Type 0 where
   pub some : List ℕ
   pub split : some ++ left_in rest ≡ bytes
   pub fewer : IfSome rest (λ left. length left < length bytes)
   pub advances : Advances entries old new some before after
 
 -- A planner ends: all devices of the fleet have their results.
-pub record EndsPlan (entries : List (Option Entry)) (telling : Telling) (planner : Planner) (bytes : List ℕ) (plan : List Planned) (before after : Option (List ℕ)) : Type 0 where
+pub record EndsPlan (entries : List (Option Entry)) (telling : Telling) (planner : Planner)
+    (bytes : List ℕ) (plan : List Planned) (before after : Option (List ℕ)) : Type 0 where
   pub more : List Planned
   pub is : IsPlan entries bytes (plan ++ more)
   pub bad : planner.has_bad ≡ has_bad (plan ++ more)
