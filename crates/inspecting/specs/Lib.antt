@@ -17,6 +17,7 @@ pub mod PlanEnd
 pub mod Planning
 pub mod ReadingEnd
 pub mod Release
+pub mod Requested
 pub mod Requests
 pub mod Row
 pub mod Rows

@@ -8,15 +8,16 @@ use Rattle.certificate.specs.ReportText.{report_text}
 use Rattle.certificate.specs.Rightness.{IsRight}
 use Rattle.certificate.specs.StandardOrder.{IsInStandardOrder}
 use Rattle.certificate.specs.TableText.{IsSomeTable, IsTableText}
+use Rattle.inspecting.specs.Requested.{requested_versions}
 use Rattle.inspecting.specs.Requests.{Replaces}
 use Rattle.inspecting.specs.declared.fleet.outcome.Outcome.{Outcome}
 use Rattle.inspecting.specs.declared.fleet.outcome.Outcome.TheVariants.{Decided, NotValid, BadLine, TooLong}
 
--- The result over a table. If its running images fit each other, it is this table and the right
--- report in standard order.
+-- The result over a table. If its running images fit each other, it is the versions that the table
+-- requests, and the right report in standard order.
 abbrev pub IsResult : Table → Outcome → Type 0
 IsResult table (Decided decision) =
-    (decision.table ≡ table) × IsValid table running_set × IsRight table decision.report
+    (decision.requested ≡ requested_versions table) × IsValid table running_set × IsRight table decision.report
     × IsInStandardOrder table decision.report.refusals.items
 IsResult table NotValid = IsValid table running_set → ⊥
 IsResult table (BadLine n) = ⊥

@@ -12,6 +12,7 @@ use Rattle.common.specs.Lines.{◌␣◌}
 use Rattle.version_order.specs.declared.version.Version.{Version}
 use Rattle.version_order.specs.VersionText.{version_text}
 use Rattle.inspecting.specs.Plan.{Planned}
+use Rattle.inspecting.specs.Requested.{version_at}
 use Rattle.inspecting.specs.Row.{IsSumOf, Row}
 use Rattle.inspecting.specs.declared.fleet.outcome.Decision.{Decision}
 use Rattle.inspecting.specs.declared.fleet.outcome.Outcome.{Outcome}
@@ -31,17 +32,6 @@ taken_images n (image ∷ images) = taken_image n image ++ taken_images (n + 1) 
 abbrev pub take_key : List ReportedImage → List ℕ
 take_key images = codes "take" ++ taken_images 0 images
 
--- The version that is requested, if an intact image is.
-abbrev pub version_of : Request → Option Version
-version_of (request.Entry entry) = Some entry.version
-version_of request.None = None
-version_of request.Damaged = None
-
--- The version that a table requests of image j.
-abbrev pub requested_version : Table → ℕ → Option Version
-requested_version table j =
-    option_and_then (λ image. version_of image.request) (slice_get table.images.items j)
-
 -- The key of a refused request: `refuse`, the image, the requested version if the request is
 -- intact, and the reason.
 abbrev pub refuse_key : ℕ → Option Version → Reason → List ℕ
@@ -49,16 +39,16 @@ refuse_key j None reason = codes "refuse" ␣ decimal j ␣ reason_text reason
 refuse_key j (Some version) reason =
     codes "refuse" ␣ decimal j ␣ version_text version ␣ reason_text reason
 
--- The key of a refusal over a table.
-abbrev pub refusal_key : Table → Refusal → List ℕ
-refusal_key table refusal =
-    refuse_key refusal.image (requested_version table refusal.image) refusal.reason
+-- The key of a refusal, with these requested versions.
+abbrev pub refusal_key : List (Option Version) → Refusal → List ℕ
+refusal_key requested refusal =
+    refuse_key refusal.image (version_at requested refusal.image) refusal.reason
 
 -- The keys of a decision: the set that the device takes, and each refused request.
 abbrev pub decision_keys : Decision → List (List ℕ)
 decision_keys decision =
     take_key decision.report.images.items
-    ∷ map (refusal_key decision.table) decision.report.refusals.items
+    ∷ map (refusal_key decision.requested) decision.report.refusals.items
 
 -- The keys of a result.
 abbrev pub outcome_keys : Outcome → List (List ℕ)

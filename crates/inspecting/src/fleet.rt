@@ -1,9 +1,9 @@
 //! Decides for each device of a fleet which requests it takes.
 //!
 //! `planning` reads a fleet piece by piece. `planner` finds the devices in it. `outcome` decides
-//! over the table of one, with the requests of a release, which `requests` puts into it. `summary`
-//! counts what the devices do: `key` has the texts that it counts, and `rows` the counts. `merging`
-//! adds summaries up, whose lines `row_line` reads.
+//! over the table of one, with the requests of a release, which `requests` puts into it. `requested`
+//! keeps the versions that were requested. `summary` counts what the devices do: `key` has the texts
+//! that it counts, and `rows` the counts. `merging` adds summaries up, whose lines `row_line` reads.
 
 mod bounded;
 mod device_line;
@@ -15,6 +15,7 @@ mod planner;
 mod planning;
 mod program;
 mod release;
+mod requested;
 mod requests;
 mod row_line;
 mod rows;

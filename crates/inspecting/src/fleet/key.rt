@@ -3,9 +3,9 @@
 ghost use Rattle.std.specs.Fmt.{WritesOnOk};
 ghost use Rattle.std.specs.Prelude.{◌≡◌, ◌+◌, ◌^◌, ◌<◌, Some, length};
 ghost use Rattle.inspecting.specs.Key.{key_text};
-ghost use Rattle.inspecting.specs.Summary.{requested_version, take_key, taken_image, taken_images, version_of};
+ghost use Rattle.inspecting.specs.Summary.{take_key, taken_image, taken_images};
 
-use certificate::{Reason, ReportedImage, Request, Table};
+use certificate::{Reason, ReportedImage};
 use std::fmt;
 use version_order::Version;
 
@@ -85,25 +85,5 @@ fn write_image<W: fmt::Write>(
         write!(f, " {number} {version}")
     } else {
         f.write_str("")
-    }
-}
-
-/// Returns the version that a table requests of an image, if an intact image is requested.
-pub fn requested_version(table: &Table, image: u8) -> Option<Version>
-    ensures { result ≡ requested_version table.now image }
-{
-    match table.images.as_slice().get(usize::from(image)) {
-        Some(image) => version_of(&image.request),
-        None => None,
-    }
-}
-
-/// Returns the version of a request, if it is an intact image.
-fn version_of(request: &Request) -> Option<Version>
-    ensures { result ≡ version_of request.now }
-{
-    match request {
-        Request::Entry(entry) => Some(entry.version),
-        Request::None | Request::Damaged => None,
     }
 }

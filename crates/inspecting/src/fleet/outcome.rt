@@ -6,17 +6,20 @@ ghost use Rattle.inspecting.specs.Bounded.{Holds};
 ghost use Rattle.inspecting.specs.Outcome.{IsDecision, IsOutcome, is_bad, outcome_text};
 
 use crate::fleet::bounded::Bounded;
+use crate::fleet::requested::requested_versions;
 use crate::fleet::requests::Requests;
 use certificate::{Report, Table, is_valid};
 use chooser::choose;
+use common::limits::MOST_IMAGES;
 use std::fmt;
+use version_order::Version;
 
-/// The table of a device as it was decided over, and the decision.
+/// What was requested of a device, and the decision.
 #[derive(Drop)]
 pub struct Decision {
-    /// The table, with its requests replaced by those of the release.
-    pub table: Table,
-    /// Which of its requests are taken, and why each of the others is refused.
+    /// For each image number the version that is requested, if an intact image is.
+    pub requested: [Option<Version>; MOST_IMAGES],
+    /// Which of the requests are taken, and why each of the others is refused.
     pub report: Report,
 }
 
@@ -66,22 +69,25 @@ pub fn outcome_of(requests: &Requests, table: &Bounded) -> Outcome
     if table.is_too_long {
         return Outcome::TooLong;
     }
-    match Table::parse(&table.bytes) {
+    // The table is large, so it isn't moved.
+    let mut parsed = Table::parse(&table.bytes);
+    match &mut parsed {
         Ok(table) => decide(requests, table),
         Err(bad) => Outcome::BadLine(bad.0),
     }
 }
 
-/// Decides over a table, with its requests replaced by those of a release.
-fn decide(requests: &Requests, table: Table) -> Outcome
-    requires { length table.images.items ≤ MOST_IMAGES }
-    ensures { IsDecision requests.now.entries table result }
+/// Decides over a table, after it replaced its requests by those of a release.
+fn decide(requests: &Requests, table: &mut Table) -> Outcome
+    requires { length table.old.images.items ≤ MOST_IMAGES }
+    ensures { IsDecision requests.now.entries table.old result }
 {
-    let mut table = table;
-    requests.replace_in(&mut table);
-    if !is_valid(&table) {
+    requests.replace_in(table);
+    if !is_valid(table) {
         return Outcome::NotValid;
     }
-    let report = choose(&table);
-    Outcome::Decided(Decision { table, report })
+    Outcome::Decided(Decision {
+        requested: requested_versions(table),
+        report: choose(table),
+    })
 }

@@ -13,8 +13,8 @@ use host::{Answer, Host, MOST_FILE, Refusal, Source, SourceFault, Stream, open_s
 use std::alloc::Global;
 use std::io::Write;
 
-/// Does what `plan` is asked for. Reads a fleet, or summaries, and the images that are requested
-/// from `host`, and writes the answer to `out`. The memory in use, of `alloc`, doesn't grow with the
+/// Runs the order `plan`. Reads a fleet, or summaries, and the images that are requested from
+/// `host`, and writes the answer to `out`. The memory in use, of `alloc`, doesn't grow with the
 /// number of devices.
 ///
 /// # Errors

@@ -7,8 +7,9 @@ ghost use Rattle.inspecting.specs.Row.{Row, summary_text};
 ghost use Rattle.inspecting.specs.Summary.{IsSummary, decision_keys, once, outcome_keys, refusal_key};
 ghost use Rattle.inspecting.specs.SummaryRows.{AddsRows, Summarizes};
 
-use crate::fleet::key::{Key, requested_version};
+use crate::fleet::key::Key;
 use crate::fleet::outcome::{Decision, Outcome};
+use crate::fleet::requested::version_at;
 use crate::fleet::rows::{RowFault, Rows, add_row, rows_text};
 use certificate::Refusal;
 use std::alloc::{AllocError, Global};
@@ -107,12 +108,12 @@ impl Summary {
         decision: &Decision,
         refusal: &Refusal,
     ) -> Result<(), RowFault>
-        ensures { OnOk result (AddsRows (once name.now (refusal_key decision.now.table refusal.now) ∷ [])
+        ensures { OnOk result (AddsRows (once name.now (refusal_key decision.now.requested refusal.now) ∷ [])
             self.old.rows self.new.rows) }
     {
         let key = Key::Refuse {
             image: refusal.image,
-            version: requested_version(&decision.table, refusal.image),
+            version: version_at(&decision.requested, refusal.image),
             reason: &refusal.reason,
         };
         self.count(name, &key)

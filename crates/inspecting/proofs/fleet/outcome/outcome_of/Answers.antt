@@ -4,5 +4,5 @@ use Rattle.inspecting.proofs.fleet.outcome.outcome_of.Goals as goal
 pub returns-in-Err : goal.returns-in-Err
 returns-in-Err c text kept = (
   kept.few c.if-table.false,
-  rw (c.deref.ensures.value, kept.whole c.if-table.false) at c.in-Err.ensures.line,
+  rw (c.deref.ensures.value, kept.whole c.if-table.false) at (rw c.in-Err.is at c.parse-parsed.ensures.line),
 )

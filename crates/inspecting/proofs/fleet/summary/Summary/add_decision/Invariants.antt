@@ -7,5 +7,5 @@ use Rattle.inspecting.proofs.fleet.summary.Summary.add_decision.Given as goal
 abbrev pub invariant-loop-refusal : goal.invariant-loop-refusal
 invariant-loop-refusal l =
     AddsRows (map (once l.name) (take_key l.decision.report.images.items
-    ∷ map (refusal_key l.decision.table) (take l.refusal-index l.decision.report.refusals.items)))
+    ∷ map (refusal_key l.decision.requested) (take l.refusal-index l.decision.report.refusals.items)))
     l.fn.self.rows l.self.rows
