@@ -45,7 +45,8 @@ AnswersOrder answer (order.Plan asked) input file then old new =
 AnswersOrder answer (order.Read asked) input file then old new =
     AnswersReading answer asked input file old new
 
--- `sweep` keeps what it reads, also with `--merge`, whatever its answer. Other orders promise nothing here.
+-- `sweep` keeps what it reads, also with `--merge`, whatever its answer. Other orders promise
+-- nothing here.
 abbrev pub KeepsSwept : Order → FileBytes → FileBytes → Type 0
 KeepsSwept (order.Sweep device script images choices) file then =
     (one other : Source) × AreNamed device.now script.now one other

@@ -1,12 +1,12 @@
 //! Runs the command that an order names.
-ghost use Rattle.std.specs.Prelude.{IfOk};
+ghost use Rattle.std.specs.Prelude.{◌≡◌, IfOk};
 ghost use Rattle.inspecting.specs.PlanAnswers.{AnswersPlan};
 ghost use Rattle.boot_cli.specs.OrderEnd.{AnswersOrder, KeepsSwept};
 
 use crate::flushed::refuse_after;
 use crate::merging::run_merge;
 use crate::sweeping::{Named, run_sweep};
-use command_line::{Order, PlanOrder};
+use command_line::{NewFile, Order, PlanOrder};
 use creating::extract::{Copying, run_extract};
 use creating::make_device::run_make_device;
 use creating::make_image::run_make_image;
@@ -15,6 +15,7 @@ use device_commands::run_device_order;
 use host::{Answer, Host, Refusal, Source};
 use inputs::NoNotes;
 use inspecting::{run_inspection, run_plan};
+use sector_map::Side;
 use std::alloc::Global;
 use std::io::Write;
 
@@ -56,13 +57,8 @@ pub fn run_command<H: Host, O: Write, E: Write>(
             side,
             out: file,
         } => {
-            let copying = Copying {
-                image,
-                side,
-                out: file,
-            };
             let (device, flash) = (Source::named(device), Source::named(flash));
-            run_extract(alloc, device, flash, copying, host, out)
+            run_extract(alloc, device, flash, copying(image, side, file), host, out)
         }
         Order::Sweep {
             device,
@@ -78,6 +74,15 @@ pub fn run_command<H: Host, O: Write, E: Write>(
             picture,
         } => run_merge(alloc, outputs, picture, host, out),
     }
+}
+
+/// Returns the slot to copy, and the file to copy it into.
+fn copying(image: u8, side: Side, out: NewFile<'_>) -> Copying<'_>
+    ensures image { result.image ≡ image }
+    ensures side { result.side ≡ side }
+    ensures out { result.out ≡ out.entry }
+{
+    Copying { image, side, out }
 }
 
 /// Runs `plan`. If it refuses, the devices before that are flushed.

@@ -13,8 +13,8 @@ use common::ascii::number_u8;
 use common::limits::MOST_IMAGES;
 use std::alloc::{AllocError, Global};
 
-/// Returns what `plan` is asked for. Returns `None` if a value isn't valid, if there are several
-/// fleets, or if something else is given for a sum of summaries.
+/// Returns the order that the arguments of `plan` give. Returns `None` if a value isn't valid, if
+/// there are several fleets, or if something else is given for a sum of summaries.
 pub fn plan_order_in<'a>(
     alloc: Global,
     names: &ArgMatches<'a>,
