@@ -72,12 +72,6 @@ pub fn answer(text: &[u8]) -> u64 {
     mask + 256 * refusals.len() as u64
 }
 
-/// Returns whether a text is a table.
-#[allow(dead_code, reason = "only `plain_plan.rs` calls it")]
-pub fn is_table(text: &[u8]) -> bool {
-    std::hint::black_box(parse(text)).is_some()
-}
-
 fn parse(text: &[u8]) -> Option<Vec<Image>> {
     let text = std::str::from_utf8(text).ok()?;
     let mut images = Vec::new();

@@ -1,10 +1,8 @@
 //! Plans a fleet from standard input in plain Rust: the counterpart of `bootswap plan --summary`.
-//!
-//! With the argument `read` it only reads each table.
 
 mod plain_choice;
 
-use plain_choice::{NOT_VALID, NO_TABLE};
+use plain_choice::{NOT_VALID, NO_TABLE, answer};
 use std::collections::BTreeMap;
 use std::io;
 use std::io::{BufRead, BufReader};
@@ -16,24 +14,20 @@ type Counts = BTreeMap<u64, (u64, Vec<u8>)>;
 const PIECE: usize = 1 << 16;
 
 fn main() -> io::Result<()> {
-    let result_of = match std::env::args().nth(1).as_deref() {
-        Some("read") => |table: &[u8]| u64::from(!plain_choice::is_table(table)),
-        _ => plain_choice::answer,
-    };
     let mut input = BufReader::with_capacity(PIECE, io::stdin().lock());
     let (mut counts, mut name, mut table) = (Counts::new(), None, Vec::new());
     let mut line = Vec::new();
     while input.read_until(b'\n', &mut line)? > 0 {
         match line.strip_prefix(b"device ") {
             Some(next) => {
-                count(&mut counts, name.replace(next.to_vec()), &table, result_of);
+                count(&mut counts, name.replace(next.to_vec()), &table);
                 table.clear();
             }
             None => table.extend_from_slice(&line),
         }
         line.clear();
     }
-    count(&mut counts, name, &table, result_of);
+    count(&mut counts, name, &table);
     for (result, (many, _)) in counts {
         println!("{many} {}", text_of(result));
     }
@@ -41,9 +35,9 @@ fn main() -> io::Result<()> {
 }
 
 /// Counts the result of a device.
-fn count(counts: &mut Counts, name: Option<Vec<u8>>, table: &[u8], result_of: fn(&[u8]) -> u64) {
+fn count(counts: &mut Counts, name: Option<Vec<u8>>, table: &[u8]) {
     if let Some(name) = name {
-        counts.entry(result_of(table)).or_insert((0, name)).0 += 1;
+        counts.entry(answer(table)).or_insert((0, name)).0 += 1;
     }
 }
 
