@@ -9,10 +9,10 @@ import shutil
 import subprocess
 import sys
 import tempfile
-import time
 import unittest
 import xml.etree.ElementTree
 
+from support.dask import DaskTest
 from support.files import EXAMPLES, ROOT, names_in, read, report, table
 from support.fleet import BAD, FLEET, MOST, Device, device_at_random, planned, summary_of, tool
 from support.libraries import shared_library
@@ -34,9 +34,6 @@ import worth
 
 # How many random fleets there are, the most devices of one, and the first number of the random sequence.
 FLEETS, DEVICES, SEED = 40, 25, 88172645463325252
-
-# How many seconds workers of another process may take.
-LIMIT = 120
 
 NEEDING, PARTNER = (f"{EXAMPLES}/images/{it}.img" for it in ("needing", "partner"))
 RELEASE = ["--request", f"0={NEEDING}", "--request", f"1={PARTNER}"]
@@ -450,14 +447,7 @@ class WorthTest(CaseTest):
             self.case(f"worth.py with {processes} processes", [] if got == wanted else [got, f"and not\n{wanted}"])
 
 
-def python_with(module):
-    """Returns a Python that has a module, or None. Debian's packages are those of its own Python."""
-    find = f"import importlib.util, sys; sys.exit(not importlib.util.find_spec({module!r}))"
-    every = (it for it in (sys.executable, "/usr/bin/python3") if os.path.exists(it))
-    return next((it for it in every if subprocess.run([it, "-c", find]).returncode == 0), None)
-
-
-class PartsTest(ProgramTest):
+class PartsTest(DaskTest):
     """The summary of a fleet that is planned in parts."""
 
     runs_once = True
@@ -494,49 +484,10 @@ class PartsTest(ProgramTest):
         status, out, err = tool("parts.py", self.fleet, "--program", "false")
         self.case("a program that fails", [short(err)] * (status == 0 or out != b"" or b"false plan: status 1" not in err))
 
-    def started(self, python, module, *options):
-        """Starts a process of dask, which ends with the test."""
-        words = [python, "-m", f"distributed.cli.{module}", *options]
-        with open(f"{self.folder}/{module}.log", "ab") as log:
-            process = subprocess.Popen(words, cwd=self.folder, stdout=log, stderr=log)
-        self.addCleanup(process.wait)
-        self.addCleanup(process.kill)
-        return process
-
-    def waited(self, is_so):
-        """Waits until something is so, and fails if that takes too long."""
-        until = time.monotonic() + LIMIT
-        while not is_so():
-            self.assertLess(time.monotonic(), until, "dask doesn't go on")
-            time.sleep(0.05)
-
     def test_dask(self):
         """A worker of dask dies in the middle, and the summary is that of the fleet."""
-        python = python_with("distributed")
-        if not python:
-            self.skipTest("there is no dask.distributed")
-        began, program, address = (f"{self.folder}/{it}" for it in ("began", "slow", "address"))
-        self.file("began", b"")
-        # Each part takes a while, and says first which worker has it.
-        self.file("slow", f'#!/bin/sh\necho $PPID >> {began}\nsleep 0.2\nexec {self.program} "$@"\n'.encode())
-        os.chmod(program, 0o755)
-        options = ["--host=127.0.0.1", "--port=0", "--no-dashboard"]
-        self.started(python, "dask_scheduler", *options, f"--scheduler-file={address}")
-        self.waited(lambda: os.path.exists(address))
-        options = ["--no-nanny", "--nthreads=1", "--no-dashboard", f"--local-directory={self.folder}"]
-        workers = [self.started(python, "dask_worker", f"--scheduler-file={address}", *options) for _ in range(3)]
-        tool_words = [python, "-B", f"{FLEET}/parts.py", self.fleet, "--bytes=20000", "--program", program]
-        tool_words += ["--dask", json.loads(read(address))["address"]]
-        ran = subprocess.Popen(tool_words, stdout=subprocess.PIPE, stderr=subprocess.PIPE)
-        self.addCleanup(ran.kill)
-        first = str(workers[0].pid).encode()
-        self.waited(lambda: read(began).split().count(first) >= 2)
-        workers[0].kill()
-        out, err = ran.communicate(timeout=LIMIT)
-        parts, of_first = len(read(began).split()), read(began).split().count(first)
-        faults = [] if (ran.returncode, out) == (1, self.summary) else [f"{ran.returncode}, {short(out)}, {short(err)}"]
-        faults += [f"the worker had {of_first} of {parts} parts"] * (of_first * 2 > parts)
-        self.case("a worker of dask dies", faults)
+        words = [f"{FLEET}/parts.py", self.fleet, "--bytes=20000"]
+        self.expect_of_dask("a worker of dask dies", words, (1, self.summary))
 
 
 class DocumentTest(ProgramTest):
@@ -557,6 +508,6 @@ class DocumentTest(ProgramTest):
                 if "out/parts" in command and not shutil.which("parallel"):
                     self.skipTest("there is no GNU parallel")
                 both = {"stdout": subprocess.PIPE, "stderr": subprocess.STDOUT}
-                ran = subprocess.run(["bash", "-c", command], cwd=self.folder, env=environment, timeout=LIMIT, **both)
+                ran = subprocess.run(["bash", "-c", command], cwd=self.folder, env=environment, timeout=120, **both)
                 got = ran.stdout.decode()
                 self.assertEqual(got, wanted, command)

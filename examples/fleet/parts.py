@@ -14,21 +14,15 @@ The exit status is 0, or 1 if the table of a device is bad or not valid.
 from __future__ import annotations
 
 import argparse
-import collections
-import contextlib
 import functools
 import itertools
-import os
 import re
 import subprocess
 import sys
 import tempfile
-from collections.abc import Callable, Iterable, Iterator
-from concurrent.futures import ThreadPoolExecutor
-from typing import Any
+from collections.abc import Iterable, Iterator
 
-OUT = os.path.realpath(f"{os.path.dirname(os.path.realpath(__file__))}/../../out")
-PROGRAM = f"{OUT}/bootswap" if os.access(f"{OUT}/bootswap", os.X_OK) else "bootswap"
+from workers import AHEAD, add_workers, in_order, workers_of
 
 EXAMPLE = """example:
   examples/fleet/make_fleet.py --devices 1000000 > out/fleet.txt
@@ -38,8 +32,8 @@ EXAMPLE = """example:
 # A device line after another line. A line that only begins as one belongs to the table of the device before it.
 DEVICE = re.compile(rb"\ndevice [!-~]{1,255}\n")
 
-# The most parts that are held for each worker, so that it never waits for the next one, and the summaries of one sum.
-AHEAD, BATCH = 3, 100
+# The summaries of one sum.
+BATCH = 100
 
 
 def last_device(text: bytes) -> int:
@@ -96,54 +90,21 @@ def merged(program: str, summaries: Iterator[bytes]) -> bytes:
     return total
 
 
-def in_order(submit: Callable[[bytes], Any], parts: Iterator[bytes], most: int) -> Iterator[bytes]:
-    """Submits parts, of which at most a number are held at a time, and yields their summaries in order."""
-    waiting: collections.deque = collections.deque()
-    for part in parts:
-        waiting.append(submit(part))
-        if len(waiting) == most:
-            yield waiting.popleft().result()
-    while waiting:
-        yield waiting.popleft().result()
-
-
-@contextlib.contextmanager
-def local_workers(processes: int) -> Iterator[tuple[Callable[..., Any], int]]:
-    """Yields a function that submits a call, and the number of workers: processes of this machine."""
-    with ThreadPoolExecutor(processes) as pool:
-        yield pool.submit, processes
-
-
-@contextlib.contextmanager
-def dask_workers(address: str) -> Iterator[tuple[Callable[..., Any], int]]:
-    """Yields the same for the workers of a dask scheduler, once there is one."""
-    from distributed import Client
-
-    with Client(address) as client:
-        client.wait_for_workers(1)
-        # A part is passed as an argument, which the scheduler keeps. A scattered one would be lost with its worker.
-        yield functools.partial(client.submit, pure=False), sum(client.ncores().values())
-
-
 def arguments() -> argparse.Namespace:
     parser = argparse.ArgumentParser(
         description=__doc__, epilog=EXAMPLE, formatter_class=argparse.RawDescriptionHelpFormatter
     )
     parser.add_argument("fleet", metavar="FLEET", help="file of a fleet; - is standard input")
-    parser.add_argument("--program", default=PROGRAM, metavar="FILE", help="default: %(default)s")
     parser.add_argument("--request", action="append", default=[], metavar="I=IMAGE", help="as that of `bootswap plan`")
     parser.add_argument("--bytes", type=int, default=1 << 20, metavar="N", help="of a part, about; default: %(default)s")
-    workers = parser.add_mutually_exclusive_group()
-    workers.add_argument("--processes", type=int, default=os.cpu_count(), metavar="N", help="default: all processors")
-    workers.add_argument("--dask", metavar="ADDRESS", help="scheduler, such as tcp://10.0.0.1:8786")
+    add_workers(parser)
     return parser.parse_args()
 
 
 def main() -> int:
     args = arguments()
     options = [it for request in args.request for it in ("--request", request)]
-    workers = dask_workers(args.dask) if args.dask else local_workers(args.processes)
-    with sys.stdin.buffer if args.fleet == "-" else open(args.fleet, "rb") as fleet, workers as (submit, count):
+    with sys.stdin.buffer if args.fleet == "-" else open(args.fleet, "rb") as fleet, workers_of(args) as (submit, count):
         parts = parts_of(iter(lambda: fleet.read(args.bytes), b""))
         planned_part = functools.partial(submit, summary_of, args.program, options)
         summary = merged(args.program, in_order(planned_part, parts, AHEAD * count))

@@ -1,0 +1,60 @@
+"""The workers to which `parts.py` and `sweep_parts.py` give their parts: processes of this machine, or those of dask."""
+
+from __future__ import annotations
+
+import argparse
+import collections
+import contextlib
+import functools
+import os
+from collections.abc import Callable, Iterable, Iterator
+from concurrent.futures import ThreadPoolExecutor
+from typing import Any
+
+OUT = os.path.realpath(f"{os.path.dirname(os.path.realpath(__file__))}/../../out")
+PROGRAM = f"{OUT}/bootswap" if os.access(f"{OUT}/bootswap", os.X_OK) else "bootswap"
+
+# The most parts that are held for each worker, so that it never waits for the next one.
+AHEAD = 3
+
+
+@contextlib.contextmanager
+def local_workers(processes: int) -> Iterator[tuple[Callable[..., Any], int]]:
+    """Yields a function that submits a call, and the number of workers: processes of this machine."""
+    with ThreadPoolExecutor(processes) as pool:
+        yield pool.submit, processes
+
+
+@contextlib.contextmanager
+def dask_workers(address: str) -> Iterator[tuple[Callable[..., Any], int]]:
+    """Yields the same for the workers of a dask scheduler, once there is one."""
+    from distributed import Client
+
+    with Client(address) as client:
+        client.wait_for_workers(1)
+        # A part is passed as an argument, which the scheduler keeps. A scattered one would be lost with its worker.
+        yield functools.partial(client.submit, pure=False), sum(client.ncores().values())
+
+
+def workers_of(args: argparse.Namespace) -> contextlib.AbstractContextManager[tuple[Callable[..., Any], int]]:
+    """Returns the workers that the arguments of `add_workers` name."""
+    return dask_workers(args.dask) if args.dask else local_workers(args.processes)
+
+
+def in_order(submit: Callable[[Any], Any], parts: Iterable[Any], most: int) -> Iterator[Any]:
+    """Submits parts, of which at most a number are held at a time, and yields their results in order."""
+    waiting: collections.deque = collections.deque()
+    for part in parts:
+        waiting.append(submit(part))
+        if len(waiting) == most:
+            yield waiting.popleft().result()
+    while waiting:
+        yield waiting.popleft().result()
+
+
+def add_workers(parser: argparse.ArgumentParser) -> None:
+    """Adds the arguments that name the program and the workers."""
+    parser.add_argument("--program", default=PROGRAM, metavar="FILE", help="default: %(default)s")
+    workers = parser.add_mutually_exclusive_group()
+    workers.add_argument("--processes", type=int, default=os.cpu_count(), metavar="N", help="default: all processors")
+    workers.add_argument("--dask", metavar="ADDRESS", help="scheduler, such as tcp://10.0.0.1:8786")
