@@ -1,4 +1,4 @@
-"""What examples/fleet/sweep_parts.py prints: the sweep that its parts add up to, also after an interrupt."""
+"""What sweep_parts.py prints, also after an interrupt."""
 
 import os
 import pty

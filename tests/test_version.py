@@ -56,7 +56,7 @@ class VersionTest(CaseTest):
 
     def test_changelog(self):
         """The last release of the changelog is this version, on the day that manual pages have."""
-        day = re.search(r'^const EDITION: &str = " 1 (\S*) ', text_of("crates/manual/src/page.rt"), re.MULTILINE)[1]
+        day = re.search(r'^const EDITION: &str = " 1 (\S*) ', text_of("crates/arguments/src/manual/page.rt"), re.MULTILINE)[1]
         last = re.search(r"^## \[\d.*$", text_of("CHANGELOG.md"), re.MULTILINE)[0]
         self.case("the last release", [last] * (last != f"## [{version()}] - {day}"))
 

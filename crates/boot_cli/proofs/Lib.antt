@@ -1,8 +1,4 @@
-mod ComponentLaws
-mod Found
 mod JsonLaws
-mod NeedLaws
 mod OrderLaws
-mod PlanWordsLaws
 mod SweepLaws
 mod WordsLaws

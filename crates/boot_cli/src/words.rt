@@ -4,7 +4,7 @@ ghost use Rattle.command_line.specs.Given.{is_json};
 ghost use Rattle.command_line.specs.OrderFaults.{IsRefusal};
 ghost use Rattle.boot_cli.specs.WordsEnd.{AskFor};
 
-use crate::requests::request;
+use arguments::request;
 use command_line::{Order, OrderError, ReadOrder, Request};
 use common::texts::STANDARD_INPUT;
 use std::alloc::Global;

@@ -104,7 +104,7 @@ pub struct RequestedFile<'a> {
     pub file: &'a str,
 }
 
-/// What `plan` is asked for.
+/// An order to plan a fleet, or to add up summaries.
 #[derive(Drop)]
 pub enum PlanOrder<'a> {
     /// Decides over the table of each device of a fleet.

@@ -1,0 +1,4 @@
+mod ComponentLaws
+mod Found
+mod NeedLaws
+mod PlanWordsLaws
