@@ -1,13 +1,21 @@
 //! A test of flashes that are longer than the map: the bytes after the map don't change.
 
-use super::devices::{PAIR, UPGRADE, outcome_of, two_images};
-use crate::images::SECOND;
+use super::devices::{PAIR, outcome_of, two_images};
+use crate::images::{FIRST, SECOND};
 use machine::Event;
 use std::process::Abort;
 use std::test::Fail;
 
-/// The events after an upgrade that revert it, and a request that is withdrawn.
-const NEXT_EVENTS: [Event<&[u8]>; 7] = [
+/// The events: an upgrade that is reverted, a request that is withdrawn, and an upgrade that is
+/// confirmed.
+const EVENTS: [Event<&[u8]>; 23] = [
+    Event::Boot,
+    Event::Accept(PAIR),
+    Event::Piece(0, &FIRST),
+    Event::Piece(1, &SECOND),
+    Event::Finish(0),
+    Event::Finish(1),
+    Event::Boot,
     Event::Confirm(0),
     Event::Boot,
     Event::Accept(PAIR),
@@ -15,10 +23,16 @@ const NEXT_EVENTS: [Event<&[u8]>; 7] = [
     Event::Finish(1),
     Event::Withdraw(1),
     Event::Boot,
+    Event::Accept(PAIR),
+    Event::Piece(0, &FIRST),
+    Event::Piece(1, &SECOND),
+    Event::Finish(0),
+    Event::Finish(1),
+    Event::Boot,
+    Event::Confirm(0),
+    Event::Confirm(1),
+    Event::Boot,
 ];
-
-/// The events that confirm an upgrade.
-const LAST_EVENTS: [Event<&[u8]>; 3] = [Event::Confirm(0), Event::Confirm(1), Event::Boot];
 
 /// Appends three sectors.
 fn push_more(bytes: &mut Vec<u8>) -> Result<(), Fail> {
@@ -28,28 +42,21 @@ fn push_more(bytes: &mut Vec<u8>) -> Result<(), Fail> {
     Ok(())
 }
 
+/// Whether events on a longer flash have the same replies as on the usual one, and leave the same
+/// bytes and those after the map.
+fn is_same(rt: &(impl Abort + AllocGlobal), events: &[Event<&[u8]>]) -> Result<bool, Fail> {
+    let (usual, mut wanted) = outcome_of(rt, two_images(rt)?, events)?;
+    push_more(&mut wanted)?;
+    let mut bytes = two_images(rt)?;
+    push_more(&mut bytes)?;
+    let (replies, bytes) = outcome_of(rt, bytes, events)?;
+    Ok(replies == usual && bytes == wanted)
+}
+
 #[test]
 fn what_a_device_does_changes_nothing_behind_its_map(rt: HostRuntime) -> Result<(), Fail> {
-    let mut events = Vec::from_array(rt.alloc(), [Event::Boot])?;
-    for event in UPGRADE {
-        events.push(event)?;
-    }
-    for event in NEXT_EVENTS {
-        events.push(event)?;
-    }
-    for event in UPGRADE {
-        events.push(event)?;
-    }
-    for event in LAST_EVENTS {
-        events.push(event)?;
-    }
-    for count in 0..=events.len() {
-        let (usual, mut wanted) = outcome_of(&rt, two_images(&rt)?, &events[..count])?;
-        push_more(&mut wanted)?;
-        let mut bytes = two_images(&rt)?;
-        push_more(&mut bytes)?;
-        let (replies, bytes) = outcome_of(&rt, bytes, &events[..count])?;
-        assert!(&rt; replies == usual && bytes == wanted);
+    for count in 0..=EVENTS.len() {
+        assert!(&rt; is_same(&rt, &EVENTS[..count])?);
     }
     Ok(())
 }
