@@ -6,6 +6,9 @@
 //! manifests. It runs a device on a file that boots, takes uploads and survives power cuts.
 #![tactic(auto)]
 
+#[cfg(test)]
+mod reports;
+
 use arguments::manual::{answer, asked_in};
 use boot_cli::{cli, note_reading};
 use device_commands::{refuse_coloring, refuse_words, words_of};

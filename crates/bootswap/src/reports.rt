@@ -1,6 +1,6 @@
 //! A test of a choice over a reader and a writer, as a caller of the library makes it.
 
-use inspecting::{ChooseEnd, choose_over};
+use boot_cli::{ChooseEnd, choose_over};
 use std::test::Fail;
 
 #[test]
