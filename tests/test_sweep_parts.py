@@ -38,6 +38,19 @@ class PartedSweepTest(DaskTest):
         """An input that is wrong ends with the program's error, and no output."""
         got, wanted = self.swept(PAIR, "none", ONE, ONE), (1, b"", b"error: cannot read none\n")
         self.case("sweep_parts.py: a wrong input", [] if got == wanted else [short(got)])
+        status, out, err = self.swept(*FILES, "--parts=0")
+        is_good = (status, out) == (2, b"") and b"--parts: invalid positive value: '0'\n" in err
+        self.case("sweep_parts.py: no parts", [] if is_good else [short((status, out, err))])
+
+    def test_picture(self):
+        """A picture never replaces an input. If it can't be written, the output is printed nevertheless."""
+        self.file("device.json", read(PAIR))
+        got, wanted = self.swept("device.json", *FILES[1:], "--svg=./device.json"), (1, b"", b"error: picture is an input\n")
+        faults = [] if got == wanted and read(f"{self.folder}/device.json") == read(PAIR) else [short(got)]
+        self.case("sweep_parts.py: a picture over an input", faults)
+        got, whole = self.swept(*FILES, "--parts=3", "--svg=none/svg"), self.run_program(["sweep", *FILES])
+        wanted = (1, whole[1], b"error: cannot write none/svg\n")
+        self.case("sweep_parts.py: a picture that can't be written", [] if got == wanted else [short(got)])
 
     def test_interrupt(self):
         """An interrupt ends with the sum of the parts that have ended, and ends the others."""

@@ -13,6 +13,7 @@ The exit status is that of `bootswap sweep`, or 130 after an interrupt.
 from __future__ import annotations
 
 import argparse
+import os
 import queue
 import signal
 import subprocess
@@ -96,15 +97,32 @@ def parts_of(args: argparse.Namespace, outputs: dict[int, bytes]) -> int:
     return count
 
 
-def merged(args: argparse.Namespace, outputs: dict[int, bytes]) -> tuple[int, bytes]:
+def is_input(picture: str | None, files: list[str]) -> bool:
+    """Returns whether the picture would replace one of these files."""
+    is_file = lambda name: picture and os.path.exists(picture) and os.path.exists(name)
+    return any(is_file(it) and os.path.samefile(picture, it) for it in files)
+
+
+def merged(args: argparse.Namespace, outputs: dict[int, bytes], picture: str | None) -> tuple[int, bytes]:
     """Returns the status and the output of `bootswap sweep --merge` over outputs."""
     with tempfile.TemporaryDirectory(prefix="bootswap-sweep-") as folder:
         names = [f"{folder}/{number}" for number in sorted(outputs)]
         for name, number in zip(names, sorted(outputs)):
             with open(name, "wb") as it:
                 it.write(outputs[number])
-        picture = [f"--svg={args.svg}"] if args.svg else []
-        return swept([args.program, "sweep", "--merge", *picture, *names], None)
+        drawn = [f"--svg={picture}"] if picture else []
+        return swept([args.program, "sweep", "--merge", *drawn, *names], None)
+
+
+def write_sum(args: argparse.Namespace, outputs: dict[int, bytes]) -> int:
+    """Prints the sum of outputs, and returns its status. If the picture can't be written, the sum is printed nevertheless."""
+    try:
+        status, out = merged(args, outputs, args.svg)
+    except RuntimeError as error:
+        print(error, file=sys.stderr)
+        status, out = 1, merged(args, outputs, None)[1]
+    sys.stdout.buffer.write(out)
+    return status
 
 
 def tell(text: str) -> None:
@@ -120,12 +138,20 @@ def interrupt(*_: Any) -> None:
     raise Interrupted
 
 
+def positive(text: str) -> int:
+    """Returns a number from 1 on."""
+    number = int(text)
+    if number < 1:
+        raise ValueError
+    return number
+
+
 def arguments() -> argparse.Namespace:
     parser = argparse.ArgumentParser(
         description=__doc__, epilog=EXAMPLE, formatter_class=argparse.RawDescriptionHelpFormatter
     )
     parser.add_argument("files", metavar="FILE", nargs="+", help="DEVICE SCRIPT IMAGE.., as those of `bootswap sweep`")
-    parser.add_argument("--parts", type=int, default=0, metavar="N", help=f"default: {SHARE} a worker")
+    parser.add_argument("--parts", type=positive, metavar="N", help=f"default: {SHARE} a worker")
     parser.add_argument("--svg", metavar="FILE", help="draws the output")
     for option in ("--sample", "--seed"):
         parser.add_argument(option, metavar="N", help="as that of `bootswap sweep`")
@@ -139,6 +165,9 @@ def arguments() -> argparse.Namespace:
 
 def main() -> int:
     args, outputs, count = arguments(), {}, 0
+    if is_input(args.svg, args.files):
+        print("error: picture is an input", file=sys.stderr)
+        return 1
     for number in (signal.SIGINT, signal.SIGTERM):
         signal.signal(number, interrupt)
     try:
@@ -153,8 +182,7 @@ def main() -> int:
     if not count and not outputs:
         print("sweep_parts.py: interrupted before a part had ended", file=sys.stderr)
         return 130
-    status, out = merged(args, outputs)
-    sys.stdout.buffer.write(out)
+    status = write_sum(args, outputs)
     if not count:
         print(f"sweep_parts.py: interrupted: the sum of {len(outputs)} parts", file=sys.stderr)
         return 130
