@@ -38,7 +38,8 @@ class Interrupted(Exception):
 
 
 class Children:
-    """The processes that work on parts on this machine."""
+    """The processes that work on parts on this machine. They are killed, since one that begins after an interrupt ignores what
+    this process ignores then."""
 
     def __init__(self) -> None:
         self.running: set[subprocess.Popen] = set()
@@ -48,14 +49,14 @@ class Children:
         with self.lock:
             self.running.add(child)
             if self.is_stopped:
-                child.terminate()
+                child.kill()
 
     def stop(self) -> None:
         """Ends them, and those that begin later."""
         with self.lock:
             self.is_stopped = True
             for child in self.running:
-                child.terminate()
+                child.kill()
 
 
 def swept(words: list[str], began: Callable[[subprocess.Popen], None] | None) -> tuple[int, bytes]:
@@ -70,6 +71,15 @@ def swept(words: list[str], began: Callable[[subprocess.Popen], None] | None) ->
     if ran.returncode not in (0, 1) or err or not out:
         raise RuntimeError(err.decode(errors="replace").rstrip() or f"{words[0]}: status {ran.returncode}")
     return ran.returncode, out
+
+
+def next_of(ended: queue.SimpleQueue) -> Any:
+    """Returns the next part that ends. It waits in steps, since a signal just before a wait doesn't end it."""
+    while True:
+        try:
+            return ended.get(timeout=0.2)
+        except queue.Empty:
+            pass
 
 
 def parts_of(args: argparse.Namespace, outputs: dict[int, bytes]) -> int:
@@ -88,7 +98,7 @@ def parts_of(args: argparse.Namespace, outputs: dict[int, bytes]) -> int:
                 future.add_done_callback(ended.put)
             for _ in range(count):
                 tell(f"{len(outputs)} of {count} parts")
-                future = ended.get()
+                future = next_of(ended)
                 outputs[futures[future]] = future.result()[1]
         finally:
             for future in futures:
