@@ -476,13 +476,13 @@ class SweepProgressTest(ProgramTest):
         big = big_device(self)
         self.file("long", 2000 * b"boot\n")
         self.file("manifest", manifest(components=[component()]))
-        self.file("twice", 20 * b"boot\n" + b"accept manifest\n")
+        self.file("twice", 100 * b"boot\n" + b"accept manifest\n")
         start = rb"^\rsweep: first run, event 1 of "
         for name, arguments, wanted in [
             ("a long script", ["big.json", "long", big], start + rb"2000\x1b\[K.*event [1-9]\d+ of 2000\x1b\[K"),
-            ("--twice", ["--twice", "big.json", "twice", big], start + rb"21\x1b\[K.*\rsweep: cuts 0 of \d+, \d+ runs"),
+            ("--twice", ["--twice", "big.json", "twice", big], start + rb"101\x1b\[K.*\rsweep: cuts 0 of \d+, \d+ runs"),
         ]:
-            printed, first = printed_until(self, ["sweep", *arguments], 20, wanted)
+            printed, first = printed_until(self, ["sweep", *arguments], 60, wanted)
             faults = [] if re.search(wanted, printed) else [short(printed)]
             faults += [] if first < 2 else [f"the first line comes after {first} s"]
             self.case(f"sweep: how far it is, from its start: {name}", faults)
