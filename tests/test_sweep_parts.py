@@ -28,9 +28,12 @@ class PartedSweepTest(DaskTest):
 
     def test_processes(self):
         """Parts by several processes add up to the sweep of one, with its picture."""
+        # Second cuts of the complete script would take too long.
+        self.file("upgrade.txt", b"".join(read(FILES[1]).splitlines(True)[:7]))
         for options in ([], ["--twice"], ["--sample=40", "--seed=3"]):
-            whole = self.run_program(["sweep", "--svg=whole.svg", *options, *FILES])
-            got = self.swept(*FILES, *options, "--processes=2", "--parts=5", "--svg=parts.svg")
+            files = [PAIR, "upgrade.txt", ONE, ONE] if "--twice" in options else FILES
+            whole = self.run_program(["sweep", "--svg=whole.svg", *options, *files])
+            got = self.swept(*files, *options, "--processes=2", "--parts=5", "--svg=parts.svg")
             is_same = read(f"{self.folder}/whole.svg") == read(f"{self.folder}/parts.svg")
             self.case(f"sweep_parts.py {' '.join(options)}", [] if got == whole and is_same else [short(got)])
 
