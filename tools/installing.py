@@ -14,16 +14,12 @@ from typing import NamedTuple, Optional
 from builder import OUT, ROOT, text_of
 from manual_pages.formats import SOURCE, formats_page
 from manual_pages.library import HEADERS, library_pages
-from programs import OF_WHOLE
 
 # The list of what was installed, one place a line. A folder that the installation made ends with a slash.
 LIST = "share/bootswap/installed"
 
 # The name of the file with the commit of what is packed, beside the documents.
 COMMIT = "commit"
-
-# The commands that have a manual page, beside the program.
-COMMANDS = sorted([*OF_WHOLE, "provision", "run"])
 
 # Where each shell looks for completions.
 COMPLETIONS = {
@@ -116,7 +112,8 @@ def items(prefix, python, program, archives, shared):
 def program_items(program):
     """Returns the files of the program: itself, its manual pages and completions, which it prints, the page of its formats, and
     its documents."""
-    pages = {"-".join(["bootswap", *words]): ["help", "man", *words] for words in [[], *([it] for it in COMMANDS)]}
+    commands = [[], *([it] for it in commands_of(program))]
+    pages = {"-".join(["bootswap", *words]): ["help", "man", *words] for words in commands}
     return [
         Item("bin/bootswap", program, mode=0o755),
         *(Item(f"share/man/man1/{name}.1", contents=printed(program, words)) for name, words in pages.items()),
@@ -126,6 +123,12 @@ def program_items(program):
         Item("share/doc/bootswap/CHANGELOG.md", f"{ROOT}/CHANGELOG.md"),
         *copies(f"{ROOT}/examples", EXAMPLES),
     ]
+
+
+def commands_of(program):
+    """Returns the commands of a program that have a manual page, as its help lists them."""
+    listed = printed(program, ["--help"]).decode().partition("\nCommands:\n")[2].partition("\n\n")[0]
+    return [it for it in re.findall(r"^  (\S+)  ", listed, re.MULTILINE) if it != "help"]
 
 
 def printed(program, words):

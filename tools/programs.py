@@ -12,11 +12,8 @@ from builder import OUT, NotBuilt, asked_of_rt, build, crates_of, text_of
 
 WHOLE, CORE = "bootswap", "bootswap_core"
 
-# The commands that the core lacks, and the options that it doesn't accept.
-OF_WHOLE = (
-    *("choose", "check", "plan", "image", "manifest", "show", "slots", "codes"),
-    *("make-device", "make-image", "make-manifest", "extract", "sweep"),
-)
+# The commands of the core, and the options that it doesn't accept.
+OF_CORE = ("provision", "run", "help")
 OPTIONS = ("--explain", "--json")
 
 # The options for the help of a command. The core has the help of all commands.
@@ -37,7 +34,8 @@ def needed_for(words):
         return WHOLE
     if command == ["help"] and rest and rest[0] in TOPICS:
         return WHOLE
-    return WHOLE if command[0] in OF_WHOLE and rest not in ([it] for it in HELP) else CORE
+    is_help = command[0].startswith("-") or rest in ([it] for it in HELP)
+    return CORE if is_help or command[0] in OF_CORE else WHOLE
 
 
 def file_of(name):
