@@ -2,3 +2,4 @@ mod ComponentLaws
 mod Found
 mod NeedLaws
 mod PlanWordsLaws
+mod ReadingLaws

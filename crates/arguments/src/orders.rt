@@ -1,13 +1,12 @@
 //! Reads the orders of all commands from the matches of their arguments.
 
-ghost use Rattle.std.specs.Prelude.{◌≡◌, ◌∷◌, IfOk, codes, nat_lt, option_map};
+ghost use Rattle.std.specs.Prelude.{◌≡◌, ◌∷◌, IfOk, codes, nat_lt};
 ghost use Rattle.clap.specs.Words.{found_of, rows_of};
 ghost use Rattle.command_line.specs.Commands.{name_for};
 ghost use Rattle.command_line.specs.Given.{Finds, standard_inputs};
 ghost use Rattle.command_line.specs.Orders.{Asks, IsNewFile, files_of, image_at, names_of};
-ghost use Rattle.command_line.specs.Orders.{names_to_plan, names_to_read, side_at, side_of, subcommand_for};
-ghost use Rattle.command_line.specs.Orders.{subcommand_to_read, writes_to_standard_input};
-ghost use Rattle.command_line.specs.declared.orders.Order.TheVariants.{Device};
+ghost use Rattle.command_line.specs.Orders.{names_to_plan, side_at, side_of, subcommand_for};
+ghost use Rattle.command_line.specs.Orders.{writes_to_standard_input};
 
 use crate::device_words::device_in;
 use crate::image_words::image_values_in;
@@ -17,9 +16,8 @@ use crate::plan_words::plan_order_in;
 use crate::sweep_words::sweep_in;
 use clap::ArgMatches;
 use command_line::{
-    DeviceOrder, NewFile, NewManifest, Order, PlanOrder, ReadOrder, Subcommand, fault_texts,
-    inputs_with, is_given, is_standard_input, name_in, named, provision_in, run_in,
-    standard_inputs,
+    NewFile, NewManifest, Order, PlanOrder, Subcommand, fault_texts, inputs_with, is_given,
+    is_standard_input, name_in, named, provision_in, read_order_in, run_in, standard_inputs,
 };
 use common::ascii::number_u8;
 use sector_map::Side;
@@ -35,98 +33,21 @@ pub fn order_of<'a>(
         (Finds (Asks (name_for subcommand) (rows_of (found_of names.now)))) }
 {
     match subcommand {
-        Subcommand::Choose => Ok(choose_in(names)),
-        Subcommand::Check => Ok(check_in(names)),
-        Subcommand::Plan => plan_in(alloc, names),
-        Subcommand::Image => Ok(image_in(names)),
-        Subcommand::Manifest => Ok(manifest_in(names)),
-        Subcommand::MakeDevice => make_device_in(alloc, names),
+        Subcommand::Plan => Ok(plan_order_in(alloc, names)?.map(Order::Plan)),
+        Subcommand::MakeDevice => {
+            let device = device_in(alloc, names)?;
+            Ok(device.map(|device| Order::MakeDevice { device }))
+        }
         Subcommand::MakeImage => make_image_in(alloc, names),
         Subcommand::MakeManifest => make_manifest_in(alloc, names),
-        Subcommand::Provision => Ok(to_device(provision_in(alloc, names)?)),
+        Subcommand::Provision => Ok(provision_in(alloc, names)?.map(Order::Device)),
         Subcommand::Extract => Ok(extract_in(names)),
-        Subcommand::Show => Ok(show_in(names)),
-        Subcommand::Slots => Ok(slots_in(names)),
-        Subcommand::Run => Ok(to_device(run_in(names))),
+        Subcommand::Run => Ok(run_in(names).map(Order::Device)),
         Subcommand::Sweep => sweep_in(alloc, names),
-        Subcommand::Codes => Ok(Some(Order::Read(ReadOrder::Codes))),
-    }
-}
-
-/// Returns an order to a device as one of all orders.
-fn to_device(order: Option<DeviceOrder<'_>>) -> Option<Order<'_>>
-    ensures { result ≡ option_map Device order.entry }
-{
-    match order {
-        Some(order) => Some(Order::Device(order)),
-        None => None,
-    }
-}
-
-fn choose_in<'a>(names: &ArgMatches<'a>) -> Option<Order<'a>>
-    ensures { Finds (Asks (codes "choose") (rows_of (found_of names.now))) result }
-{
-    let table = name_in(names, named::TABLE)?;
-    Some(Order::Read(ReadOrder::Choose { table }))
-}
-
-fn check_in<'a>(names: &ArgMatches<'a>) -> Option<Order<'a>>
-    ensures { Finds (Asks (codes "check") (rows_of (found_of names.now))) result }
-{
-    let table = name_in(names, named::TABLE)?;
-    let report = name_in(names, named::REPORT)?;
-    Some(Order::Read(ReadOrder::Check { table, report }))
-}
-
-fn plan_in<'a>(alloc: Global, names: &ArgMatches<'a>) -> Result<Option<Order<'a>>, AllocError>
-    ensures { IfOk result (Finds (Asks (codes "plan") (rows_of (found_of names.now)))) }
-{
-    match plan_order_in(alloc, names)? {
-        Some(order) => Ok(Some(Order::Plan(order))),
-        None => Ok(None),
-    }
-}
-
-fn image_in<'a>(names: &ArgMatches<'a>) -> Option<Order<'a>>
-    ensures { Finds (Asks (codes "image") (rows_of (found_of names.now))) result }
-{
-    let file = name_in(names, named::FILE)?;
-    Some(Order::Read(ReadOrder::Image { file }))
-}
-
-fn manifest_in<'a>(names: &ArgMatches<'a>) -> Option<Order<'a>>
-    ensures { Finds (Asks (codes "manifest") (rows_of (found_of names.now))) result }
-{
-    let device = name_in(names, named::DEVICE)?;
-    let file = name_in(names, named::FILE)?;
-    Some(Order::Read(ReadOrder::Manifest { device, file }))
-}
-
-fn show_in<'a>(names: &ArgMatches<'a>) -> Option<Order<'a>>
-    ensures { Finds (Asks (codes "show") (rows_of (found_of names.now))) result }
-{
-    let device = name_in(names, named::DEVICE)?;
-    let flash = name_in(names, named::FLASH)?;
-    Some(Order::Read(ReadOrder::Show { device, flash }))
-}
-
-fn slots_in<'a>(names: &ArgMatches<'a>) -> Option<Order<'a>>
-    ensures { Finds (Asks (codes "slots") (rows_of (found_of names.now))) result }
-{
-    let device = name_in(names, named::DEVICE)?;
-    let flash = name_in(names, named::FLASH)?;
-    Some(Order::Read(ReadOrder::Slots { device, flash }))
-}
-
-fn make_device_in<'a>(
-    alloc: Global,
-    names: &ArgMatches<'a>,
-) -> Result<Option<Order<'a>>, AllocError>
-    ensures { IfOk result (Finds (Asks (codes "make-device") (rows_of (found_of names.now)))) }
-{
-    match device_in(alloc, names)? {
-        Some(device) => Ok(Some(Order::MakeDevice { device })),
-        None => Ok(None),
+        _ => match read_order_in(subcommand, names) {
+            Some(order) => Ok(Some(Order::Read(order))),
+            None => Ok(None),
+        },
     }
 }
 
@@ -240,7 +161,7 @@ pub fn subcommand_for(order: &Order<'_>) -> Subcommand
     ensures { result ≡ subcommand_for order.now }
 {
     match order {
-        Order::Read(order) => subcommand_to_read(order),
+        Order::Read(order) => order.subcommand(),
         Order::Plan(_) => Subcommand::Plan,
         Order::MakeDevice { .. } => Subcommand::MakeDevice,
         Order::MakeImage { .. } => Subcommand::MakeImage,
@@ -271,7 +192,7 @@ pub fn reads_standard_input_twice(order: &Order<'_>) -> bool
     ensures { result ≡ nat_lt 1 (standard_inputs (names_of order.now)) }
 {
     match order {
-        Order::Read(order) => reads_twice(order),
+        Order::Read(order) => order.reads_standard_input_twice(),
         Order::Plan(order) => plans_twice(order),
         Order::MakeDevice { .. } => false,
         Order::MakeImage { image, body, .. } => {
@@ -292,46 +213,6 @@ pub fn reads_standard_input_twice(order: &Order<'_>) -> bool
             ..
         } => inputs_with(device, script, images.as_slice()) > 1,
         Order::MergeSweeps { outputs, .. } => standard_inputs(outputs.as_slice()) > 1,
-    }
-}
-
-/// Returns the subcommand of an order that only reads.
-fn subcommand_to_read(order: &ReadOrder<'_>) -> Subcommand
-    ensures { result ≡ subcommand_to_read order.now }
-{
-    match order {
-        ReadOrder::Choose { .. } => Subcommand::Choose,
-        ReadOrder::Check { .. } => Subcommand::Check,
-        ReadOrder::Image { .. } => Subcommand::Image,
-        ReadOrder::Manifest { .. } => Subcommand::Manifest,
-        ReadOrder::Show { .. } => Subcommand::Show,
-        ReadOrder::Slots { .. } => Subcommand::Slots,
-        ReadOrder::Codes => Subcommand::Codes,
-    }
-}
-
-/// Returns whether two files of an order that only reads are standard input, which can be read only once.
-fn reads_twice(order: &ReadOrder<'_>) -> bool
-    ensures { result ≡ nat_lt 1 (standard_inputs (names_to_read order.now)) }
-{
-    match order {
-        ReadOrder::Choose { .. } | ReadOrder::Image { .. } | ReadOrder::Codes => false,
-        ReadOrder::Check {
-            table: one,
-            report: other,
-        }
-        | ReadOrder::Manifest {
-            device: one,
-            file: other,
-        }
-        | ReadOrder::Show {
-            device: one,
-            flash: other,
-        }
-        | ReadOrder::Slots {
-            device: one,
-            flash: other,
-        } => is_standard_input(one) && is_standard_input(other),
     }
 }
 

@@ -6,7 +6,7 @@ use Rattle.command_line.specs.OrderFaults.{IsFault}
 use Rattle.command_line.specs.Orders.{GiveOrder}
 use Rattle.command_line.specs.declared.orders.Order.{Order}
 use Rattle.command_line.specs.declared.orders.Order.TheVariants as order
-use Rattle.command_line.specs.declared.orders.ReadOrder.TheVariants as read
+use Rattle.command_line.specs.declared.read_orders.ReadOrder.TheVariants as read
 use Rattle.host.specs.declared.answer.Answer.TheVariants.{Done}
 use Rattle.host.specs.Input.{FileBytes}
 use Rattle.device_commands.specs.WordsEnd.{EndsWith, IsCutAnswer}

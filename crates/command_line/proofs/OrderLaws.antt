@@ -16,7 +16,7 @@ use Rattle.command_line.specs.declared.error.OrderError.TheVariants.{Usage, NoMe
 use Rattle.command_line.specs.declared.orders.NewManifest.{NewManifest}
 use Rattle.command_line.specs.declared.orders.Order.{Order}
 use Rattle.command_line.specs.declared.orders.Order.TheVariants.{Device, MakeManifest, Read}
-use Rattle.command_line.specs.declared.orders.ReadOrder.TheVariants.{Codes}
+use Rattle.command_line.specs.declared.read_orders.ReadOrder.TheVariants.{Codes}
 
 -- A name that is no subcommand's gives no order.
 pub none_asked_by : (name : Text) (rows : List Row) (order : Order)

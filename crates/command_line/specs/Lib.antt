@@ -6,5 +6,6 @@ pub mod Given
 pub mod Needs
 pub mod OrderFaults
 pub mod Orders
+pub mod ReadOrders
 pub mod Sizes
 pub mod Status

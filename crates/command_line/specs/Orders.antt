@@ -1,5 +1,5 @@
 -- The meaning of an order, according to the matches that `clap` returns for the arguments.
-use Rattle.std.specs.Prelude.{◌≡◌, ℕ, ◌==◌, ◌^◌, ◌<◌, ◌≤◌, Bool, false, true, IsSomeAnd, List, [], ◌∷◌, ◌++◌, Option, Some, None, codes, if◌then◌else◌, length, map, nat_lt, option_and_then, option_map, option_to_list, unwrap_or, ⊤}
+use Rattle.std.specs.Prelude.{◌≡◌, ℕ, ◌==◌, ◌^◌, ◌<◌, ◌≤◌, Bool, false, true, IsSomeAnd, List, [], ◌∷◌, ◌++◌, Option, Some, None, codes, if◌then◌else◌, length, map, nat_lt, option_and_then, option_map, option_to_list, unwrap_or}
 use Rattle.std.specs.Borrow.{Bor}
 use Rattle.std.specs.List.{AllZip, after_first, before_first, position_or_len, slice_split}
 use Rattle.std.specs.Option.{option_map_or}
@@ -15,6 +15,7 @@ use Rattle.version_order.specs.declared.version.Version.{Version}
 use Rattle.version_order.specs.VersionText.{version_of}
 use Rattle.command_line.specs.Commands.{bootswap, name_for}
 use Rattle.command_line.specs.DeviceOrders as of_device
+use Rattle.command_line.specs.ReadOrders as of_reading
 use Rattle.command_line.specs.declared.device_orders.DeviceOrder.{DeviceOrder}
 use Rattle.command_line.specs.declared.commands.Subcommand.{Subcommand}
 use Rattle.command_line.specs.declared.commands.Subcommand.TheVariants as sub
@@ -33,22 +34,11 @@ use Rattle.command_line.specs.declared.orders.RequestedFile.{RequestedFile}
 use Rattle.command_line.specs.declared.orders.SweepChoices.{SweepChoices}
 use Rattle.command_line.specs.declared.orders.SweepPart.{SweepPart}
 use Rattle.command_line.specs.declared.orders.Order.TheVariants.{Read, Plan, MakeDevice, MakeImage, MakeManifest, Device, Extract, Sweep, MergeSweeps}
-use Rattle.command_line.specs.declared.orders.ReadOrder.{ReadOrder}
-use Rattle.command_line.specs.declared.orders.ReadOrder.TheVariants.{Choose, Check, Image, Manifest, Show, Slots, Codes}
-
--- The subcommand of an order to read.
-abbrev pub subcommand_to_read : ReadOrder → Subcommand
-subcommand_to_read (Choose table) = sub.Choose
-subcommand_to_read (Check table report) = sub.Check
-subcommand_to_read (Image file) = sub.Image
-subcommand_to_read (Manifest device file) = sub.Manifest
-subcommand_to_read (Show device flash) = sub.Show
-subcommand_to_read (Slots device flash) = sub.Slots
-subcommand_to_read Codes = sub.Codes
+use Rattle.command_line.specs.declared.read_orders.ReadOrder.{ReadOrder}
 
 -- The subcommand of any order.
 abbrev pub subcommand_for : Order → Subcommand
-subcommand_for (Read order) = subcommand_to_read order
+subcommand_for (Read order) = of_reading.subcommand_for order
 subcommand_for (Plan order) = sub.Plan
 subcommand_for (MakeDevice device) = sub.MakeDevice
 subcommand_for (MakeImage image body values) = sub.MakeImage
@@ -258,23 +248,9 @@ side_of word =
 abbrev pub side_at : List Row → Option Side
 side_at rows = option_and_then side_of (first_of (codes "SIDE") rows)
 
--- The names of an order to read are those that the matches of its subcommand have.
-abbrev pub HasNamesToRead : List Row → ReadOrder → Type 0
-HasNamesToRead rows (Choose table) = IsNamed rows (codes "TABLE") table.now
-HasNamesToRead rows (Check table report) =
-    IsNamed rows (codes "TABLE") table.now × IsNamed rows (codes "REPORT") report.now
-HasNamesToRead rows (Image file) = IsNamed rows (codes "FILE") file.now
-HasNamesToRead rows (Manifest device file) =
-    IsNamed rows (codes "DEVICE") device.now × IsNamed rows (codes "FILE") file.now
-HasNamesToRead rows (Show device flash) =
-    IsNamed rows (codes "DEVICE") device.now × IsNamed rows (codes "FLASH") flash.now
-HasNamesToRead rows (Slots device flash) =
-    IsNamed rows (codes "DEVICE") device.now × IsNamed rows (codes "FLASH") flash.now
-HasNamesToRead rows Codes = ⊤
-
 -- The names and options of any order are those that the matches of its subcommand have.
 abbrev pub HasNames : List Row → Order → Type 0
-HasNames rows (Read order) = HasNamesToRead rows order
+HasNames rows (Read order) = of_reading.HasNames rows order
 HasNames rows (Plan order) = SaysPlan rows order
 HasNames rows (MakeDevice device) = SaysDevice rows device
 HasNames rows (MakeImage image body values) =
@@ -297,6 +273,10 @@ HasNames rows (MergeSweeps outputs picture) =
 abbrev pub Asks : Text → List Row → Order → Type 0
 Asks command rows order = (command ≡ name_for (subcommand_for order)) × HasNames rows order
 
+-- A subcommand with these matches gives this order to read.
+abbrev pub AsksToRead : Text → List Row → ReadOrder → Type 0
+AsksToRead command rows order = Asks command rows (Read order)
+
 -- A subcommand with these matches gives this order to a device.
 abbrev pub AsksDevice : Text → List Row → DeviceOrder → Type 0
 AsksDevice command rows order = Asks command rows (Device order)
@@ -316,16 +296,6 @@ abbrev pub files_of : NewManifest → List (Bor Text)
 files_of manifest =
     option_to_list manifest.precursor ++ map (λ component. component.file) manifest.components.items
 
--- All the names of an order to read.
-abbrev pub names_to_read : ReadOrder → List (Bor Text)
-names_to_read (Choose table) = table ∷ []
-names_to_read (Check table report) = table ∷ report ∷ []
-names_to_read (Image file) = file ∷ []
-names_to_read (Manifest device file) = device ∷ file ∷ []
-names_to_read (Show device flash) = device ∷ flash ∷ []
-names_to_read (Slots device flash) = device ∷ flash ∷ []
-names_to_read Codes = []
-
 -- The names of the fleet or of the summaries. The files of images aren't standard input.
 abbrev pub names_to_plan : PlanOrder → List (Bor Text)
 names_to_plan (Fleet fleet requests is_summary) = fleet ∷ []
@@ -333,7 +303,7 @@ names_to_plan (Merge summaries) = summaries.items
 
 -- All the names of any order.
 abbrev pub names_of : Order → List (Bor Text)
-names_of (Read order) = names_to_read order
+names_of (Read order) = of_reading.names_of order
 names_of (Plan order) = names_to_plan order
 names_of (MakeDevice device) = []
 names_of (MakeImage image body values) = image.name ∷ body ∷ []

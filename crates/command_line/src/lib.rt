@@ -22,6 +22,7 @@ mod faults;
 mod help;
 mod matching;
 mod orders;
+mod read_orders;
 mod sizes;
 mod standard_input;
 mod table_help;
@@ -38,8 +39,9 @@ pub use matching::{
     images_in, is_explained, is_given, is_json, matches_of, name_in, named_in, names_in,
 };
 pub use orders::{
-    NewComponent, NewDevice, NewFile, NewImage, NewManifest, Order, PlanOrder, ReadOrder, Request,
+    NewComponent, NewDevice, NewFile, NewImage, NewManifest, Order, PlanOrder, Request,
     RequestedFile, SweepChoices, SweepPart,
 };
+pub use read_orders::{ReadOrder, read_order_in};
 pub use sizes::size_of;
 pub use standard_input::{inputs_with, is_standard_input, standard_inputs};

@@ -1,6 +1,6 @@
 //! The orders of all commands, and their arguments.
 
-use crate::DeviceOrder;
+use crate::{DeviceOrder, ReadOrder};
 use sector_map::Side;
 use version_order::{Dependency, Version};
 
@@ -121,51 +121,6 @@ pub enum PlanOrder<'a> {
         /// The names of the summaries, in the order of their parts of the fleet.
         summaries: Vec<&'a str>,
     },
-}
-
-/// An order of a command that only reads.
-#[derive(Clone, Copy)]
-pub enum ReadOrder<'a> {
-    /// `choose`: chooses over a table.
-    Choose {
-        /// The name of the table.
-        table: &'a str,
-    },
-    /// `check`: checks whether a report is right for a table.
-    Check {
-        /// The name of the table.
-        table: &'a str,
-        /// The name of the report.
-        report: &'a str,
-    },
-    /// `image`: describes an image.
-    Image {
-        /// The name of the image.
-        file: &'a str,
-    },
-    /// `manifest`: describes a manifest for a device.
-    Manifest {
-        /// The name of the device file.
-        device: &'a str,
-        /// The name of the manifest.
-        file: &'a str,
-    },
-    /// `show`: describes the state of a flash.
-    Show {
-        /// The name of the device file.
-        device: &'a str,
-        /// The name of the flash file.
-        flash: &'a str,
-    },
-    /// `slots`: describes the slots of a flash, and what the next boot would decide.
-    Slots {
-        /// The name of the device file.
-        device: &'a str,
-        /// The name of the flash file.
-        flash: &'a str,
-    },
-    /// `codes`: prints the meaning of the codes and names of refusals.
-    Codes,
 }
 
 /// An order: a subcommand, with the names of its files and its options.

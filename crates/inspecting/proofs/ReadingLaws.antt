@@ -1,8 +1,8 @@
 -- A flush after the answer of a read-only command changes nothing.
 use Rattle.std.proofs.Common.{ℕ, List, Option, Some, None, rules, subst, sym}
 use Rattle.std.specs.Io.KnownBytes.{Keeps}
-use Rattle.command_line.specs.declared.orders.ReadOrder.{ReadOrder}
-use Rattle.command_line.specs.declared.orders.ReadOrder.TheVariants as order
+use Rattle.command_line.specs.declared.read_orders.ReadOrder.{ReadOrder}
+use Rattle.command_line.specs.declared.read_orders.ReadOrder.TheVariants as order
 use Rattle.host.specs.declared.answer.Answer.TheVariants.{Done}
 use Rattle.host.specs.Input.{FileBytes}
 use Rattle.inspecting.specs.ReadingEnd.{AnswersReading}

@@ -1,7 +1,7 @@
 -- The answer to an order of a read-only command.
 use Rattle.std.specs.Prelude.{ℕ, List, Option}
-use Rattle.command_line.specs.declared.orders.ReadOrder.{ReadOrder}
-use Rattle.command_line.specs.declared.orders.ReadOrder.TheVariants as order
+use Rattle.command_line.specs.declared.read_orders.ReadOrder.{ReadOrder}
+use Rattle.command_line.specs.declared.read_orders.ReadOrder.TheVariants as order
 use Rattle.host.specs.declared.answer.Answer.{Answer}
 use Rattle.host.specs.declared.source.Source.{Source}
 use Rattle.host.specs.Input.{AreNamed, FileBytes, IsNamed}
