@@ -1,6 +1,7 @@
 //! A call on a device in the caller's memory: the bytes of its flash, and its saved state.
 
 ghost use Rattle.std.specs.Prelude.{◌≡◌, ℕ, ◌+◌, [], IfErr, IfOk, IfSome, List, None, Option, false, true};
+ghost use Rattle.flash_model.specs.Blanks.{IsBlankOf};
 ghost use Rattle.sector_map.specs.Map.{IsLaidOut};
 ghost use Rattle.machine.specs.Steps.{cut_of};
 ghost use Rattle.boot_core.specs.Device.{seen};
@@ -154,9 +155,7 @@ fn run_over_bytes<L: Ledger>(
     call: &DeviceCall<'_>,
     reply: &mut Reply,
 ) -> u64
-    requires name { blank.name ≡ L.name }
-    requires parts { blank.parts ≡ L.parts }
-    requires two { L.parts ≡ 2 }
+    requires blank { IsBlankOf blank L.name L.parts 2 }
     requires room { HasRoom checked.now.map bytes.old }
     requires images { checked.now.identity.images ≡ checked.now.map.images }
     requires trial { IsTrial checked.now.boots }

@@ -1,6 +1,7 @@
 //! Provisioning: making the flash of a device.
 
 ghost use Rattle.std.specs.Prelude.{◌≡◌, []};
+ghost use Rattle.flash_model.specs.Blanks.{IsBlankOf};
 ghost use Rattle.slice_flash.specs.Rows.{fixed_by};
 ghost use Rattle.c_interface.specs.Lifecycle.{HoldsFirstIn};
 ghost use Rattle.c_interface.specs.Numbers.{DONE};
@@ -29,9 +30,7 @@ fn provision_on<L: Ledger>(
     table: &[ArmedCut<'_>],
     reply: &mut Reply,
 ) -> u64
-    requires name { blank.name ≡ L.name }
-    requires parts { blank.parts ≡ L.parts }
-    requires two { L.parts ≡ 2 }
+    requires blank { IsBlankOf blank L.name L.parts 2 }
     requires room { HasRoom map.now bytes.old }
     ensures { ProvisionsOn map.now (fixed_by table.now [] 0) bytes.old bytes.new reply.new result }
 {

@@ -1,6 +1,7 @@
 //! Calls on a device in the caller's memory, whose writes a journal records.
 
 ghost use Rattle.std.specs.Prelude.{◌≡◌, IfErr, IfOk};
+ghost use Rattle.flash_model.specs.Blanks.{IsBlankOf};
 ghost use Rattle.c_interface.specs.Recording.{ProvisionsOf, ProvisionsRecorded, RecordsOn};
 ghost use Rattle.c_interface.specs.Recording.{StepsRecorded};
 ghost use Rattle.c_interface.specs.Setup.{HasRoom, IsRefusedSetup, IsTrial};
@@ -34,9 +35,7 @@ fn run_recorded<L: Ledger>(
     call: &DeviceCall<'_>,
     reply: &mut Reply,
 ) -> RecordedWrites
-    requires name { blank.name ≡ L.name }
-    requires parts { blank.parts ≡ L.parts }
-    requires three { L.parts ≡ 3 }
+    requires blank { IsBlankOf blank L.name L.parts 3 }
     requires room { HasRoom checked.now.map bytes.old }
     requires images { checked.now.identity.images ≡ checked.now.map.images }
     requires trial { IsTrial checked.now.boots }
@@ -90,9 +89,7 @@ fn provision_recorded<L: Ledger>(
     journal: &mut [u8],
     reply: &mut Reply,
 ) -> RecordedWrites
-    requires name { blank.name ≡ L.name }
-    requires parts { blank.parts ≡ L.parts }
-    requires three { L.parts ≡ 3 }
+    requires blank { IsBlankOf blank L.name L.parts 3 }
     requires room { HasRoom map.now bytes.old }
     ensures { ProvisionsRecorded map.now bytes.old bytes.new journal.old journal.new reply.new
         result.writes result.used }

@@ -1,6 +1,7 @@
 //! The description of the image in a slot.
 
 ghost use Rattle.std.specs.Prelude.{◌≡◌, ◌<◌, ◌≤◌, IfSome, None};
+ghost use Rattle.flash_model.specs.Blanks.{IsBlankOf};
 ghost use Rattle.c_interface.specs.Setup.{HasRoom};
 ghost use Rattle.c_interface.specs.Slots.{AnswersSlot, DescribesSlot, IsSide};
 
@@ -34,9 +35,7 @@ fn describe_on<L: Ledger>(
     side: Side,
     description: &mut Description,
 ) -> u32
-    requires name { blank.name ≡ L.name }
-    requires parts { blank.parts ≡ L.parts }
-    requires one { L.parts ≡ 1 }
+    requires blank { IsBlankOf blank L.name L.parts 1 }
     requires room { HasRoom map.now bytes.now }
     requires there { image < map.now.images }
     ensures { DescribesSlot map.now bytes.now image side description.new result }

@@ -1,6 +1,7 @@
 //! Reads the precursors of a manifest from a flash: the images that have to run when its files are
 //! installed.
 ghost use Rattle.std.specs.Prelude.{◌≡◌, ◌<◌, IfOk, true};
+ghost use Rattle.flash_model.specs.Blanks.{IsBlankOf};
 ghost use Rattle.sector_map.specs.Map.{IsLaidOut};
 ghost use Rattle.host.specs.Input.{KeepsFiles};
 ghost use Rattle.device_texts.specs.FlashOf.{IsFlashOf, flash_of};
@@ -90,9 +91,7 @@ fn precursors_in<L: Ledger>(
     bytes: Vec<u8>,
     asked: &[NewComponent<'_>],
 ) -> Result<Precursors, Refusal>
-    requires name { blank.name ≡ L.name }
-    requires parts { blank.parts ≡ L.parts }
-    requires two { L.parts ≡ 2 }
+    requires blank { IsBlankOf blank L.name L.parts 2 }
     requires whole { IsFlashOf map.now bytes.items }
     requires there { HaveImages map.now.images asked.now }
     ensures { IfOk result (FindsPrecursors map.now (flash_of map.now bytes.items) asked.now) }

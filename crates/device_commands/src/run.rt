@@ -2,6 +2,7 @@
 ghost use Rattle.host.specs.Doings.{IsOpenedFor};
 ghost use Rattle.std.specs.Prelude.{◌≡◌, IfErr, IfOk, IsTrue, OnOk, Some, length, true};
 ghost use Rattle.std.specs.Io.KnownBytes.{Appends};
+ghost use Rattle.flash_model.specs.Blanks.{IsBlankOf};
 ghost use Rattle.device_texts.specs.DeviceFile.{IsOfFile};
 ghost use Rattle.device_texts.specs.FlashOf.{IsFlashOf, armed_in};
 ghost use Rattle.device_texts.specs.ReplyText.{reply_text};
@@ -129,9 +130,7 @@ fn play<L: Ledger, M: Ledger, H: Host, O: Write, N: RunNotes>(
     out: &mut O,
     notes: &mut N,
 ) -> Result<Answer, Refusal>
-    requires name { blank.name ≡ L.name }
-    requires parts { blank.parts ≡ L.parts }
-    requires two { L.parts ≡ 2 }
+    requires blank { IsBlankOf blank L.name L.parts 2 }
     requires memory_name { memory_blank.name ≡ M.name }
     requires memory_parts { memory_blank.parts ≡ M.parts }
     requires memory_two { M.parts ≡ 2 }

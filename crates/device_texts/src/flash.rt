@@ -1,5 +1,6 @@
 //! Makes the flash of a device in memory, and arms it with the cuts of a script.
 ghost use Rattle.std.specs.Prelude.{◌≡◌, ◌≤◌, ◌++◌, OnOk};
+ghost use Rattle.flash_model.specs.Blanks.{IsBlankOf};
 ghost use Rattle.flash_model.specs.Memory.{chip_of, with_armed};
 ghost use Rattle.sector_map.specs.Map.{IsLaidOut};
 ghost use Rattle.device_texts.specs.FlashOf.{IsFlashOf, armed_in, flash_of};
@@ -19,9 +20,7 @@ pub fn flash_of<L: Ledger>(
     map: &SectorMap,
     bytes: Vec<u8>,
 ) -> MemFlash<L>
-    requires name { blank.name ≡ L.name }
-    requires parts { blank.parts ≡ L.parts }
-    requires two { L.parts ≡ 2 }
+    requires blank { IsBlankOf blank L.name L.parts 2 }
     requires whole { IsFlashOf map.now bytes.items }
     ensures chip { chip_of result ≡ flash_of map.now bytes.items }
     ensures laid_out { IsLaidOut map.now (chip_of result) }

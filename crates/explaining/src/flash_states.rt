@@ -1,6 +1,6 @@
 //! Reads the state of a device from the bytes of its flash.
 
-ghost use Rattle.std.specs.Prelude.{◌≡◌};
+ghost use Rattle.flash_model.specs.Blanks.{IsBlankOf};
 ghost use Rattle.device_texts.specs.FlashOf.{IsFlashOf};
 
 use certificate::Table;
@@ -39,9 +39,7 @@ fn state_of_flash<L: Ledger>(
     map: &SectorMap,
     bytes: Vec<u8>,
 ) -> FlashState
-    requires name { blank.name ≡ L.name }
-    requires parts { blank.parts ≡ L.parts }
-    requires two { L.parts ≡ 2 }
+    requires blank { IsBlankOf blank L.name L.parts 2 }
     requires whole { IsFlashOf map.now bytes.items }
 {
     let mut flash = flash_of::<L>(alloc, blank, map, bytes);

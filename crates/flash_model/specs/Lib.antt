@@ -1,3 +1,4 @@
+pub mod Blanks
 pub mod Chip
 pub mod Codes
 pub mod Memory

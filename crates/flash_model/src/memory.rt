@@ -2,6 +2,7 @@
 
 ghost use Rattle.std.specs.Prelude.{◌≡◌, ◌+◌, ◌-◌, ◌*◌, ◌/◌, ◌%◌, ◌^◌, ◌<◌, ◌≤◌, [], ℕ, All, length};
 ghost use Rattle.std.specs.Prelude.{min, replicate, slice_index, vec_len, IfOk, MatchBool};
+ghost use Rattle.flash_model.specs.Blanks.{IsBlankOf};
 ghost use Rattle.flash_model.specs.Chip.{armed_with, numbers_of, reached, unarmed};
 ghost use Rattle.flash_model.specs.Written.{IsWrittenBy};
 
@@ -35,9 +36,7 @@ use std::sync::ledger::{Blank, Book, Ledger, Share};
 ///
 /// ```text
 /// fn helper<L: Ledger>(alloc: Global, blank: Blank) -> Result<(), AllocError>
-///     requires name { blank.name ≡ L.name }
-///     requires parts { blank.parts ≡ L.parts }
-///     requires two { L.parts ≡ 2 }
+///     requires blank { IsBlankOf blank L.name L.parts 2 }
 /// {
 ///     let mut flash = MemFlash::<L>::new(alloc, blank, 512, 16)?;
 ///     ..
@@ -112,9 +111,7 @@ impl<L: Ledger> MemFlash<L> {
         sector_size: u32,
         sectors: u32,
     ) -> Result<Self, AllocError>
-        requires name { blank.name ≡ L.name }
-        requires parts { blank.parts ≡ L.parts }
-        requires two { L.parts ≡ 2 }
+        requires blank { IsBlankOf blank L.name L.parts 2 }
         requires addressed { sectors * sector_size < 2 ^ 32 }
         ensures chip { IfOk result (λ flash. chip_of flash
             ≡ new_chip sector_size sectors (replicate (sectors * sector_size) 0xff)) }
@@ -129,9 +126,7 @@ impl<L: Ledger> MemFlash<L> {
     /// Does not allocate; `alloc` is for later calls of `arm`. `blank` is a token of the ledger
     /// with two parts, as `Blank::new(2)` makes it.
     pub fn from_bytes(alloc: Global, blank: Blank, sector_size: u32, bytes: Vec<u8>) -> Self
-        requires name { blank.name ≡ L.name }
-        requires parts { blank.parts ≡ L.parts }
-        requires two { L.parts ≡ 2 }
+        requires blank { IsBlankOf blank L.name L.parts 2 }
         requires some { 0 < sector_size }
         requires whole { vec_len bytes % sector_size ≡ 0 }
         requires addressed { vec_len bytes < 2 ^ 32 }
@@ -150,9 +145,7 @@ impl<L: Ledger> MemFlash<L> {
         sectors: u32,
         bytes: Vec<u8>,
     ) -> Self
-        requires name { blank.name ≡ L.name }
-        requires parts { blank.parts ≡ L.parts }
-        requires two { L.parts ≡ 2 }
+        requires blank { IsBlankOf blank L.name L.parts 2 }
         requires whole { vec_len bytes ≡ sectors * sector_size }
         requires addressed { vec_len bytes < 2 ^ 32 }
         ensures chip { chip_of result ≡ new_chip sector_size sectors bytes.items }

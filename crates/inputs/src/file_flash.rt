@@ -3,6 +3,7 @@
 ghost use Rattle.std.specs.Prelude.{◌≡◌, ◌+◌, ◌<◌, ◌≤◌, length, false, true, slice_range, option_map, IfSome, IsErrOf, OnOk};
 ghost use Rattle.std.specs.Bool.{OnFalse};
 ghost use Rattle.std.specs.Option.{ForSome};
+ghost use Rattle.flash_model.specs.Blanks.{IsBlankOf};
 ghost use Rattle.flash_model.specs.Chip.{size_of, IsCutAsArmed};
 ghost use Rattle.flash_model.specs.Calls.{CanProgram, Erases, Programs, ReadsBytes};
 ghost use Rattle.flash_model.specs.Memory.{chip_of as memory_of};
@@ -107,9 +108,7 @@ impl<F: FlashFile, L: Ledger, M: Ledger> FileFlash<F, L, M> {
     ///
     /// The ledger's token has two parts, as `Blank::new(2)` makes it.
     pub fn over(memory: MemFlash<M>, blank: Blank, file: F) -> Self
-        requires name { blank.name ≡ L.name }
-        requires parts { blank.parts ≡ L.parts }
-        requires two { L.parts ≡ 2 }
+        requires blank { IsBlankOf blank L.name L.parts 2 }
         requires on { (memory_of memory).is_on ≡ true }
         requires held { ForSome (F.contents file) (λ all. all ≡ (memory_of memory).bytes) }
         ensures made { over_file result ≡ new_over (memory_of memory) }

@@ -1,5 +1,6 @@
 //! `bootswap show` and `bootswap slots`: print the state of a device from its flash.
 ghost use Rattle.std.specs.Prelude.{◌≡◌, IfOk};
+ghost use Rattle.flash_model.specs.Blanks.{IsBlankOf};
 ghost use Rattle.device_texts.specs.FlashOf.{IsFlashOf, flash_of};
 ghost use Rattle.host.specs.Input.{KeepsFiles};
 ghost use Rattle.inspecting.specs.Answers.{AnswersForFlash};
@@ -72,9 +73,7 @@ pub fn flash_text_over<L: Ledger, W: Write>(
     text: FlashText,
     out: &mut W,
 ) -> Result<Answer, Refusal>
-    requires name { blank.name ≡ L.name }
-    requires parts { blank.parts ≡ L.parts }
-    requires two { L.parts ≡ 2 }
+    requires blank { IsBlankOf blank L.name L.parts 2 }
     requires whole { IsFlashOf map.now bytes.items }
     ensures { WritesFlash text result map.now (flash_of map.now bytes.items)
         (W.contents out.old) (W.contents out.new) }

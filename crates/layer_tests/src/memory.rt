@@ -1,6 +1,6 @@
 //! Flashes in memory with sectors of 512 bytes.
 
-ghost use Rattle.std.specs.Prelude.{◌≡◌};
+ghost use Rattle.flash_model.specs.Blanks.{IsBlankOf};
 
 use flash_model::MemFlash;
 use std::process::Abort;
@@ -12,9 +12,7 @@ pub(crate) fn in_memory<L: Ledger>(
     blank: Blank,
     bytes: Vec<u8>,
 ) -> MemFlash<L>
-    requires name { blank.name ≡ L.name }
-    requires parts { blank.parts ≡ L.parts }
-    requires two { L.parts ≡ 2 }
+    requires blank { IsBlankOf blank L.name L.parts 2 }
 {
     assert!(rt; bytes.len() % 512 == 0 && bytes.len() < 65536);
     MemFlash::<L>::from_bytes(rt.alloc(), blank, 512, bytes)

@@ -3,6 +3,7 @@
 ghost use Rattle.std.specs.Prelude.{◌≡◌, ◌==◌, ◌+◌, ◌*◌, ◌%◌, ◌^◌, ◌<◌, ◌≤◌, ℕ, false, true};
 ghost use Rattle.std.specs.Prelude.{length, slice_index, slice_range};
 ghost use Rattle.std.specs.List.{list_any};
+ghost use Rattle.flash_model.specs.Blanks.{IsBlankOf};
 ghost use Rattle.flash_model.specs.Chip.{reached};
 ghost use Rattle.flash_model.specs.Written.{IsWrittenBy};
 ghost use Rattle.slice_flash.specs.Rows.{fixed_by, numbers_in};
@@ -32,9 +33,7 @@ use std::sync::ledger::{Blank, Book, Ledger, Share};
 ///
 /// ```text
 /// fn helper<L: Ledger>(blank: Blank, bytes: &mut [u8])
-///     requires name { blank.name ≡ L.name }
-///     requires parts { blank.parts ≡ L.parts }
-///     requires two { L.parts ≡ 2 }
+///     requires blank { IsBlankOf blank L.name L.parts 2 }
 ///     requires whole { length bytes.old ≡ 8192 }
 /// {
 ///     let table = [ArmedCut { write: 3, left: Left::Bytes(&[0x5a, 0xa5]) }];
@@ -130,9 +129,7 @@ impl<'a, L: Ledger> SliceFlash<'a, L> {
         sector_size: u32,
         table: &'a [ArmedCut<'a>],
     ) -> Self
-        requires name { blank.name ≡ L.name }
-        requires parts { blank.parts ≡ L.parts }
-        requires two { L.parts ≡ 2 }
+        requires blank { IsBlankOf blank L.name L.parts 2 }
         requires some { 0 < sector_size }
         requires whole { length bytes.old % sector_size ≡ 0 }
         requires addressed { length bytes.old < 2 ^ 32 }

@@ -2,6 +2,7 @@
 
 ghost use Rattle.std.specs.Prelude.{◌≡◌, ◌+◌, ◌*◌, ◌%◌, ◌^◌, ◌<◌, ◌≤◌, ℕ, drop, length, take};
 ghost use Rattle.std.specs.Prelude.{[], false, slice_index};
+ghost use Rattle.flash_model.specs.Blanks.{IsBlankOf};
 ghost use Rattle.flash_model.specs.Chip.{reached};
 ghost use Rattle.flash_model.specs.Written.{IsWrittenBy};
 ghost use Rattle.slice_flash.specs.Steps.{IsRecordedBy, IsTooShort, fixed_over};
@@ -36,9 +37,7 @@ use std::sync::ledger::{Blank, Book, Ledger, Share};
 ///
 /// ```text
 /// fn helper<L: Ledger>(blank: Blank, bytes: &mut [u8], journal: &mut [u8])
-///     requires name { blank.name ≡ L.name }
-///     requires parts { blank.parts ≡ L.parts }
-///     requires three { L.parts ≡ 3 }
+///     requires blank { IsBlankOf blank L.name L.parts 3 }
 ///     requires whole { length bytes.old ≡ 8192 }
 /// {
 ///     let mut flash = JournalFlash::<L>::new(blank, bytes, 512, journal);
@@ -130,9 +129,7 @@ impl<'a, 'b, L: Ledger> JournalFlash<'a, 'b, L> {
     /// assert!(rt; answer == Err(FlashError::Cut) && flash.used() == 12);
     /// ```
     pub fn new(blank: Blank, bytes: &'a mut [u8], sector_size: u32, journal: &'b mut [u8]) -> Self
-        requires name { blank.name ≡ L.name }
-        requires parts { blank.parts ≡ L.parts }
-        requires three { L.parts ≡ 3 }
+        requires blank { IsBlankOf blank L.name L.parts 3 }
         requires some { 0 < sector_size }
         requires whole { length bytes.old % sector_size ≡ 0 }
         requires addressed { length bytes.old < 2 ^ 32 }

@@ -1,6 +1,7 @@
 //! A flash over bytes that are only read.
 
 ghost use Rattle.std.specs.Prelude.{◌≡◌, ◌*◌, ◌%◌, ◌^◌, ◌<◌, ◌≤◌, ℕ, length, slice_index};
+ghost use Rattle.flash_model.specs.Blanks.{IsBlankOf};
 
 use flash_model::{Flash, FlashError, Result};
 use std::sync::ledger::{Blank, Book, Ledger, Share};
@@ -15,9 +16,7 @@ use std::sync::ledger::{Blank, Book, Ledger, Share};
 ///
 /// ```text
 /// fn helper<L: Ledger>(blank: Blank, bytes: &[u8])
-///     requires name { blank.name ≡ L.name }
-///     requires parts { blank.parts ≡ L.parts }
-///     requires one { L.parts ≡ 1 }
+///     requires blank { IsBlankOf blank L.name L.parts 1 }
 ///     requires whole { length bytes.now ≡ 8192 }
 /// {
 ///     let mut flash = ReadOnlyFlash::<L>::new(blank, bytes, 512);
@@ -48,9 +47,7 @@ impl<'a, L: Ledger> ReadOnlyFlash<'a, L> {
     ///
     /// `blank` is a token of the ledger with one part, as `Blank::new(1)` makes it.
     pub fn new(blank: Blank, bytes: &'a [u8], sector_size: u32) -> Self
-        requires name { blank.name ≡ L.name }
-        requires parts { blank.parts ≡ L.parts }
-        requires one { L.parts ≡ 1 }
+        requires blank { IsBlankOf blank L.name L.parts 1 }
         requires some { 0 < sector_size }
         requires whole { length bytes.now % sector_size ≡ 0 }
         requires addressed { length bytes.now < 2 ^ 32 }

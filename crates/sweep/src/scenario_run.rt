@@ -1,6 +1,7 @@
 //! Runs a scenario once, with given power cuts.
 
 ghost use Rattle.std.specs.Prelude.{◌≡◌, IfOk, true};
+ghost use Rattle.flash_model.specs.Blanks.{IsBlankOf};
 ghost use Rattle.sweep.specs.Scenario.{IsScenarioRun, Reboots, RunsEvent, RunsEvents, StepsCut, all_of, held_in};
 
 use crate::cuts::{TornWrite, cut_writes};
@@ -39,9 +40,7 @@ fn run_on_flash<L: Ledger>(
     scenario: &Scenario<'_>,
     cuts: &[TornWrite],
 ) -> Result<ScenarioEnd, AllocError>
-    requires name { blank.name ≡ L.name }
-    requires parts { blank.parts ≡ L.parts }
-    requires two { L.parts ≡ 2 }
+    requires blank { IsBlankOf blank L.name L.parts 2 }
     ensures { IfOk result (IsScenarioRun scenario.now cuts.now) }
 {
     let bytes = Vec::from_slice(alloc, scenario.bytes)?;

@@ -1,6 +1,7 @@
 //! Makes all runs of a sweep.
 
 ghost use Rattle.std.specs.Prelude.{◌≡◌, true};
+ghost use Rattle.flash_model.specs.Blanks.{IsBlankOf};
 
 use crate::cuts::{Cuts, TEARS, Tear, TornWrite};
 use crate::device::device_over;
@@ -117,9 +118,7 @@ fn count_writes<L: Ledger, W: Watch>(
     scenario: &Scenario<'_>,
     watch: &mut W,
 ) -> Result<Vec<u32>, AllocError>
-    requires name { blank.name ≡ L.name }
-    requires parts { blank.parts ≡ L.parts }
-    requires two { L.parts ≡ 2 }
+    requires blank { IsBlankOf blank L.name L.parts 2 }
 {
     let bytes = Vec::from_slice(alloc, scenario.bytes)?;
     let flash = flash_of::<L>(alloc, blank, &scenario.device.map, bytes);

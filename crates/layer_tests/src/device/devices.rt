@@ -4,6 +4,7 @@
 //! trailer, so the primary slots begin at the addresses 0 and 1536.
 
 ghost use Rattle.std.specs.Prelude.{◌≡◌};
+ghost use Rattle.flash_model.specs.Blanks.{IsBlankOf};
 
 use crate::images::{FIRST, RUNNING, SECOND};
 use crate::memory::in_memory;
@@ -100,9 +101,7 @@ fn play<L: Ledger>(
     bytes: Vec<u8>,
     events: &[Event<&[u8]>],
 ) -> Result<(Vec<Reply>, Vec<u8>), Fail>
-    requires name { blank.name ≡ L.name }
-    requires parts { blank.parts ≡ L.parts }
-    requires two { L.parts ≡ 2 }
+    requires blank { IsBlankOf blank L.name L.parts 2 }
 {
     let mut device = device_on(rt, in_memory::<L>(rt, blank, bytes))?;
     device.reset();

@@ -1,7 +1,7 @@
 //! Tests of manifests that are given by their fields: a device accepts them as it accepts their
 //! text.
 
-ghost use Rattle.std.specs.Prelude.{◌≡◌};
+ghost use Rattle.flash_model.specs.Blanks.{IsBlankOf};
 
 use super::devices::{UPGRADE, device_on, outcome_of, put, two_images};
 use crate::images::{FIRST, FIRST_DIGEST, SECOND, SECOND_DIGEST};
@@ -41,9 +41,7 @@ fn upgraded<L: Ledger>(
     rt: &(impl Abort + AllocGlobal),
     blank: Blank,
 ) -> Result<(Reply, Vec<u8>), Fail>
-    requires name { blank.name ≡ L.name }
-    requires parts { blank.parts ≡ L.parts }
-    requires two { L.parts ≡ 2 }
+    requires blank { IsBlankOf blank L.name L.parts 2 }
 {
     let manifest = manifest(1, 1)?;
     let mut device = device_on(rt, in_memory::<L>(rt, blank, two_images(rt)?))?;
@@ -86,9 +84,7 @@ fn refused<L: Ledger>(
     sequence: u32,
     second: u8,
 ) -> Result<([Result<(), Fault>; 3], Vec<u8>), Fail>
-    requires name { blank.name ≡ L.name }
-    requires parts { blank.parts ≡ L.parts }
-    requires two { L.parts ≡ 2 }
+    requires blank { IsBlankOf blank L.name L.parts 2 }
 {
     let usual = manifest(1, 1)?;
     let other = manifest(sequence, second)?;

@@ -1,6 +1,7 @@
 //! Tests of provisioning borrowed bytes: the bytes after the flash is dropped.
 
 ghost use Rattle.std.specs.Prelude.{◌≡◌, ◌≤◌, ℕ, slice_index};
+ghost use Rattle.flash_model.specs.Blanks.{IsBlankOf};
 ghost use Rattle.sector_map.specs.Map.{end_of_map};
 
 use super::devices::{provisioned, put, two_images};
@@ -22,9 +23,7 @@ fn make<L: Ledger>(
     bytes: &mut [u8],
     map: &SectorMap,
 ) -> Result<(), Fault>
-    requires name { blank.name ≡ L.name }
-    requires parts { blank.parts ≡ L.parts }
-    requires two { L.parts ≡ 2 }
+    requires blank { IsBlankOf blank L.name L.parts 2 }
     ensures { (k : ℕ) → end_of_map map.now ≤ k
         → slice_index bytes.new k ≡ slice_index bytes.old k }
 {

@@ -1,6 +1,6 @@
 //! A test of how many bytes a boot reads of the running images.
 
-ghost use Rattle.std.specs.Prelude.{◌≡◌};
+ghost use Rattle.flash_model.specs.Blanks.{IsBlankOf};
 
 use super::devices::{device_on, two_images};
 use crate::counting::Counting;
@@ -14,9 +14,7 @@ use std::test::Fail;
 /// The number of bytes of the primary slots and trailers that the first boot of a new device of two
 /// images reads, without requests.
 fn reads<L: Ledger>(rt: &(impl Abort + AllocGlobal), blank: Blank) -> Result<u64, Fail>
-    requires name { blank.name ≡ L.name }
-    requires parts { blank.parts ≡ L.parts }
-    requires two { L.parts ≡ 2 }
+    requires blank { IsBlankOf blank L.name L.parts 2 }
 {
     let flash = Counting::new(in_memory::<L>(rt, blank, two_images(rt)?), 3072);
     let mut device = device_on(rt, flash)?;

@@ -1,6 +1,6 @@
 //! Examples of a decision and of a device.
 
-ghost use Rattle.std.specs.Prelude.{◌≡◌};
+ghost use Rattle.flash_model.specs.Blanks.{IsBlankOf};
 
 use crate::device::devices::{PAIR, identity, two_images};
 use crate::memory::in_memory;
@@ -21,9 +21,7 @@ fn decide_and_run<L: Ledger>(
     blank: Blank,
     identity: Identity,
 ) -> Result<(), Fail>
-    requires name { blank.name ≡ L.name }
-    requires parts { blank.parts ≡ L.parts }
-    requires two { L.parts ≡ 2 }
+    requires blank { IsBlankOf blank L.name L.parts 2 }
 {
     let mut flash = in_memory::<L>(rt, blank, two_images(rt)?);
     find_a_decision(rt, &mut flash)?;

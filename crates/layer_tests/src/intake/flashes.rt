@@ -1,6 +1,6 @@
 //! Tests of slots on a flash that is off, and of the entries on a flash, one by one.
 
-ghost use Rattle.std.specs.Prelude.{◌≡◌};
+ghost use Rattle.flash_model.specs.Blanks.{IsBlankOf};
 
 use flash_model::{Flash, FlashError, MemFlash, Torn};
 use sector_map::{SectorMap, Side};
@@ -23,9 +23,7 @@ fn expect_off<F: Flash>(rt: &impl Abort, flash: &mut F, map: &SectorMap) {
 }
 
 fn told_off<L: Ledger>(rt: &impl Abort, alloc: Global, blank: Blank) -> Result<(), Fail>
-    requires name { blank.name ≡ L.name }
-    requires parts { blank.parts ≡ L.parts }
-    requires two { L.parts ≡ 2 }
+    requires blank { IsBlankOf blank L.name L.parts 2 }
 {
     let map = SectorMap::new(512, &[2, 1])?;
     let mut flash = MemFlash::<L>::new(alloc, blank, 512, 14)?;
@@ -67,9 +65,7 @@ fn two_sectors(alloc: Global) -> Result<Vec<u8>, Fail> {
 }
 
 fn walked<L: Ledger>(rt: &impl Abort, alloc: Global, blank: Blank) -> Result<(), Fail>
-    requires name { blank.name ≡ L.name }
-    requires parts { blank.parts ≡ L.parts }
-    requires two { L.parts ≡ 2 }
+    requires blank { IsBlankOf blank L.name L.parts 2 }
 {
     let bytes = two_sectors(alloc)?;
     assert!(rt; bytes.len() == 1024);

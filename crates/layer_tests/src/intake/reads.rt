@@ -1,6 +1,7 @@
 //! A test of how many bytes of a flash are read to describe a slot.
 
-ghost use Rattle.std.specs.Prelude.{◌≡◌, ◌≤◌};
+ghost use Rattle.std.specs.Prelude.{◌≤◌};
+ghost use Rattle.flash_model.specs.Blanks.{IsBlankOf};
 
 use crate::counting::Counting;
 use crate::images::{NEEDY, UNASKED};
@@ -30,9 +31,7 @@ fn counted<L: Ledger>(
     blank: Blank,
     image: &[u8],
 ) -> Result<(u64, usize), Fail>
-    requires name { blank.name ≡ L.name }
-    requires parts { blank.parts ≡ L.parts }
-    requires two { L.parts ≡ 2 }
+    requires blank { IsBlankOf blank L.name L.parts 2 }
 {
     let mut bytes = Vec::from_slice(rt.alloc(), image)?;
     bytes.resize(7168, 0xff)?;

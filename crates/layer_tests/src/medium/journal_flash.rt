@@ -1,6 +1,7 @@
 //! Tests of a flash that records its writes: the bytes of its journal after the flash is dropped.
 
 ghost use Rattle.std.specs.Prelude.{◌≡◌, length};
+ghost use Rattle.flash_model.specs.Blanks.{IsBlankOf};
 
 use crate::medium::calls::{
     Answered, CUT_0, CUT_1, CUT_2, DONE_1, DONE_2, ERASED_2, ERASED_12, OFF_0, OFF_1, OLD,
@@ -18,9 +19,7 @@ fn play<L: Ledger>(
     journal: &mut [u8],
     calls: &[Answered],
 ) -> (bool, usize)
-    requires name { blank.name ≡ L.name }
-    requires parts { blank.parts ≡ L.parts }
-    requires three { L.parts ≡ 3 }
+    requires blank { IsBlankOf blank L.name L.parts 3 }
     requires whole { length bytes.old ≡ 32 }
 {
     let mut flash = JournalFlash::<L>::new(blank, bytes, 8, journal);

@@ -1,6 +1,7 @@
 //! Tests of a flash over borrowed bytes: the bytes after the flash is dropped.
 
 ghost use Rattle.std.specs.Prelude.{◌≡◌, ◌+◌, ◌<◌, ◌≤◌, ◌⊎◌, ℕ, length, slice_index, IsTrue};
+ghost use Rattle.flash_model.specs.Blanks.{IsBlankOf};
 
 use crate::medium::calls::{
     Answered, CUT_0, CUT_1, CUT_2, DONE_1, DONE_2, ERASED, ERASED_1, ERASED_2, ERASED_12, OFF_0,
@@ -20,9 +21,7 @@ fn play<L: Ledger>(
     table: &[ArmedCut<'_>],
     calls: &[Answered],
 ) -> bool
-    requires name { blank.name ≡ L.name }
-    requires parts { blank.parts ≡ L.parts }
-    requires two { L.parts ≡ 2 }
+    requires blank { IsBlankOf blank L.name L.parts 2 }
     requires whole { length bytes.old ≡ 32 }
 {
     let mut flash = SliceFlash::<L>::new(blank, bytes, 8, table);
@@ -105,9 +104,7 @@ fn writes_are_cut_as_the_first_row_for_them_says(rt: HostRuntime) -> Result<(), 
 /// Both calls are generic in the flash. Nevertheless the contract knows the bytes after the flash
 /// is dropped.
 fn set_second_unit<L: Ledger>(blank: Blank, bytes: &mut [u8]) -> bool
-    requires name { blank.name ≡ L.name }
-    requires parts { blank.parts ≡ L.parts }
-    requires two { L.parts ≡ 2 }
+    requires blank { IsBlankOf blank L.name L.parts 2 }
     requires whole { length bytes.old ≡ 32 }
     ensures beside { (k : ℕ) → (k < 8) ⊎ (16 ≤ k)
         → slice_index bytes.new k ≡ slice_index bytes.old k }

@@ -1,6 +1,6 @@
 //! Tests of a flash in memory: its cuts, its counts, and the check for erased bytes.
 
-ghost use Rattle.std.specs.Prelude.{◌≡◌};
+ghost use Rattle.flash_model.specs.Blanks.{IsBlankOf};
 
 use crate::medium::calls::{
     Answered, CUT_0, CUT_1, DONE_1, DONE_2, ERASED, ERASED_12, OFF_0, OLD, PROGRAM_CUT, RESTART,
@@ -37,9 +37,7 @@ fn arm<L: Ledger>(
 
 /// Whether a scenario has its expected outcome.
 fn is_told<L: Ledger>(alloc: Global, blank: Blank, story: &Story) -> Result<bool, AllocError>
-    requires name { blank.name ≡ L.name }
-    requires parts { blank.parts ≡ L.parts }
-    requires two { L.parts ≡ 2 }
+    requires blank { IsBlankOf blank L.name L.parts 2 }
 {
     let (before, done, armed, calls, after, counts) = *story;
     let bytes = vec![in alloc; before; 32]?;
@@ -92,9 +90,7 @@ type Range = (u8, u8, bool);
 
 /// Whether a range is found to be erased or not, as its row says.
 fn is_found<L: Ledger>(alloc: Global, blank: Blank, range: Range) -> Result<bool, AllocError>
-    requires name { blank.name ≡ L.name }
-    requires parts { blank.parts ≡ L.parts }
-    requires two { L.parts ≡ 2 }
+    requires blank { IsBlankOf blank L.name L.parts 2 }
 {
     let (set, len, wanted) = range;
     let mut bytes = vec![in alloc; 0xff; 264]?;

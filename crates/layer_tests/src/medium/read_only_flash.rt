@@ -1,6 +1,7 @@
 //! Tests of a flash over bytes that are only read: each write is refused, and no byte changes.
 
 ghost use Rattle.std.specs.Prelude.{◌≡◌, length};
+ghost use Rattle.flash_model.specs.Blanks.{IsBlankOf};
 
 use crate::medium::calls::{Answered, CUT_3, OFF_1, OFF_3, PROGRAM_CUT, RESTART, are_answered};
 use slice_flash::ReadOnlyFlash;
@@ -9,9 +10,7 @@ use std::sync::ledger::{Blank, Ledger};
 
 /// Makes these calls on a flash over the bytes, and returns whether each had its expected result.
 fn play<L: Ledger>(blank: Blank, bytes: &[u8], calls: &[Answered]) -> bool
-    requires name { blank.name ≡ L.name }
-    requires parts { blank.parts ≡ L.parts }
-    requires one { L.parts ≡ 1 }
+    requires blank { IsBlankOf blank L.name L.parts 1 }
     requires whole { length bytes.now ≡ 32 }
 {
     let mut flash = ReadOnlyFlash::<L>::new(blank, bytes, 8);

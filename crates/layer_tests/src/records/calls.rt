@@ -1,6 +1,6 @@
 //! Calls on trailers, the log and slots of a flash in memory, for two images of two sectors.
 
-ghost use Rattle.std.specs.Prelude.{◌≡◌};
+ghost use Rattle.flash_model.specs.Blanks.{IsBlankOf};
 
 use super::states::STEADY;
 use crate::memory::in_memory;
@@ -81,9 +81,7 @@ fn made<L: Ledger>(
     torn: Torn,
     calls: &[Call],
 ) -> Result<Outcome, Fail>
-    requires name { blank.name ≡ L.name }
-    requires parts { blank.parts ≡ L.parts }
-    requires two { L.parts ≡ 2 }
+    requires blank { IsBlankOf blank L.name L.parts 2 }
 {
     let map = SectorMap::new(512, &[2, 2])?;
     let mut flash = in_memory::<L>(rt, blank, bytes);
@@ -125,9 +123,7 @@ fn read<L: Ledger>(
     blank: Blank,
     bytes: Vec<u8>,
 ) -> Result<(Option<u32>, Option<Magic>), Fail>
-    requires name { blank.name ≡ L.name }
-    requires parts { blank.parts ≡ L.parts }
-    requires two { L.parts ≡ 2 }
+    requires blank { IsBlankOf blank L.name L.parts 2 }
 {
     let map = SectorMap::new(512, &[2, 2])?;
     let mut flash = in_memory::<L>(rt, blank, bytes);
