@@ -34,14 +34,7 @@ fn record_returned<F: Flash>(flash: &mut F, map: &SectorMap, state: &State) -> R
     requires { HasRecord map.now state.now (F.chip flash.old) }
     ensures { RecordsReturned map.now (F.chip flash.old) (F.chip flash.new) result }
 {
-    let steady = State {
-        kind: RecordKind::Steady,
-        mask: 0,
-        permanent: false,
-        left: 0,
-        ..*state
-    };
-    append(flash, map, &steady)
+    append(flash, map, &State::steady(state.sequence, state.floors))
 }
 
 /// From `BackSettle` to `Steady`: settles the trailers, and records that the old images run.

@@ -2,13 +2,13 @@
 //! also finds the decision of a record again.
 
 ghost use Rattle.std.specs.Prelude.{◌<◌, ◌≤◌, ◌≡◌, ℕ, ◌^◌, length};
-ghost use Rattle.boot_core.specs.Deciding.{AnswersFinding, AreForGoodIn, FindsAgain, IsForGoodIn};
-ghost use Rattle.decision.specs.Telling.{Tells};
+ghost use Rattle.sector_map.specs.Map.{HasImage, IsLaidOut};
+ghost use Rattle.sector_map.specs.Part.{is_member};
 ghost use Rattle.certificate.specs.Combination.{entry_in};
 ghost use Rattle.certificate.specs.Rightness.{taken_in};
 ghost use Rattle.machine.specs.Reading.{AreRaisedBy};
-ghost use Rattle.sector_map.specs.Map.{HasImage, IsLaidOut};
-ghost use Rattle.sector_map.specs.Part.{is_member};
+ghost use Rattle.decision.specs.Telling.{Tells};
+ghost use Rattle.boot_core.specs.Deciding.{AnswersFinding, AreForGoodIn, FindsAgain, IsForGoodIn};
 
 use arrayvec::ArrayVec;
 use certificate::{Image, Report, Request, Table};

@@ -20,7 +20,7 @@ use flash_model::{Flash, Result};
 use image_reading::{Desc, intact_image};
 use machine::{Fault, Reading};
 use sector_map::{SectorMap, Side};
-use set_log::{RecordKind, State, start};
+use set_log::{State, start};
 use trailer::clear;
 
 /// The row of a running image, from its description: it has no request, and its own security
@@ -117,15 +117,7 @@ fn begin_afresh<F: Flash>(flash: &mut F, map: &SectorMap, floors: &[u32; MOST_IM
         (F.chip flash.old) (F.chip flash.new) result }
 {
     clear_all(flash, map)?;
-    let state = State {
-        kind: RecordKind::Steady,
-        mask: 0,
-        permanent: false,
-        sequence: 0,
-        floors: *floors,
-        left: 0,
-    };
-    start(flash, map, &state)
+    start(flash, map, &State::steady(0, *floors))
 }
 
 /// Provisions a flash if its running images are intact and valid.

@@ -93,15 +93,7 @@ fn record_taken<F: Flash>(
     ensures { (left : ℕ)
         → RecordsTaken map.now true left floors (F.chip flash.old) (F.chip flash.new) result }
 {
-    let steady = State {
-        kind: RecordKind::Steady,
-        mask: 0,
-        permanent: false,
-        left: 0,
-        sequence: state.sequence,
-        floors,
-    };
-    append(flash, map, &steady)
+    append(flash, map, &State::steady(state.sequence, floors))
 }
 
 /// From `Settle` to `Trial` or `Steady`: settles the trailers, and records that the set is on trial

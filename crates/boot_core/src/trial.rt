@@ -139,15 +139,7 @@ fn record_over<F: Flash>(
         → slice_index floors i ≡ slice_index state.now.floors i }
     ensures { RecordsOver map.now state.now floors (F.chip flash.old) (F.chip flash.new) result }
 {
-    let steady = State {
-        kind: RecordKind::Steady,
-        mask: 0,
-        permanent: false,
-        left: 0,
-        sequence: state.sequence,
-        floors,
-    };
-    append_state(flash, map, steady)
+    append_state(flash, map, State::steady(state.sequence, floors))
 }
 
 /// From a trial whose set is completely confirmed: records that the trial is over, with raised

@@ -1,7 +1,7 @@
 //! The state in the log of a flash.
 
 ghost use Rattle.std.specs.Prelude.{◌≡◌};
-ghost use Rattle.set_log.specs.Record.{kind_number};
+ghost use Rattle.flash_model.specs.Blanks.{IsBlankOf};
 ghost use Rattle.c_interface.specs.Setup.{HasRoom};
 ghost use Rattle.c_interface.specs.State.{AnswersState, SaysState, state_row};
 
@@ -9,7 +9,7 @@ use crate::numbers::{DONE, NO_LOG};
 use crate::setup::{Setup, check_setup};
 use common::limits::MOST_IMAGES;
 use sector_map::SectorMap;
-use set_log::{LogError, RecordKind, State, read_state};
+use set_log::{LogError, State, read_state};
 use slice_flash::ReadOnlyFlash;
 use std::marker::Brand;
 use std::sync::ledger::{Blank, Ledger};
@@ -42,26 +42,12 @@ const NO_STATE: StateRow = StateRow {
     floors: [0; MOST_IMAGES],
 };
 
-/// The number of a phase.
-fn kind_number(kind: RecordKind) -> u32
-    ensures { result ≡ kind_number kind }
-{
-    match kind {
-        RecordKind::Steady => 1,
-        RecordKind::Swap => 2,
-        RecordKind::Settle => 3,
-        RecordKind::Trial => 4,
-        RecordKind::Back => 5,
-        RecordKind::BackSettle => 6,
-    }
-}
-
 /// A state as C has it.
 fn state_row(state: &State) -> StateRow
     ensures { result ≡ state_row state.now }
 {
     StateRow {
-        kind: kind_number(state.kind),
+        kind: u32::from(state.kind.number()),
         set: u32::from(state.mask),
         permanent: u32::from(state.permanent),
         left: u32::from(state.left),
@@ -72,9 +58,7 @@ fn state_row(state: &State) -> StateRow
 
 /// Reads the state of the log, in bytes that a map is laid out on.
 fn read_on<L: Ledger>(blank: Blank, map: &SectorMap, bytes: &[u8], state: &mut StateRow) -> u32
-    requires name { blank.name ≡ L.name }
-    requires parts { blank.parts ≡ L.parts }
-    requires one { L.parts ≡ 1 }
+    requires blank { IsBlankOf blank L.name L.parts 1 }
     requires room { HasRoom map.now bytes.now }
     ensures { SaysState map.now bytes.now state.new result }
 {

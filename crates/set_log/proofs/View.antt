@@ -123,6 +123,14 @@ log_tells map chip at o n false laid tells here =
     sym (not_true (reads_erased (log_bytes map chip) o n) (λ all.
     let wrong : false ≡ true = tells.1 (flash_erased_of map chip at o n laid all here) in cc wrong))
 
+-- What is told of the gate of a place.
+pub gate_tells : (map : SectorMap) (chip : Chip) (at sector place : ℕ) (told : Bool) → IsLaidOut map chip → sector < 3
+    → place < places_in map.sector_size → at ≡ place_of_record map sector place + 56
+    → (IsTrue told ↔ IsErased chip at 8)
+    → told ≡ reads_erased (log_bytes map chip) (sector * map.sector_size + 64 * place + 56) 8
+gate_tells map chip at sector place told laid lt below is tells =
+    log_tells map chip at _ 8 told laid tells (at_gate map at sector place laid.is_map lt below is)
+
 pub log_set : (map : SectorMap) (chip : Chip) (at o : ℕ) → IsLaidOut map chip → IsSet chip at
     → IsAt map at o 8 → reads_erased (log_bytes map chip) o 8 ≡ false
 log_set map chip at o laid set here = not_true (reads_erased (log_bytes map chip) o 8)

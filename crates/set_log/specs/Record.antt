@@ -1,5 +1,5 @@
 -- What a record of the log says, and how it is spelled.
-use Rattle.std.specs.Prelude.{◌≡◌, ℕ, ◌+◌, ◌<◌, ◌^◌, Bool, true, not, zero, suc, ◌&&◌, ◌==◌}
+use Rattle.std.specs.Prelude.{◌≡◌, ℕ, ◌+◌, ◌<◌, ◌^◌, Bool, false, true, not, zero, suc, ◌&&◌, ◌==◌}
 use Rattle.std.specs.Prelude.{nat_lt, nat_le, List, [], ◌∷◌, ◌++◌, length, drop, replicate, slice_index}
 use Rattle.std.specs.Prelude.{Option, Some, None, if◌then◌else◌}
 use Rattle.std.specs.List.{list_all}
@@ -25,6 +25,17 @@ kind_of n =
     if n == 1 then Some Steady else if n == 2 then Some Swap else if n == 3 then Some Settle
     else if n == 4 then Some Trial else if n == 5 then Some Back
     else if n == 6 then Some BackSettle else None
+
+-- The state between upgrades, with this sequence number and these floors.
+abbrev pub steady : ℕ → List ℕ → State
+steady sequence floors = record {
+  kind = Steady;
+  mask = 0;
+  permanent = false;
+  sequence = sequence;
+  floors = floors;
+  left = 0;
+}
 
 -- Whether a kind may have this set, permanence and number of boots left.
 abbrev pub kind_fits : RecordKind → ℕ → Bool → ℕ → Bool

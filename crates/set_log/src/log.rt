@@ -52,14 +52,7 @@ pub fn read_state<F: Flash>(flash: &mut F, map: &SectorMap) -> Result<State, Log
 /// ```text
 /// // `flash` has at least the 16 sectors of the map.
 /// let map = SectorMap::new(512, &[2, 2])?;
-/// let mut state = State {
-///     kind: RecordKind::Steady,
-///     mask: 0,
-///     permanent: false,
-///     sequence: 1,
-///     floors: [0; 8],
-///     left: 0,
-/// };
+/// let mut state = State::steady(1, [0; 8]);
 /// assert!(rt; map.fits(flash) && state.fits(map.images));
 /// start(flash, &map, &state)?;
 /// state.sequence = 2;

@@ -2,7 +2,7 @@
 
 ghost use Rattle.std.specs.Prelude.{◌≡◌, ◌<◌, ◌≤◌, ◌==◌, drop};
 ghost use Rattle.std.specs.List.{list_all};
-ghost use Rattle.set_log.specs.Record.{fits, kind_fits, kind_number, kind_of};
+ghost use Rattle.set_log.specs.Record.{fits, kind_fits, kind_number, kind_of, steady};
 
 use common::limits::{MOST_BOOTS_LEFT, MOST_IMAGES};
 
@@ -42,8 +42,8 @@ pub struct State {
 }
 
 impl RecordKind {
-    /// The number of a kind in a record.
-    pub(crate) fn number(self) -> u8
+    /// Returns the number of a kind in a record: 1 to 6, in the order of the kinds. Does not allocate.
+    pub fn number(self) -> u8
         ensures { result ≡ kind_number self }
     {
         match self {
@@ -88,6 +88,21 @@ fn has_no_floor_from(floors: &[u32; MOST_IMAGES], images: u8) -> bool
 }
 
 impl State {
+    /// Returns the state between upgrades, with this sequence number and these floors. Does not
+    /// allocate.
+    pub fn steady(sequence: u32, floors: [u32; MOST_IMAGES]) -> State
+        ensures { result ≡ steady sequence floors }
+    {
+        State {
+            kind: RecordKind::Steady,
+            mask: 0,
+            permanent: false,
+            sequence,
+            floors,
+            left: 0,
+        }
+    }
+
     /// Whether the state keeps the table of records on a device with `images` images, at most 8:
     ///
     /// - The set has only images of the device.

@@ -1,12 +1,13 @@
 //! Examples of a map, and of calls on a flash: writes, trailers, the log, a swap and an upload.
 
-ghost use Rattle.std.specs.Prelude.{◌≡◌, length};
+ghost use Rattle.std.specs.Prelude.{length};
+ghost use Rattle.flash_model.specs.Blanks.{IsBlankOf};
 
 use crate::images::{FIRST, FIRST_DIGEST};
 use flash_model::{Flash, FlashError, MemFlash, Torn};
 use manifest::{Component, Manifest};
 use sector_map::{SectorMap, Side, is_within};
-use set_log::{RecordKind, State, append, read_state, start};
+use set_log::{State, append, read_state, start};
 use slice_flash::{ArmedCut, JournalFlash, Left, SliceFlash};
 use std::marker::Brand;
 use std::process::Abort;
@@ -30,9 +31,7 @@ fn a_map_has_places(rt: HostRuntime) -> Result<(), Fail> {
 
 /// Cuts an erase of a flash in memory, then runs the examples on this flash.
 fn cut_in_memory<L: Ledger>(rt: &(impl Abort + AllocGlobal), blank: Blank) -> Result<(), Fail>
-    requires name { blank.name ≡ L.name }
-    requires parts { blank.parts ≡ L.parts }
-    requires two { L.parts ≡ 2 }
+    requires blank { IsBlankOf blank L.name L.parts 2 }
 {
     // example: flash_model::MemFlash::new
     // 16 erased sectors of 512 bytes. Power fails in the first write, which changes nothing.
@@ -56,9 +55,7 @@ fn cut_in_bytes<L: Ledger>(
     blank: Blank,
     bytes: &mut [u8; 1024],
 ) -> Result<(), FlashError>
-    requires name { blank.name ≡ L.name }
-    requires parts { blank.parts ≡ L.parts }
-    requires two { L.parts ≡ 2 }
+    requires blank { IsBlankOf blank L.name L.parts 2 }
 {
     // example: slice_flash::SliceFlash::new
     // `bytes` are two sectors of 512 bytes. Power fails in the second write, which leaves only
@@ -85,9 +82,7 @@ fn record_in_bytes<L: Ledger>(
     bytes: &mut [u8; 1024],
     journal: &mut [u8; 32],
 ) -> Result<(), FlashError>
-    requires name { blank.name ≡ L.name }
-    requires parts { blank.parts ≡ L.parts }
-    requires three { L.parts ≡ 3 }
+    requires blank { IsBlankOf blank L.name L.parts 3 }
 {
     // example: slice_flash::JournalFlash::new
     // `bytes` are two sectors of 512 bytes, and `journal` has 32 bytes.
@@ -147,14 +142,7 @@ fn append_a_state<F: Flash>(rt: &impl Abort, flash: &mut F) -> Result<(), Fail> 
     // example: set_log::append
     // `flash` has at least the 16 sectors of the map.
     let map = SectorMap::new(512, &[2, 2])?;
-    let mut state = State {
-        kind: RecordKind::Steady,
-        mask: 0,
-        permanent: false,
-        sequence: 1,
-        floors: [0; 8],
-        left: 0,
-    };
+    let mut state = State::steady(1, [0; 8]);
     assert!(rt; map.fits(flash) && state.fits(map.images));
     start(flash, &map, &state)?;
     state.sequence = 2;

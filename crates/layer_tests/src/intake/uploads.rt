@@ -4,7 +4,8 @@
 //! The map has 16 sectors of 512 bytes, for two images of two sectors. The secondary slots begin at
 //! the addresses 3072 and 4608, and no image runs.
 
-ghost use Rattle.std.specs.Prelude.{◌≡◌, ◌<◌, IsTrue, length};
+ghost use Rattle.std.specs.Prelude.{◌<◌, IsTrue, length};
+ghost use Rattle.flash_model.specs.Blanks.{IsBlankOf};
 ghost use Rattle.flash_model.specs.Memory.{chip_of};
 ghost use Rattle.upload.specs.View.{view};
 ghost use Rattle.upload.specs.Sessions.{AllOpenAt};
@@ -16,7 +17,7 @@ use arrayvec::ArrayVec;
 use flash_model::{Flash, MemFlash};
 use manifest::{Component, Manifest};
 use sector_map::SectorMap;
-use set_log::{RecordKind, State, read_state, start};
+use set_log::{State, read_state, start};
 use std::alloc::Global;
 use std::marker::Brand;
 use std::process::Abort;
@@ -129,19 +130,10 @@ fn begun<L: Ledger>(
     blank: Blank,
     map: &SectorMap,
 ) -> Result<MemFlash<L>, Fail>
-    requires name { blank.name ≡ L.name }
-    requires parts { blank.parts ≡ L.parts }
-    requires two { L.parts ≡ 2 }
+    requires blank { IsBlankOf blank L.name L.parts 2 }
 {
     let mut flash = in_memory::<L>(rt, blank, longer(rt.alloc())?);
-    let state = State {
-        kind: RecordKind::Steady,
-        mask: 0,
-        permanent: false,
-        sequence: 3,
-        floors: [0; 8],
-        left: 0,
-    };
+    let state = State::steady(3, [0; 8]);
     assert!(rt; map.fits(&flash) && state.fits(map.images));
     start(&mut flash, map, &state)?;
     Ok(flash)
@@ -149,9 +141,7 @@ fn begun<L: Ledger>(
 
 /// Makes uploads on a flash that is longer than its map.
 fn uploaded<L: Ledger>(rt: &(impl Abort + AllocGlobal), blank: Blank) -> Result<(), Fail>
-    requires name { blank.name ≡ L.name }
-    requires parts { blank.parts ≡ L.parts }
-    requires two { L.parts ≡ 2 }
+    requires blank { IsBlankOf blank L.name L.parts 2 }
 {
     let map = SectorMap::new(512, &[2, 2])?;
     let mut flash = begun::<L>(rt, blank, &map)?;
@@ -210,9 +200,7 @@ fn saved(rt: &impl Abort, image: usize, received: u32) -> Uploads {
 
 /// Passes the first unit of FIRST to saved uploads, most of which don't match the flash.
 fn resumed<L: Ledger>(rt: &(impl Abort + AllocGlobal), blank: Blank) -> Result<(), Fail>
-    requires name { blank.name ≡ L.name }
-    requires parts { blank.parts ≡ L.parts }
-    requires two { L.parts ≡ 2 }
+    requires blank { IsBlankOf blank L.name L.parts 2 }
 {
     let map = SectorMap::new(512, &[2, 2])?;
     let mut flash = begun::<L>(rt, blank, &map)?;

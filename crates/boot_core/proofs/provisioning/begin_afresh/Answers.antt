@@ -4,7 +4,7 @@ use Rattle.boot_core.proofs.Afresh.{begun_afresh, cleared_kept, first_fits, prov
 use Rattle.boot_core.proofs.provisioning.begin_afresh.Goals as goal
 
 pub start-requires-clause-fits : goal.start-requires-clause-fits
-start-requires-clause-fits g c = first_fits c.args.map.now c.args.floors.now c.requires.rest
+start-requires-clause-fits g c = rw c.steady.ensures (first_fits c.args.map.now c.args.floors.now c.requires.rest)
 
 pub returns-in_err-clear_all : goal.returns-in_err-clear_all
 returns-in_err-clear_all g c =
@@ -24,7 +24,7 @@ returns g c = record {
   ok = on_ok_weaker c.start.result
       (λ recorded. begun_afresh c.args.map.now c.args.floors.now _ _ c.in_ok-clear_all.ensures.ok
       c.start.ensures.outside recorded)
-      c.start.ensures.ok;
+      (rw c.steady.ensures at c.start.ensures.ok);
   journal = omega (arith, c.clear_all.ensures.journal, c.start.ensures.journal);
   ends = search rules;
 }

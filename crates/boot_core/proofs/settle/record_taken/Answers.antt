@@ -6,16 +6,16 @@ use Rattle.boot_core.proofs.settle.record_taken.Goals as goal
 
 pub append-requires-clause-fits : goal.append-requires-clause-fits
 append-requires-clause-fits g c =
-    fits_steady c.args.map.now _ c.args.state.now c.args.floors c.requires.recorded.read c.requires.rest
+    rw c.steady.ensures (fits_steady c.args.map.now _ c.args.state.now c.args.floors c.requires.recorded.read c.requires.rest)
 
 pub returns : goal.returns
 returns g c = λ left. record {
   outside = search rules;
   stands = good_either c.args.map.now _ _ _ _ c.requires.recorded.read
-      c.append.ensures.outside c.append.ensures.either;
+      c.append.ensures.outside (rw c.steady.ensures at c.append.ensures.either);
   ok = on_ok_weaker c.append.result
       (λ recorded. good_ok c.args.map.now _ _ _ _ c.requires.recorded.read c.append.ensures.outside recorded)
-      c.append.ensures.ok;
+      (rw c.steady.ensures at c.append.ensures.ok);
   erases = search rules;
   ends = search rules;
 }

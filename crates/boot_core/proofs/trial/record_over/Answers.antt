@@ -5,11 +5,11 @@ use Rattle.boot_core.proofs.trial.record_over.Goals as goal
 
 pub append_state-requires-clause-fits : goal.append_state-requires-clause-fits
 append_state-requires-clause-fits g c =
-    fits_steady c.args.map.now _ c.args.state.now c.args.floors c.requires.read c.requires.rest
+    rw c.steady.ensures (fits_steady c.args.map.now _ c.args.state.now c.args.floors c.requires.read c.requires.rest)
 
 pub returns : goal.returns
 returns g c =
-    let records = c.append_state.ensures in
+    let records = rw c.steady.ensures at c.append_state.ensures in
     record {
       outside = records.outside;
       stands = over_either c.args.map.now _ _ _ c.args.floors c.requires.read records.outside records.either;

@@ -1,6 +1,6 @@
 use Rattle.std.proofs.Common.{rules, ◌≡◌, ◌+◌, ◌-◌, ◌*◌, arith, ap, refl, sym, ◌∙◌, suc, Some}
 use Rattle.set_log.proofs.Last.{last_step, last_here, last_of_is}
-use Rattle.set_log.proofs.View.{at_gate, at_inside, log_tells}
+use Rattle.set_log.proofs.View.{at_gate, at_inside, gate_tells}
 use Rattle.set_log.proofs.active_sector.last_record.Goals as goal
 
 pub loop-place-init : goal.loop-place-init
@@ -19,11 +19,9 @@ is_unit_erased-requires g c =
 
 pub loop-place-preserved : goal.loop-place-preserved
 loop-place-preserved g c =
-    let map = c.args.map.now in
-    let gate = log_tells map _ _ _ 8 _ c.requires.laid_out
-    (rw c.loop-place.invariant.same at c.in_ok-is_unit_erased.ensures.ok)
-    (at_gate map _ c.args.sector (c.loop-place.place - 1) c.requires.laid_out.is_map c.requires.sector
-    (omega (arith, c.loop-place.invariant.below)) (omega (arith, c.record_start-start.ensures))) in
+    let gate = gate_tells c.args.map.now _ _ c.args.sector (c.loop-place.place - 1) _ c.requires.laid_out c.requires.sector
+    (omega (arith, c.loop-place.invariant.below)) (omega (arith, c.record_start-start.ensures))
+    (rw c.loop-place.invariant.same at c.in_ok-is_unit_erased.ensures.ok) in
     let reads = sym gate ∙ c.if-not-branch.false in
     let next : c.loop-place.place ≡ suc (c.loop-place.place - 1) = omega arith in
     record {
@@ -34,11 +32,9 @@ loop-place-preserved g c =
 
 pub returns-then-not-branch : goal.returns-then-not-branch
 returns-then-not-branch g c =
-    let map = c.args.map.now in
-    let gate = log_tells map _ _ _ 8 _ c.requires.laid_out
-    (rw c.loop-place.invariant.same at c.in_ok-is_unit_erased.ensures.ok)
-    (at_gate map _ c.args.sector (c.loop-place.place - 1) c.requires.laid_out.is_map c.requires.sector
-    (omega (arith, c.loop-place.invariant.below)) (omega (arith, c.record_start-start.ensures))) in
+    let gate = gate_tells c.args.map.now _ _ c.args.sector (c.loop-place.place - 1) _ c.requires.laid_out c.requires.sector
+    (omega (arith, c.loop-place.invariant.below)) (omega (arith, c.record_start-start.ensures))
+    (rw c.loop-place.invariant.same at c.in_ok-is_unit_erased.ensures.ok) in
     let reads = sym gate ∙ c.if-not-branch.true in
     let next : c.loop-place.place ≡ suc (c.loop-place.place - 1) = omega arith in
     let body = rw (c.is_unit_erased.ensures.same, c.loop-place.invariant.same) at c.in_ok-body.ensures.ok in
