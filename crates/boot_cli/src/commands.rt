@@ -1,12 +1,10 @@
 //! Runs the command that an order names.
 ghost use Rattle.std.specs.Prelude.{◌≡◌, IfOk};
-ghost use Rattle.inspecting.specs.PlanAnswers.{AnswersPlan};
 ghost use Rattle.boot_cli.specs.OrderEnd.{AnswersOrder, KeepsSwept};
 
-use crate::flushed::refuse_after;
 use crate::merging::run_merge;
 use crate::sweeping::{Named, run_sweep};
-use command_line::{NewFile, Order, PlanOrder};
+use command_line::{NewFile, Order};
 use creating::extract::{Copying, run_extract};
 use creating::make_device::run_make_device;
 use creating::make_image::run_make_image;
@@ -38,7 +36,7 @@ pub fn run_command<H: Host, O: Write, E: Write>(
 {
     match *order {
         Order::Read(order) => run_inspection(alloc, order, host, out),
-        Order::Plan(ref order) => answer_plan(alloc, order, host, out),
+        Order::Plan(ref order) => run_plan(alloc, order, host, out),
         Order::MakeDevice { ref device } => run_make_device(alloc, device, out, err),
         Order::MakeImage {
             image,
@@ -83,20 +81,4 @@ fn copying(image: u8, side: Side, out: NewFile<'_>) -> Copying<'_>
     ensures out { result.out ≡ out.entry }
 {
     Copying { image, side, out }
-}
-
-/// Runs `plan`. If it refuses, the devices before that are flushed.
-fn answer_plan<H: Host, O: Write>(
-    alloc: Global,
-    order: &PlanOrder<'_>,
-    host: &mut H,
-    out: &mut O,
-) -> Result<Answer, Refusal>
-    ensures { IfOk result (λ answer. AnswersPlan answer order.now
-        (H.input host.old) (H.file host.old) (O.contents out.old) (O.contents out.new)) }
-{
-    match run_plan(alloc, order, host, out) {
-        Ok(answer) => Ok(answer),
-        Err(refusal) => Err(refuse_after(refusal, out)),
-    }
 }

@@ -2,7 +2,6 @@
 ghost use Rattle.std.specs.Prelude.{IfOk};
 ghost use Rattle.inspecting.specs.PlanAnswers.{AnswersPlan};
 
-use crate::flushed::refuse_after;
 use crate::json::lists_devices;
 use command_line::PlanOrder;
 use core::mem::replace_with;
@@ -47,10 +46,7 @@ pub fn run_noted_plan<H: Host, O: Write, E: Write>(
         host,
         err,
     };
-    match replace_with(out, asked, plan_through) {
-        Ok(answer) => Ok(answer),
-        Err(refusal) => Err(refuse_after(refusal, out)),
-    }
+    replace_with(out, asked, plan_through)
 }
 
 /// Plans a fleet through a writer that explains what it passes on to `out`. Returns `out` and the

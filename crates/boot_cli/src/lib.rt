@@ -16,7 +16,6 @@
 mod commands;
 mod explained;
 mod explained_plan;
-mod flushed;
 mod hint;
 mod json;
 mod merging;

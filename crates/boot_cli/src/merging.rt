@@ -5,8 +5,8 @@ ghost use Rattle.host.specs.Input.{KeepsFiles};
 ghost use Rattle.host.specs.Status.{status_of_answer};
 ghost use Rattle.boot_cli.specs.SweepEnd.{KeepsOutputs};
 
-use crate::sweeping::{check_picture, refuse_input, tell_found};
-use host::{Answer, Host, MOST_FILE, Refusal, Source, SourceFault};
+use crate::sweeping::{check_picture, tell_found};
+use host::{Answer, Host, MOST_FILE, Refusal, Source, SourceFault, refuse_input};
 use std::alloc::Global;
 use std::io::Write;
 use sweep::{Found, add_output};
@@ -83,7 +83,8 @@ fn refuse_outputs<H: Host>(
         return Ok(());
     };
     for output in outputs {
-        refuse_input(alloc, host, picture, Source::named(output))?;
+        let output = Source::named(output);
+        refuse_input(alloc, host, picture, output, Refusal::PictureIsInput)?;
     }
     check_picture(alloc, host, picture)
 }

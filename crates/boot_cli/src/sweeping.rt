@@ -1,11 +1,12 @@
 //! `bootswap sweep`: runs a script once for each write of the flash, with a power cut at that
 //! write.
 ghost use Rattle.std.specs.Prelude.{◌≡◌, ◌≤◌, IfErr, IfOk, IfSome, List, ℕ, OnOk};
-ghost use Rattle.device_texts.specs.DeviceFile.{IsOfFile};
-ghost use Rattle.device_texts.specs.FlashOf.{IsFlashOf};
-ghost use Rattle.host.specs.Doings.{IsApartFrom, KeepsApart};
+ghost use Rattle.flash_model.specs.Blanks.{IsBlankOf};
+ghost use Rattle.host.specs.Doings.{KeepsApart};
 ghost use Rattle.host.specs.Input.{IsKnownAs, IsNamed, KeepsFiles};
 ghost use Rattle.host.specs.Status.{status_of_answer};
+ghost use Rattle.device_texts.specs.DeviceFile.{IsOfFile};
+ghost use Rattle.device_texts.specs.FlashOf.{IsFlashOf};
 ghost use Rattle.device_texts.specs.Said.{said};
 ghost use Rattle.boot_cli.specs.SweepEnd.{AnswersSweep, IsNamedBy, IsNoInput, IsOther, KeepsBesides, KeepsInputs, KeepsRead, SaysFile};
 
@@ -14,7 +15,7 @@ use command_line::{SweepChoices, SweepPart};
 use common::event::Event;
 use device_commands::provision::{read_images, write_refused};
 use device_texts::{DeviceFile, Line, flash_of, write_all};
-use host::{Answer, FlashFault, Host, Refusal, Replaced, Source, SourceFault};
+use host::{Answer, FlashFault, Host, Refusal, Replaced, Source, SourceFault, refuse_input};
 use inputs::{Lines, load, read_device, read_script};
 use machine::Fault;
 use sector_map::SectorMap;
@@ -128,11 +129,12 @@ fn refuse_inputs<H: Host>(
     let Some(picture) = named.choices.picture else {
         return Ok(());
     };
-    refuse_input(alloc, host, picture, named.device)?;
-    refuse_input(alloc, host, picture, named.script)?;
+    refuse_input(alloc, host, picture, named.device, Refusal::PictureIsInput)?;
+    refuse_input(alloc, host, picture, named.script, Refusal::PictureIsInput)?;
     refuse_named(alloc, host, picture, text)?;
     for image in named.images {
-        refuse_input(alloc, host, picture, Source::named(image))?;
+        let image = Source::named(image);
+        refuse_input(alloc, host, picture, image, Refusal::PictureIsInput)?;
     }
     check_picture(alloc, host, picture)
 }
@@ -162,25 +164,10 @@ fn refuse_line<H: Host>(
 {
     match line {
         Line::Event(Event::Accept(file) | Event::Piece(_, file)) => {
-            refuse_input(alloc, host, picture, Source::named(file.name))
+            let file = Source::named(file.name);
+            refuse_input(alloc, host, picture, file, Refusal::PictureIsInput)
         }
         _ => Ok(()),
-    }
-}
-
-/// Refuses a picture whose file is this input, by any name.
-pub(crate) fn refuse_input<H: Host>(
-    alloc: Global,
-    host: &H,
-    picture: &str,
-    source: Source<'_>,
-) -> Result<(), Refusal>
-    ensures { OnOk result (IsApartFrom (H.apart host.now) picture.now source.entry) }
-{
-    match source.is_file(host, picture) {
-        Ok(false) => Ok(()),
-        Ok(true) => Err(Refusal::PictureIsInput),
-        Err(_) => Err(Source::File(picture).refused(alloc, SourceFault::CannotReplace)),
     }
 }
 
@@ -228,9 +215,7 @@ fn provision_in_memory<L: Ledger>(
     map: &SectorMap,
     bytes: Vec<u8>,
 ) -> Result<Result<Vec<u8>, Fault>, AllocError>
-    requires name { blank.name ≡ L.name }
-    requires parts { blank.parts ≡ L.parts }
-    requires two { L.parts ≡ 2 }
+    requires blank { IsBlankOf blank L.name L.parts 2 }
     requires whole { IsFlashOf map.now bytes.items }
     ensures { IfOk result (λ made. IfOk made (λ bytes. IsFlashOf map.now bytes.items)) }
 {

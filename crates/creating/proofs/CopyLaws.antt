@@ -27,7 +27,7 @@ use Rattle.host.proofs.InputLaws.{GiveBoth-read, KeepsSource-apart, KeepsSource-
 use Rattle.creating.specs.CopyEnd.{AnswersCopied, AnswersCopy, CopiesImage, EndsCopy, IsImageOf}
 use Rattle.command_line.specs.declared.orders.NewFile.{NewFile}
 use Rattle.creating.specs.NewFileEnd.{MayReplace, Replaces}
-use Rattle.creating.specs.NewImageEnd.{EndsUnmade}
+use Rattle.host.specs.Status.{EndsUnmade}
 use Rattle.creating.proofs.NewFileLaws.{Replaces-before}
 use Rattle.creating.specs.declared.extract.Copied.{Copied}
 use Rattle.creating.specs.declared.extract.Copied.TheVariants as copied

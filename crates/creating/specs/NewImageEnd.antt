@@ -1,5 +1,5 @@
 -- The result of `make-image`.
-use Rattle.std.specs.Prelude.{◌≡◌, ℕ, List, [], ◌∷◌, ◌++◌, Option, Result, Ok, Err, codes, map, unwrap_or}
+use Rattle.std.specs.Prelude.{◌≡◌, ℕ, List, [], ◌∷◌, ◌++◌, Option, codes, map, unwrap_or}
 use Rattle.std.specs.Borrow.{Bor}
 use Rattle.std.specs.Io.KnownBytes.{Appends}
 use Rattle.std.specs.List.{AllZip}
@@ -13,8 +13,6 @@ use Rattle.device_texts.specs.AnswerText.{refused_text}
 use Rattle.command_line.specs.declared.orders.NewImage.{NewImage}
 use Rattle.host.specs.declared.answer.Answer.{Answer}
 use Rattle.host.specs.declared.answer.Answer.TheVariants.{Done, Refused, Cut}
-use Rattle.host.specs.declared.error.Refusal.{Refusal}
-use Rattle.host.specs.declared.error.Refusal.TheVariants as no
 use Rattle.host.specs.declared.source.Source.{Source}
 use Rattle.host.specs.Input.{FileBytes, Gives, IsKnownAs}
 
@@ -74,12 +72,3 @@ abbrev pub AnswersNewImage : Answer → Source → NewImage → Option (List ℕ
 AnswersNewImage answer source asked input files held old new =
     (body : List ℕ) × Gives source input files body
     × AnswersMade answer asked body held old new
-
--- `make-image` ended before it replaced the file of the image. So the result is neither `Done` nor
--- that the answer could not be written.
-abbrev pub EndsUnmade : Result Answer Refusal → Type 0
-EndsUnmade (Ok Done) = ⊥
-EndsUnmade (Ok Refused) = Unit {0}
-EndsUnmade (Ok Cut) = Unit {0}
-EndsUnmade (Err no.CannotWrite) = ⊥
-EndsUnmade (Err refusal) = Unit {0}

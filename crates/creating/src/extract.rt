@@ -1,23 +1,24 @@
 //! `bootswap extract`: copies an image out of a slot of a flash into a file.
-ghost use Rattle.std.specs.Prelude.{◌≡◌, ◌≢◌, ◌<◌, ◌≤◌, IfErr, IfOk, length, slice_range, true};
-ghost use Rattle.std.specs.Prelude.{string_bytes};
+ghost use Rattle.std.specs.Prelude.{◌≡◌, ◌≢◌, ◌<◌, ◌≤◌, IfErr, IfOk, length};
+ghost use Rattle.std.specs.Prelude.{slice_range, string_bytes, true};
+ghost use Rattle.flash_model.specs.Blanks.{IsBlankOf};
 ghost use Rattle.sector_map.specs.Map.{IsLaidOut};
-ghost use Rattle.device_texts.specs.AnswerText.{refused_text};
-ghost use Rattle.device_texts.specs.FlashOf.{IsFlashOf, flash_of};
-ghost use Rattle.host.specs.Input.{KeepsFiles};
-ghost use Rattle.creating.specs.CopyEnd.{AnswersCopied, AnswersCopy, EndsCopy, IsImageOf, slot_to_copy};
-ghost use Rattle.host.specs.Doings.{KeepsApart, KeepsSource};
-ghost use Rattle.creating.specs.NewFileEnd.{MayReplace, Replaces};
-ghost use Rattle.creating.specs.NewImageEnd.{EndsUnmade};
 ghost use Rattle.image_reading.specs.Codes.{code_of, name_of};
 ghost use Rattle.image_reading.specs.Fault.{IsFrontFault};
+ghost use Rattle.host.specs.Input.{KeepsFiles};
+ghost use Rattle.host.specs.Doings.{KeepsApart, KeepsSource};
+ghost use Rattle.host.specs.Status.{EndsUnmade};
+ghost use Rattle.device_texts.specs.AnswerText.{refused_text};
+ghost use Rattle.device_texts.specs.FlashOf.{IsFlashOf, flash_of};
+ghost use Rattle.creating.specs.CopyEnd.{AnswersCopied, AnswersCopy, EndsCopy, IsImageOf, slot_to_copy};
+ghost use Rattle.creating.specs.NewFileEnd.{MayReplace, Replaces};
 
-use crate::image_file::{refuse_input, replace};
+use crate::image_file::replace;
 use crate::telling::tell;
 use command_line::NewFile;
 use device_texts::{flash_of, refused_text};
 use flash_model::Flash;
-use host::{Access, Answer, Host, Refusal, Source};
+use host::{Access, Answer, Host, Refusal, Source, refuse_input};
 use image_reading::{ImageError, SlotError, describe_slot};
 use inputs::{read_device, read_flash};
 use sector_map::{SectorMap, Side};
@@ -88,8 +89,8 @@ pub fn run_extract<H: Host, O: Write>(
         return Err(Refusal::NoImage(copying.image));
     }
     let bytes = read_flash(alloc, flash, map, Access::Read, host)?;
-    refuse_input(alloc, host, copying.out.name, device)?;
-    refuse_input(alloc, host, copying.out.name, flash)?;
+    refuse_input(alloc, host, copying.out.name, device, Refusal::ImageIsInput)?;
+    refuse_input(alloc, host, copying.out.name, flash, Refusal::ImageIsInput)?;
     let copied = copy::<Brand, _>(alloc, Blank::new(2), map, bytes, copying, host)?;
     tell_copied(alloc, copied, out)
 }
@@ -103,9 +104,7 @@ fn copy<L: Ledger, H: Host>(
     copying: Copying<'_>,
     host: &mut H,
 ) -> Result<Copied, Refusal>
-    requires name { blank.name ≡ L.name }
-    requires parts { blank.parts ≡ L.parts }
-    requires two { L.parts ≡ 2 }
+    requires blank { IsBlankOf blank L.name L.parts 2 }
     requires whole { IsFlashOf map.now bytes.items }
     requires there { copying.image < map.now.images }
     ensures copied { IfOk result (λ copied.

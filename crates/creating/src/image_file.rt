@@ -2,7 +2,7 @@
 //! replaced as a whole, and only if it begins with an image's header, is empty, or `--force` is
 //! given.
 ghost use Rattle.std.specs.Prelude.{◌≡◌, IfErr, IfOk, OnOk, true};
-ghost use Rattle.host.specs.Doings.{IsApartFrom, KeepsApart};
+ghost use Rattle.host.specs.Doings.{KeepsApart};
 ghost use Rattle.host.specs.Input.{IsKnownAs, KeepsFiles};
 ghost use Rattle.creating.specs.NewFileEnd.{HoldsImage, MayReplace};
 
@@ -12,22 +12,6 @@ use image_header::{HEADER_LENGTH, Header};
 use std::alloc::Global;
 use std::io;
 use std::io::ErrorKind;
-
-/// Refuses an image file that is this input, by any name.
-pub fn refuse_input<H: Host>(
-    alloc: Global,
-    host: &H,
-    image: &str,
-    source: Source<'_>,
-) -> Result<(), Refusal>
-    ensures { OnOk result (IsApartFrom (H.apart host.now) image.now source.entry) }
-{
-    match source.is_file(host, image) {
-        Ok(false) => Ok(()),
-        Ok(true) => Err(Refusal::ImageIsInput),
-        Err(_) => Err(Source::File(image).refused(alloc, SourceFault::CannotReplace)),
-    }
-}
 
 /// Makes the file of an image, or replaces an old file.
 pub fn replace<H: Host>(

@@ -4,14 +4,15 @@ ghost use Rattle.std.specs.List.{AllZip};
 ghost use Rattle.std.specs.Io.KnownBytes.{Appends};
 ghost use Rattle.host.specs.Doings.{KeepsApart, KeepsSource};
 ghost use Rattle.host.specs.Input.{KeepsFiles};
+ghost use Rattle.host.specs.Status.{EndsUnmade};
 ghost use Rattle.creating.specs.NewFileEnd.{Replaces};
-ghost use Rattle.creating.specs.NewImageEnd.{AnswersMade, AnswersNewImage, AreAlternatives, EndsUnmade, IsImageFor, RefusesImage, fault_text};
+ghost use Rattle.creating.specs.NewImageEnd.{AnswersMade, AnswersNewImage, AreAlternatives, IsImageFor, RefusesImage, fault_text};
 
-use crate::image_file::{refuse_input, replace};
+use crate::image_file::replace;
 use crate::telling::tell;
 use command_line::{NewFile, NewImage};
 use device_texts::refused_text;
-use host::{Answer, Host, MOST_FILE, Refusal, Source};
+use host::{Answer, Host, MOST_FILE, Refusal, Source, refuse_input};
 use std::alloc::{AllocError, Global};
 use std::io::Write;
 use tlv::{ImageSpec, MakeError, make_image};
@@ -50,7 +51,7 @@ pub fn run_make_image<H: Host, O: Write>(
 {
     let source = body;
     let body = source.read(alloc, host, MOST_FILE)?;
-    refuse_input(alloc, host, image.name, source)?;
+    refuse_input(alloc, host, image.name, source, Refusal::ImageIsInput)?;
     make(alloc, image, asked, &body, host, out)
 }
 

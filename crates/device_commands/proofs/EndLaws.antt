@@ -16,10 +16,10 @@ use Rattle.host.specs.declared.source.Source.TheVariants as source
 use Rattle.device_texts.specs.FlashOf.{IsFlashOf}
 use Rattle.inputs.specs.DeviceInput.{GivesDevice}
 use Rattle.host.specs.Input.{FileBytes, Gives, KeepsFiles, KeepsOthers}
-use Rattle.device_commands.specs.ProvisionEnd.{AnswersMade, AnswersProvision, EndsBefore, EndsMade, MakesDevice, ReadsImages}
+use Rattle.device_commands.specs.ProvisionEnd.{AnswersMade, AnswersProvision, EndsMade, MakesDevice, ReadsImages}
 use Rattle.device_commands.specs.RunEnd.{AnswersRun, Plays, RunsDevice}
 use Rattle.inputs.specs.Script.{IsScript, Known, StaysKnown, known_after}
-use Rattle.host.specs.Status.{status_of_answer}
+use Rattle.host.specs.Status.{EndsUnmade, status_of_answer}
 use Rattle.host.proofs.InputLaws.{GiveEach-one, GiveEach-read}
 use Rattle.inputs.proofs.ScriptLaws.{StaysKnown-itself, StaysKnown-read}
 
@@ -76,14 +76,14 @@ pub KeepsFiles-told : (result : Result Answer Refusal) (outcome : Provisioned) (
     (old new : Option (List ℕ)) → IfOk result (λ answer. AnswersMade answer outcome old new)
     → (outcome ≡ made.Done → IfErr result (λ refusal. refusal ≡ no.CannotWrite))
     → ((outcome ≡ made.Done → ⊥) → KeepsFiles files new_files)
-    → EndsBefore result → KeepsFiles files new_files
+    → EndsUnmade result → KeepsFiles files new_files
 KeepsFiles-told (Ok Done) outcome files new_files old new answered late kept ends = absurd ends
 KeepsFiles-told (Ok Refused) made.Done files new_files old new answered late kept ends =
     let same : 1 ≡ 0 = ap status_of_answer answered.0 in absurd (omega (arith, same))
 KeepsFiles-told (Ok Cut) made.Done files new_files old new answered late kept ends =
     let same : 3 ≡ 0 = ap status_of_answer answered.0 in absurd (omega (arith, same))
 KeepsFiles-told (Err refusal) made.Done files new_files old new answered late kept ends =
-    absurd (subst (λ one. EndsBefore (Err one)) (late refl) ends)
+    absurd (subst (λ one. EndsUnmade (Err one)) (late refl) ends)
 KeepsFiles-told (Ok Refused) (made.Refused fault) files new_files old new answered late kept ends =
     kept (not_done fault)
 KeepsFiles-told (Ok Cut) (made.Refused fault) files new_files old new answered late kept ends =

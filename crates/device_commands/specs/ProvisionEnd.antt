@@ -1,5 +1,5 @@
 -- The result of `provision`.
-use Rattle.std.specs.Prelude.{◌≡◌, ◌≢◌, ◌⊎◌, Bool, IsTrue, ℕ, ◌+◌, ◌*◌, ◌≤◌, List, [], ◌∷◌, ◌++◌, length, replicate, slice_get, Option, Some, codes, Result, Ok, Err}
+use Rattle.std.specs.Prelude.{◌≡◌, ◌≢◌, ◌⊎◌, Bool, IsTrue, ℕ, ◌+◌, ◌*◌, ◌≤◌, List, [], ◌∷◌, ◌++◌, length, replicate, slice_get, Option, Some, codes}
 use Rattle.std.specs.Borrow.{Bor}
 use Rattle.std.specs.Io.KnownBytes.{Appends, Keeps}
 use Rattle.std.specs.List.{AllZip}
@@ -12,8 +12,6 @@ use Rattle.sector_map.specs.Part.{Slot}
 use Rattle.boot_core.specs.Provisioned.{IsProvisioned, RefusesMaking}
 use Rattle.host.specs.declared.answer.Answer.{Answer}
 use Rattle.host.specs.declared.answer.Answer.TheVariants.{Done, Refused, Cut}
-use Rattle.host.specs.declared.error.Refusal.{Refusal}
-use Rattle.host.specs.declared.error.Refusal.TheVariants as no
 use Rattle.device_commands.specs.declared.provision.Provisioned.{Provisioned}
 use Rattle.device_commands.specs.declared.provision.Provisioned.TheVariants as made
 use Rattle.device_texts.specs.declared.device.DeviceFile.{DeviceFile}
@@ -69,15 +67,6 @@ abbrev pub AnswersMade : Answer → Provisioned → Option (List ℕ) → Option
 AnswersMade answer made.Done old new = (answer ≡ Done) × Appends old new done_text
 AnswersMade answer (made.Refused fault) old new =
     (answer ≡ Refused) × Appends old new (refused_fault_text fault)
-
--- `provision` ended before it replaced the file of the flash. So the result is neither `Done` nor
--- that the answer could not be written.
-abbrev pub EndsBefore : Result Answer Refusal → Type 0
-EndsBefore (Ok Done) = ⊥
-EndsBefore (Ok Refused) = Unit {0}
-EndsBefore (Ok Cut) = Unit {0}
-EndsBefore (Err no.CannotWrite) = ⊥
-EndsBefore (Err refusal) = Unit {0}
 
 -- The files of images were read, and they fit their slots. These are the bytes of their flash.
 abbrev pub ReadsImages : SectorMap → List (List ℕ) → Option (List ℕ) → FileBytes → List ℕ → Type 0

@@ -1,13 +1,15 @@
 //! `bootswap provision`: makes the flash of a device, and writes its file.
 ghost use Rattle.std.specs.Prelude.{◌≡◌, ◌≢◌, ◌+◌, ◌<◌, ◌≤◌, [], IfErr, IfOk, IfSome, OnOk, length, slice_get, string_bytes};
 ghost use Rattle.std.specs.Io.KnownBytes.{Appends};
+ghost use Rattle.flash_model.specs.Blanks.{IsBlankOf};
 ghost use Rattle.flash_model.specs.Torn.{replaced};
 ghost use Rattle.device_texts.specs.FlashOf.{IsFlashOf};
 ghost use Rattle.device_texts.specs.ReplyText.{refused_fault_text};
 ghost use Rattle.host.specs.Input.{IsKnownAs, IsNamed, KeepsFiles};
 ghost use Rattle.host.specs.Inputs.{names_of};
 ghost use Rattle.host.specs.Doings.{IsApartFrom, KeepsApart, KeepsSource};
-ghost use Rattle.device_commands.specs.ProvisionEnd.{AnswersMade, AnswersProvision, AreOthers, EndsBefore, EndsMade, KeepsWords, ReadsImages, done_text, new_flash};
+ghost use Rattle.host.specs.Status.{EndsUnmade};
+ghost use Rattle.device_commands.specs.ProvisionEnd.{AnswersMade, AnswersProvision, AreOthers, EndsMade, KeepsWords, ReadsImages, done_text, new_flash};
 
 use device_texts::{flash_of, refused_fault_text, write_all};
 use host::{Answer, FlashFault, Host, Refusal, Replaced, Source};
@@ -60,7 +62,7 @@ pub fn run_provision<H: Host, O: Write>(
         AnswersProvision answer device.entry (names_of images.now)
         (H.input host.old) (H.file host.old) (H.file host.new flash.now)
         (O.contents out.old) (O.contents out.new)) }
-    ensures kept { EndsBefore result → KeepsFiles (H.file host.old) (H.file host.new) }
+    ensures kept { EndsUnmade result → KeepsFiles (H.file host.old) (H.file host.new) }
     ensures device { KeepsSource device.entry (H.file host.old) (H.file host.new) }
     ensures images { KeepsWords images.now (H.file host.old) (H.file host.new) }
     ensures opened { H.opened host.new ≡ H.opened host.old }
@@ -174,9 +176,7 @@ fn make_flash<L: Ledger, H: Host>(
     file: FlashName<'_>,
     host: &mut H,
 ) -> Result<Provisioned, Refusal>
-    requires name { blank.name ≡ L.name }
-    requires parts { blank.parts ≡ L.parts }
-    requires two { L.parts ≡ 2 }
+    requires blank { IsBlankOf blank L.name L.parts 2 }
     requires whole { IsFlashOf map.now bytes.items }
     ensures made { IfOk result (λ made.
         EndsMade made map.now bytes.items (H.file host.new file.entry.name.now)) }

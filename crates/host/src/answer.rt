@@ -60,6 +60,19 @@ pub fn finish<O: Write, E: Write>(outcome: &Result<Answer, Refusal>, out: &mut O
     }
 }
 
+/// Flushes what a command wrote before it refused, so that it comes before the error line. Returns
+/// the refusal to report: `CannotWrite` if the flush fails, and else `refusal`. After a failed write
+/// nothing is flushed.
+pub fn refuse_after<O: Write>(refusal: Refusal, out: &mut O) -> Refusal {
+    if let Refusal::CannotWrite = refusal {
+        return refusal;
+    }
+    match out.flush() {
+        Ok(()) => refusal,
+        Err(_) => Refusal::CannotWrite,
+    }
+}
+
 /// Writes the error line of a refusal and returns its exit status, or 1 if a write failed.
 pub fn refuse<E: Write>(refusal: &Refusal, err: &mut E) -> u8
     ensures { (result ≡ status_of_refusal refusal.now) ⊎ (result ≡ 1) }

@@ -19,9 +19,9 @@ mod limits;
 mod source;
 mod stream;
 
-pub use answer::{Answer, finish, refuse, status_after};
+pub use answer::{Answer, finish, refuse, refuse_after, status_after};
 pub use error::{Refusal, SourceFault, SourceRefusal};
 pub use host::{Access, FilePart, FlashFault, Host, Replaced};
 pub use limits::{MOST_FILE, MOST_JSON, MOST_SCRIPT, MOST_TABLE};
-pub use source::Source;
+pub use source::{Source, refuse_input};
 pub use stream::{Stream, open_stream};

@@ -1,5 +1,5 @@
 //! Where a command reads its input, as its arguments name it.
-ghost use Rattle.std.specs.Prelude.{◌≡◌, ◌≤◌, IfOk, false, length};
+ghost use Rattle.std.specs.Prelude.{◌≡◌, ◌≤◌, IfOk, OnOk, false, length};
 ghost use Rattle.host.specs.Doings.{IsApartFrom};
 ghost use Rattle.host.specs.Input.{Gives, IsNamed, KeepsFiles, KeepsOthers};
 ghost use Rattle.host.specs.Status.{status_of_refusal};
@@ -122,6 +122,26 @@ impl<'a> Source<'a> {
             ErrorKind::FileTooLarge => self.refused(alloc, SourceFault::TooLong(MOST_FILE)),
             _ => self.refused(alloc, SourceFault::CannotRead),
         }
+    }
+}
+
+/// Refuses a file that is to be made if it is this input, by any name. Texts are in memory of `alloc`.
+///
+/// # Errors
+/// `is_input` if it is this input. If that can't be told, `CannotReplace` of the file.
+pub fn refuse_input<H: Host>(
+    alloc: Global,
+    host: &H,
+    file: &str,
+    source: Source<'_>,
+    is_input: Refusal,
+) -> Result<(), Refusal>
+    ensures { OnOk result (IsApartFrom (H.apart host.now) file.now source.entry) }
+{
+    match source.is_file(host, file) {
+        Ok(false) => Ok(()),
+        Ok(true) => Err(is_input),
+        Err(_) => Err(Source::File(file).refused(alloc, SourceFault::CannotReplace)),
     }
 }
 

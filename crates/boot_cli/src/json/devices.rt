@@ -3,12 +3,11 @@ ghost use Rattle.std.specs.Prelude.{◌≡◌, IfOk, None, Ok};
 ghost use Rattle.inspecting.specs.PlanAnswers.{AnswersPlan};
 ghost use Rattle.boot_cli.specs.JsonEnd.{lists_devices};
 
-use crate::flushed::refuse_after;
 use crate::json::answer::{Layout, write_object};
 use crate::json::grammars::PLAN;
 use command_line::PlanOrder;
 use explaining::{PlanItems, first_piece, notes_on_item};
-use host::{Answer, Host, Refusal};
+use host::{Answer, Host, Refusal, refuse_after};
 use inspecting::run_plan;
 use std::alloc::Global;
 use std::io;

@@ -1,11 +1,10 @@
 //! Writes an object for each reply of a run.
 ghost use Rattle.std.specs.Prelude.{◌≡◌, IfOk, Ok};
 
-use crate::flushed::refuse_after;
 use crate::json::answer::{Layout, add_notes, write_object, write_value};
 use crate::json::grammars::REPLY;
 use crate::json::words::number_of;
-use host::{Answer, Refusal};
+use host::{Answer, Refusal, refuse_after};
 use serde_json::{Map, Value, put};
 use std::alloc::{AllocError, Global};
 use std::cell::Cell;

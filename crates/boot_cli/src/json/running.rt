@@ -57,21 +57,7 @@ fn answer_through<H: Host, O: Write>(
 {
     let mut replies = ReplyObjects::over(alloc, out, notes);
     let mut pending = PendingNotes::to(alloc, notes);
-    let outcome = run_with_notes(alloc, order, host, &mut replies, &mut pending);
+    let mut noted = ReplyNotes::new(alloc, &mut pending);
+    let outcome = run_device_order(alloc, order, host, &mut replies, &mut noted);
     replies.end(outcome)
-}
-
-/// Runs the command of an order to a device. Notes on the replies of a run go to `notes`.
-fn run_with_notes<H: Host, O: Write, E: Write>(
-    alloc: Global,
-    order: &DeviceOrder<'_>,
-    host: &mut Remembering<H>,
-    out: &mut O,
-    notes: &mut E,
-) -> Result<Answer, Refusal>
-    ensures { IfOk result (λ answer. AnswersCore answer order.now
-        (H.input host.old.host) (H.file host.old.host) (H.file host.new.host)
-        (O.contents out.old) (O.contents out.new)) }
-{
-    run_device_order(alloc, order, host, out, &mut ReplyNotes::new(alloc, notes))
 }

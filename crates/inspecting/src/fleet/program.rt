@@ -9,7 +9,9 @@ use crate::fleet::release::read_release;
 use crate::fleet::requests::Requests;
 use crate::fleet::telling::Telling;
 use command_line::{PlanOrder, RequestedFile};
-use host::{Answer, Host, MOST_FILE, Refusal, Source, SourceFault, Stream, open_stream};
+use host::{
+    Answer, Host, MOST_FILE, Refusal, Source, SourceFault, Stream, open_stream, refuse_after,
+};
 use std::alloc::Global;
 use std::io::Write;
 
@@ -18,6 +20,8 @@ use std::io::Write;
 /// number of devices.
 ///
 /// # Errors
+/// What was written before an error is flushed, unless a write failed.
+///
 /// - `RequestedTwice` and `NoImage` if the requests name no release.
 /// - `OfSource` if a source can't be read, or holds no image or no summary.
 /// - `FleetLine` if a fleet doesn't begin with a device.
@@ -71,7 +75,8 @@ fn plan_release<H: Host, O: Write>(
     plan_source(alloc, &requests, telling, fleet, host, out)
 }
 
-/// Decides for each device of the fleet that a source holds, and writes the results to `out`.
+/// Decides for each device of the fleet that a source holds, and writes the results to `out`. If it
+/// refuses, the devices before that are flushed.
 fn plan_source<H: Host, O: Write>(
     alloc: Global,
     requests: &Requests,
@@ -85,7 +90,10 @@ fn plan_source<H: Host, O: Write>(
 {
     open_stream(alloc, fleet, host)?;
     let mut input = Stream { host };
-    plan_over(alloc, requests, telling, fleet, &mut input, out)
+    match plan_over(alloc, requests, telling, fleet, &mut input, out) {
+        Ok(answer) => Ok(answer),
+        Err(refusal) => Err(refuse_after(refusal, out)),
+    }
 }
 
 /// Adds the summaries in these files, and writes their sum to `out`.

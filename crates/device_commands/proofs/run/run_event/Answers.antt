@@ -1,30 +1,33 @@
-use Rattle.std.proofs.Common.{rules}
+use Rattle.std.proofs.Common.{◌≡◌, ℕ, List, rules}
 use Rattle.common.proofs.Results.{IfErr-passed}
+use Rattle.common.specs.declared.event.Event.{Event}
+use Rattle.machine.specs.Holding.{DeviceView}
+use Rattle.machine.specs.Intake.{Setup}
+use Rattle.machine.specs.Passing.{StepsTo}
+use Rattle.machine.specs.Steps.{DeviceEvent}
+use Rattle.machine.specs.declared.reply.Reply.{Reply}
+use Rattle.boot_core.specs.CutEvents.{IsCutAsDue}
+use Rattle.device_commands.specs.RunEnd.{came_by}
+use Rattle.device_commands.specs.Telling.{RepliesTo}
 use Rattle.device_commands.proofs.run.run_event.Goals as goal
+
+abbrev replied : (setup : Setup) (old new : DeviceView) (came : Event (List ℕ)) (event : DeviceEvent) (reply : Reply)
+    → came_by event ≡ came → StepsTo setup old new event reply → IsCutAsDue old.flash reply new.flash
+    → RepliesTo setup old new came
+replied setup old new came event reply comes steps due =
+    record { event = event; reply = reply; comes = comes; steps = steps; due = due }
 
 -- The reply was written in part or not at all.
 pub returns-in_err-write_reply-clause-begun : goal.returns-in_err-write_reply-clause-begun
 returns-in_err-write_reply-clause-begun g c = IfErr-passed _ _ _ c.from_residual.ensures.1 (record {
-  step = record {
-    event = c.as_deref-borrowed.result;
-    reply = c.step-reply.result;
-    comes = search rules;
-    steps = search rules;
-    due = search rules;
-  };
+  step = replied _ _ _ _ c.as_deref-borrowed.result c.step-reply.result (search rules) (search rules) (search rules);
   broken = c.in_err-write_reply.ensures.begun;
 })
 
 -- The reply was written.
 pub returns-clause-told : goal.returns-clause-told
 returns-clause-told g c = record {
-  step = record {
-    event = c.as_deref-borrowed.result;
-    reply = c.step-reply.result;
-    comes = search rules;
-    steps = search rules;
-    due = search rules;
-  };
+  step = replied _ _ _ _ c.as_deref-borrowed.result c.step-reply.result (search rules) (search rules) (search rules);
   written = search rules;
   answered = search rules;
 }
