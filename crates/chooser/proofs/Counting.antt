@@ -26,14 +26,14 @@ use Rattle.common.proofs.Lists.{count_by-none}
 use Rattle.certificate.proofs.Counts.{IsOnce, IsOnce-push, length-once}
 use Rattle.certificate.proofs.Requests.{has_request-intact}
 use Rattle.chooser.specs.declared.steps.Steps.{Steps}
-use Rattle.chooser.specs.Counted.{drops_in, is_drop, reason_number}
+use Rattle.chooser.specs.Counted.{drops_in, is_dependent, is_drop}
 use Rattle.chooser.proofs.Order.{HasNeed-from_reason}
 
 -- ---- drops
 
 -- There is no reason, or it is no drop.
 abbrev IsNoDrop : Option Reason → Type 0
-IsNoDrop found = IfSome found (λ reason. nat_lt 4 (reason_number reason) ≡ false)
+IsNoDrop found = IfSome found (λ reason. is_dependent reason ≡ false)
 
 -- A missing image is no drop.
 missing-no_drop : (found : Option Dependency)
@@ -57,7 +57,7 @@ no_drop-cons : (n : ℕ) (found : Option Reason) (refusals : List Refusal) → I
     ≡ false
 no_drop-cons n None refusals first rest = rest
 no_drop-cons n (Some reason) refusals first rest =
-    or_from (nat_lt 4 (reason_number reason)) (list_any is_drop refusals) first rest
+    or_from (is_dependent reason) (list_any is_drop refusals) first rest
 
 -- No refusal of a request by itself is a drop.
 no_drop-own : (table : Table) (n : ℕ) (images : List Image)
@@ -77,8 +77,8 @@ pub drops_in-push : (table : Table) (refusals : List Refusal) (refusal : Refusal
 drops_in-push table refusals refusal need =
     let has = HasNeed-from_reason table refusals refusal.image refusal.reason need.reason in
     let drop : is_drop refusal ≡ true = elim has.unmet [
-      | inl unmet ↦ ap (λ reason. nat_lt 4 (reason_number reason)) (sym unmet.names)
-      | inr unmet ↦ ap (λ reason. nat_lt 4 (reason_number reason)) (sym unmet.names)
+      | inl unmet ↦ ap is_dependent (sym unmet.names)
+      | inr unmet ↦ ap is_dependent (sym unmet.names)
     ] in
     sum_by_push (λ (any_refusal : Refusal). once_if (is_drop any_refusal)) refusals refusal
     ∙ ap (λ passes. drops_in refusals + once_if passes) drop
