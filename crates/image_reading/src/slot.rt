@@ -1,11 +1,11 @@
 //! Describes the image or the file in a slot.
 
 ghost use Rattle.std.specs.Prelude.{◌≡◌, ◌<◌, ◌≤◌, Err, IfErr, IfOk, Ok, OnOk, false, true};
+ghost use Rattle.sha2.specs.Sha256.{sha256};
 ghost use Rattle.flash_model.specs.Chip.{Chip, Ends};
 ghost use Rattle.flash_model.specs.declared.error.FlashError.{FlashError};
 ghost use Rattle.sector_map.specs.Map.{HasImage, IsLaidOut, length_of};
 ghost use Rattle.sector_map.specs.Part.{Slot};
-ghost use Rattle.sha2.specs.Sha256.{sha256};
 ghost use Rattle.image_reading.specs.Fault.{IsFirstFault, IsFrontFault};
 ghost use Rattle.image_reading.specs.Image.{BeginsIntact, IsIntact};
 ghost use Rattle.image_reading.specs.Slot.{IsFoundIntact, IsSlotFault, file_bytes, slot_bytes};

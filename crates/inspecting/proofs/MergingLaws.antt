@@ -98,33 +98,28 @@ devices_of-cons : (plan : List Planned) (plans : List (List Planned)) → device
 devices_of-cons plan plans =
     ap (flat_map rows_of) (flat_map-cons (λ (p : List Planned). p) plan plans) ∙ flat_map-append rows_of plan (flat_map (λ p. p) plans)
 
-parts_count : (key : List ℕ) (plans : List (List Planned)) (parts : List (List Row)) → AllZip IsSummary plans parts
-    → count_in (flat_map (λ part. part) parts) key ≡ count_in (devices_of plans) key
-parts_count key [] [] each = refl
-parts_count key [] (part ∷ parts) each = absurd each
-parts_count key (plan ∷ plans) [] each = absurd each
-parts_count key (plan ∷ plans) (part ∷ parts) each =
-    ap (λ rows. count_in rows key) (flat_map-cons (λ (p : List Row). p) part parts) ∙ count_in-append part (flat_map (λ p. p) parts) key
-    ∙ ap (λ n. n + count_in (flat_map (λ p. p) parts) key) (each.0.counts key)
-    ∙ ap (λ n. count_in (flat_map rows_of plan) key + n) (parts_count key plans parts each.1)
-    ∙ sym (count_in-append (flat_map rows_of plan) (devices_of plans) key) ∙ ap (λ rows. count_in rows key) (sym (devices_of-cons plan plans))
-
-parts_first : (key : List ℕ) (plans : List (List Planned)) (parts : List (List Row)) → AllZip IsSummary plans parts
-    → first_in (flat_map (λ part. part) parts) key ≡ first_in (devices_of plans) key
-parts_first key [] [] each = refl
-parts_first key [] (part ∷ parts) each = absurd each
-parts_first key (plan ∷ plans) [] each = absurd each
-parts_first key (plan ∷ plans) (part ∷ parts) each =
-    ap (λ rows. first_in rows key) (flat_map-cons (λ (p : List Row). p) part parts) ∙ first_in-append part (flat_map (λ p. p) parts) key
-    ∙ ap (λ o. option_or o (first_in (flat_map (λ p. p) parts) key)) (each.0.firsts key)
-    ∙ ap (λ o. option_or (first_in (flat_map rows_of plan) key) o) (parts_first key plans parts each.1)
-    ∙ sym (first_in-append (flat_map rows_of plan) (devices_of plans) key) ∙ ap (λ rows. first_in rows key) (sym (devices_of-cons plan plans))
+-- What is measured of all rows is the same for the summaries of plans as for their devices, if it is the same for one, and what is
+-- measured of rows in a row is joined.
+parts_measure : {T : Type 0} (measure : List Row → T) (join : T → T → T) → ((one two : List Row) → measure (one ++ two) ≡ join (measure one) (measure two))
+    → ((plan : List Planned) (part : List Row) → IsSummary plan part → measure part ≡ measure (flat_map rows_of plan))
+    → (plans : List (List Planned)) (parts : List (List Row)) → AllZip IsSummary plans parts
+    → measure (flat_map (λ part. part) parts) ≡ measure (devices_of plans)
+parts_measure measure join joined same [] [] each = refl
+parts_measure measure join joined same [] (part ∷ parts) each = absurd each
+parts_measure measure join joined same (plan ∷ plans) [] each = absurd each
+parts_measure measure join joined same (plan ∷ plans) (part ∷ parts) each =
+    ap measure (flat_map-cons (λ (p : List Row). p) part parts) ∙ joined part (flat_map (λ p. p) parts)
+    ∙ ap (λ one. join one (measure (flat_map (λ p. p) parts))) (same plan part each.0)
+    ∙ ap (λ two. join (measure (flat_map rows_of plan)) two) (parts_measure measure join joined same plans parts each.1)
+    ∙ sym (joined (flat_map rows_of plan) (devices_of plans)) ∙ ap measure (sym (devices_of-cons plan plans))
 
 -- The sum of the summaries of plans is the summary of all their devices.
 pub sum_of_summaries : (plans : List (List Planned)) (parts : List (List Row)) (rows : List Row) → AllZip IsSummary plans parts → IsSum parts rows
     → IsSummary (flat_map (λ plan. plan) plans) rows
 sum_of_summaries plans parts rows each is = record {
   sorted = is.sorted;
-  counts = λ key. is.counts key ∙ parts_count key plans parts each;
-  firsts = λ key. is.firsts key ∙ parts_first key plans parts each;
+  counts = λ key. is.counts key ∙ parts_measure (λ rs. count_in rs key) (λ m n. m + n) (λ one two. count_in-append one two key)
+      (λ plan part summary. summary.counts key) plans parts each;
+  firsts = λ key. is.firsts key ∙ parts_measure (λ rs. first_in rs key) option_or (λ one two. first_in-append one two key)
+      (λ plan part summary. summary.firsts key) plans parts each;
 }

@@ -19,26 +19,15 @@ or_other : (x y : Bool) → x ≡ false → (x || y) ≡ true → y ≡ true
 or_other false y is_false is_true = is_true
 or_other true y is_false is_true = absurd (cc is_false)
 
-or_one : (x y : Bool) → y ≡ false → (x || y) ≡ true → x ≡ true
-or_one true y is_false is_true = refl
-or_one false y is_false is_true = absurd (cc (is_false, is_true))
-
-two_left : (one two : BootOutcome → Bool) → HasTwo one → HasTwo (in_either one two)
-two_left one two has = record {
-  one = has.one;
-  other = has.other;
-  one_had = or_left (one has.one) (two has.one) has.one_had;
-  other_had = or_left (one has.other) (two has.other) has.other_had;
-  differ = has.differ;
-}
-
-two_right : (one two : BootOutcome → Bool) → HasTwo two → HasTwo (in_either one two)
-two_right one two has = record {
-  one = has.one;
-  other = has.other;
-  one_had = or_right (one has.one) (two has.one) has.one_had;
-  other_had = or_right (one has.other) (two has.other) has.other_had;
-  differ = has.differ;
+-- Two outcomes are in a set that has all those of another one.
+more_have_two : (had more : BootOutcome → Bool) → ((outcome : BootOutcome) → had outcome ≡ true → more outcome ≡ true)
+    → HasTwo had → HasTwo more
+more_have_two had more have two = record {
+  one = two.one;
+  other = two.other;
+  one_had = have two.one two.one_had;
+  other_had = have two.other two.other_had;
+  differ = two.differ;
 }
 
 none_left_of : (one two : BootOutcome → Bool) (mark : Mark) → IsMarkOf one NotTried → IsMarkOf two mark
@@ -48,16 +37,8 @@ none_left_of one two (All outcome) none is = (
   or_right (one outcome) (two outcome) is.0,
   λ other had. is.1 other (or_other (one other) (two other) (none other) had),
 )
-none_left_of one two Several none is = two_right one two is
-
-none_right_of : (one two : BootOutcome → Bool) (mark : Mark) → IsMarkOf one mark → IsMarkOf two NotTried
-    → IsMarkOf (in_either one two) mark
-none_right_of one two NotTried is none = λ outcome. or_from (one outcome) (two outcome) (is outcome) (none outcome)
-none_right_of one two (All outcome) is none = (
-  or_left (one outcome) (two outcome) is.0,
-  λ other had. is.1 other (or_one (one other) (two other) (none other) had),
-)
-none_right_of one two Several is none = two_left one two is
+none_left_of one two Several none is =
+    more_have_two two (in_either one two) (λ outcome. or_right (one outcome) (two outcome)) is
 
 same_of : (one two : BootOutcome → Bool) (outcome : BootOutcome) → IsMarkOf one (All outcome)
     → IsMarkOf two (All outcome) → IsMarkOf (in_either one two) (All outcome)
@@ -79,12 +60,33 @@ differ_of one two first second differ left right = record {
   differ = differ;
 }
 
+or_swap : (x y : Bool) → (x || y) ≡ (y || x)
+or_swap true true = refl
+or_swap true false = refl
+or_swap false true = refl
+or_swap false false = refl
+
+-- The order of the parts doesn't matter.
+swapped : (one two : BootOutcome → Bool) (mark : Mark) → IsMarkOf (in_either two one) mark
+    → IsMarkOf (in_either one two) mark
+swapped one two NotTried none = λ outcome. or_swap (one outcome) (two outcome) ∙ none outcome
+swapped one two (All outcome) is = (
+  or_swap (one outcome) (two outcome) ∙ is.0,
+  λ other had. is.1 other (or_swap (two other) (one other) ∙ had),
+)
+swapped one two Several has =
+    more_have_two (in_either two one) (in_either one two) (λ outcome had. or_swap (one outcome) (two outcome) ∙ had) has
+
+in_other_order : (one two sum : Mark) → IsMarkSum one two sum → IsMarkSum two one sum
+in_other_order one two sum is =
+    record { joins = λ first second left right. swapped first second sum (is.joins second first right left) }
+
 -- A part without outcomes changes nothing.
 pub none_left : (mark : Mark) → IsMarkSum NotTried mark mark
 none_left mark = record { joins = λ one two none is. none_left_of one two mark none is }
 
 pub none_right : (mark : Mark) → IsMarkSum mark NotTried mark
-none_right mark = record { joins = λ one two is none. none_right_of one two mark is none }
+none_right mark = in_other_order NotTried mark mark (none_left mark)
 
 -- The same outcome in both parts is that of all runs.
 pub same_marks : (outcome : BootOutcome) → IsMarkSum (All outcome) (All outcome) (All outcome)
@@ -96,9 +98,11 @@ other_marks first second differ =
     record { joins = λ one two left right. differ_of one two first second differ left right }
 
 pub several_left : (mark : Mark) → IsMarkSum Several mark Several
-several_left mark = record { joins = λ one two left right. two_left one two left }
+several_left mark = record {
+  joins = λ one two left right. more_have_two one (in_either one two) (λ outcome. or_left (one outcome) (two outcome)) left;
+}
 
 pub several_right : (mark : Mark) → IsMarkSum mark Several Several
-several_right mark = record { joins = λ one two left right. two_right one two right }
+several_right mark = in_other_order Several mark Several (several_left mark)
 
 pub ruleset mark_sums = (none_left, none_right, same_marks, other_marks, several_left, several_right)

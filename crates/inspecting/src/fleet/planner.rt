@@ -75,6 +75,24 @@ impl Current {
         };
         Ok(())
     }
+
+    /// Writes the device with its result.
+    fn write<W: Write>(&self, alloc: Global, outcome: &Outcome, out: &mut W) -> Result<(), Refusal>
+        ensures { OnOk result ((planned : Planned)
+            → IsReadSoFar planned.device self.now → outcome.now ≡ planned.outcome
+            → Appends (W.contents out.old) (W.contents out.new) (planned_text planned)) }
+    {
+        let Ok(text) = format!(in alloc; "{outcome}") else {
+            return Err(Refusal::NoMemory);
+        };
+        let Ok(()) = write_all(out, &self.first) else {
+            return Err(Refusal::CannotWrite);
+        };
+        let Ok(()) = write_all(out, text.as_bytes()) else {
+            return Err(Refusal::CannotWrite);
+        };
+        Ok(())
+    }
 }
 
 /// A fleet of which a part is read.
@@ -301,7 +319,7 @@ fn tell<W: Write>(
 {
     match summary {
         Some(summary) => summarize(summary, device, outcome),
-        None => write_planned(alloc, device, outcome, out),
+        None => device.write(alloc, outcome, out),
     }
 }
 
@@ -313,29 +331,6 @@ fn summarize(summary: &mut Summary, device: &Current, outcome: &Outcome) -> Resu
 {
     let Ok(()) = summary.add(device.name(), outcome) else {
         return Err(Refusal::NoMemory);
-    };
-    Ok(())
-}
-
-/// Writes a device with its result.
-fn write_planned<W: Write>(
-    alloc: Global,
-    device: &Current,
-    outcome: &Outcome,
-    out: &mut W,
-) -> Result<(), Refusal>
-    ensures { OnOk result ((planned : Planned)
-        → IsReadSoFar planned.device device.now → outcome.now ≡ planned.outcome
-        → Appends (W.contents out.old) (W.contents out.new) (planned_text planned)) }
-{
-    let Ok(text) = format!(in alloc; "{outcome}") else {
-        return Err(Refusal::NoMemory);
-    };
-    let Ok(()) = write_all(out, &device.first) else {
-        return Err(Refusal::CannotWrite);
-    };
-    let Ok(()) = write_all(out, text.as_bytes()) else {
-        return Err(Refusal::CannotWrite);
     };
     Ok(())
 }

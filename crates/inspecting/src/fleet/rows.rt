@@ -47,7 +47,12 @@ pub fn add_row(
 {
     match rows.get_mut(key) {
         Some(tally) => raise(tally, count),
-        None => add_key(rows, alloc, count, first, key),
+        None => {
+            let Ok(tally) = new_tally(alloc, count, first) else {
+                return Err(RowFault::NoMemory);
+            };
+            add_key(rows, alloc, key, tally)
+        }
     }
 }
 
@@ -63,21 +68,12 @@ fn raise(tally: &mut Tally, count: u64) -> Result<(), RowFault>
     Ok(())
 }
 
-/// Adds a row whose key has no tally.
-fn add_key(
-    rows: &mut Rows,
-    alloc: Global,
-    count: u64,
-    first: &[u8],
-    key: &str,
-) -> Result<(), RowFault>
+/// Adds the tally of a key that has none.
+fn add_key(rows: &mut Rows, alloc: Global, key: &str, tally: Tally) -> Result<(), RowFault>
     requires { get_by_text rows.old key.now ≡ None }
-    ensures { OnOk result (AddsRow (record { count = count; first = first.now; key = key.now })
-        rows.old rows.new) }
+    ensures { OnOk result (AddsRow
+        (record { count = tally.count; first = tally.first.items; key = key.now }) rows.old rows.new) }
 {
-    let Ok(tally) = new_tally(alloc, count, first) else {
-        return Err(RowFault::NoMemory);
-    };
     let Ok(key) = String::from_str(alloc, key) else {
         return Err(RowFault::NoMemory);
     };
