@@ -15,7 +15,7 @@ LINK = re.compile(r"\]\(([^)#:]+)(?:#[^)]*)?\)")
 # A section of docs/PROOFS.md begins with the crates that it is about. Of each promise these lines say which call makes it,
 # and where its definitions are.
 SECTION = re.compile(r"^## ([^\n]*)\n(.*?)(?=^## |\Z)", re.MULTILINE | re.DOTALL)
-CALLS = re.compile(r"^(?:Call|Private)\b.*?(?=^Definitions|\n\n)", re.MULTILINE | re.DOTALL)
+CALLS = re.compile(r"^(?:Call|Private)\b.*?(?=^Definitions|^Mutants|\n\n)", re.MULTILINE | re.DOTALL)
 DEFINITIONS = re.compile(r"^Definitions\b.*?(?=^Mutants|\n\n)", re.MULTILINE | re.DOTALL)
 
 
