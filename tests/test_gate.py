@@ -24,8 +24,8 @@ sys.path.insert(0, f"{ROOT}/tools")
 from builder import LIBRARY
 from ending import adopt_orphans, forget_ended
 
-# How many seconds the gate may take to reach a step, to end, and for all cases here.
-REACHED, ENDED, LIMIT = 20, 5, 90
+# How many seconds the gate may take to reach a step, which other tests slow down, to end, and for all cases here.
+REACHED, ENDED, LIMIT = 60, 5, 240
 
 # How many processes are shown that are left.
 MOST_SHOWN = 8
