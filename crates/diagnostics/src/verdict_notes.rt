@@ -37,7 +37,7 @@ pub fn explain_no(notes: &mut String, table: &Table, report: &Report) -> Result 
 fn taken_in(report: &Report) -> u8 {
     let mut set = 0;
     for (number, image) in report.images.iter().enumerate() {
-        if image.is_taken && number < 8 {
+        if image.is_taken {
             set |= 1 << number;
         }
     }
