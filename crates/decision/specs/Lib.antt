@@ -2,3 +2,4 @@ pub mod Telling
 pub mod Found
 pub mod Rows
 pub mod Deciding
+pub mod Places

@@ -1,10 +1,15 @@
 //! The decision of a boot, from the table that it reads.
 
+ghost use Rattle.certificate.specs.Combination.{IsGreatest, IsValid, running_set};
+ghost use Rattle.certificate.specs.Rightness.{IsRight, taken_in};
+ghost use Rattle.certificate.specs.StandardOrder.{IsInStandardOrder};
 ghost use Rattle.sector_map.specs.Map.{IsLaidOut};
 ghost use Rattle.decision.specs.Deciding.{FindsDecision};
+ghost use Rattle.decision.specs.Places.{finding_in, read_as};
 
-use crate::device_table::read_table;
-use certificate::is_valid;
+use crate::device_table::{read_table, read_table_into};
+use crate::places::Verdict;
+use certificate::{Report, Table, is_valid};
 use chooser::choose;
 use common::limits::MOST_IMAGES;
 use flash_model::{Flash, Result};
@@ -47,6 +52,46 @@ pub fn find<F: Flash>(
             }
             let report = choose(&table);
             Ok(Finding::Decided { table, report })
+        }
+    }
+}
+
+/// Writes the report on a table. The temporary one takes stack only here.
+#[inline(never)]
+fn put_report(table: &Table, report: &mut Report)
+    requires { IsValid table.now running_set }
+    ensures right { IsRight table.now report.new }
+    ensures greatest { IsGreatest table.now (taken_in report.new) }
+    ensures standard { IsInStandardOrder table.now report.new.refusals.items }
+{
+    *report = choose(table);
+}
+
+/// Reads the table of a device into a place and the decision on its requests into another, as
+/// `find`.
+///
+/// # Errors
+/// `Off`: the flash was off. Nothing changes on the flash in any case.
+pub fn find_into<F: Flash>(
+    flash: &mut F,
+    map: &SectorMap,
+    mask: u8,
+    floors: &[u32; MOST_IMAGES],
+    table: &mut Table,
+    report: &mut Report,
+) -> Result<Verdict>
+    requires laid_out { IsLaidOut map.now (F.chip flash.old) }
+    ensures { FindsDecision map.now mask floors.now (F.chip flash.old) (F.chip flash.new)
+        (read_as (finding_in table.new report.new) result) }
+{
+    match read_table_into(flash, map, mask, floors, table)? {
+        Some(image) => Ok(Verdict::Damaged(image)),
+        None => {
+            if !is_valid(table) {
+                return Ok(Verdict::Invalid);
+            }
+            put_report(table, report);
+            Ok(Verdict::Decided)
         }
     }
 }

@@ -3,6 +3,7 @@
 ghost use Rattle.std.specs.Prelude.{◌≡◌, true, false};
 ghost use Rattle.sector_map.specs.Map.{HasImage, IsLaidOut};
 ghost use Rattle.machine.specs.States.{entry_of};
+ghost use Rattle.decision.specs.Places.{read_as, reading_in};
 ghost use Rattle.decision.specs.Rows.{IsRequestIn, ReadsRow, ReadsSlot, ReadsTable};
 ghost use Rattle.decision.specs.Telling.{Tells};
 
@@ -66,6 +67,7 @@ fn read_request<F: Flash>(flash: &mut F, map: &SectorMap, image: u8) -> Result<R
 ///
 /// At rest the primary slot has the running image. If the slots are swapped, the secondary slot has
 /// what ran, and the primary slot what was requested.
+#[inline(never)]
 fn read_row<F: Flash>(
     flash: &mut F,
     map: &SectorMap,
@@ -126,4 +128,31 @@ pub fn read_table<F: Flash>(
         }
     }
     Ok(Reading::Read(Table { images }))
+}
+
+/// Reads the table of a device into a place, as `read_table`. If an image that the table needs isn't
+/// intact, returns the lowest such image.
+///
+/// # Errors
+/// `Off`: the flash was off. Nothing changes on the flash in any case.
+pub fn read_table_into<F: Flash>(
+    flash: &mut F,
+    map: &SectorMap,
+    mask: u8,
+    floors: &[u32; MOST_IMAGES],
+    table: &mut Table,
+) -> Result<Option<u8>>
+    requires laid_out { IsLaidOut map.now (F.chip flash.old) }
+    ensures { ReadsTable map.now mask floors.now (F.chip flash.old) (F.chip flash.new)
+        (read_as (reading_in table.new) result) }
+{
+    table.images.clear();
+    for image in 0..map.images {
+        let is_swapped = is_member(mask, image);
+        match read_row(flash, map, image, is_swapped, floors[usize::from(image)])? {
+            None => return Ok(Some(image)),
+            Some(row) => table.images.push(row),
+        }
+    }
+    Ok(None)
 }

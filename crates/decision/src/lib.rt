@@ -10,6 +10,8 @@
 
 mod deciding;
 mod device_table;
+mod places;
 
-pub use deciding::find;
-pub use device_table::{entry_of, read_slot, read_table};
+pub use deciding::{find, find_into};
+pub use device_table::{entry_of, read_slot, read_table, read_table_into};
+pub use places::Verdict;

@@ -1,0 +1,66 @@
+use Rattle.std.proofs.Common.{rules, ◌≡◌, sym, subst, ap, ◌<◌, arith, ◌+◌, slice_index}
+use Rattle.sector_map.specs.Map.{IsLaidOut}
+use Rattle.upload.specs.View.{view}
+use Rattle.machine.specs.Reading.{AreRowsOf}
+use Rattle.decision.specs.Found.{AreReadable}
+use Rattle.machine.proofs.Rows.{lowest_damaged, row_none, row_some, rows_more, rows_none, whole_table}
+use Rattle.decision.proofs.Readable.{lowest_at, readable_more, readable_none}
+use Rattle.decision.proofs.device_table.read_table_into.Goals as goal
+
+pub loop-image-init : goal.loop-image-init
+loop-image-init g c = record {
+  laid_out = c.requires.laid_out;
+  few = c.requires.laid_out.is_map.counts.few;
+  same = search rules;
+  count = search rules;
+  rows = λ s can. subst (λ l. AreRowsOf s c.args.floors.now 0 l) (sym c.clear.ensures)
+      (rows_none s c.args.floors.now);
+  front = readable_none c.args.map.now _ c.args.mask;
+}
+
+pub returns-in-None : goal.returns-in-None
+returns-in-None g c = record {
+  same = search rules;
+  ok = λ s can.
+      let lt : c.loop-image.image < c.args.map.now.images = omega arith in
+      lowest_damaged c.args.map.now _ s _ _ _ _ can (c.loop-image.invariant.rows s can) lt
+      (row_none c.args.map.now _ _ s _ _ _ _ _ _ can lt c.loop-image.invariant.same c.is_member-is_swapped.ensures
+      c.in_ok-read_row.ensures.ok c.in-None.is);
+  whole = search rules;
+  front =
+      let lt : c.loop-image.image < c.args.map.now.images = omega arith in
+      lowest_at c.args.map.now _ _ c.args.mask c.loop-image.image _ _ c.loop-image.invariant.same
+      c.is_member-is_swapped.ensures lt c.in_ok-read_row.ensures.front c.in-None.is c.loop-image.invariant.front;
+  ends = search rules;
+}
+
+pub loop-image-preserved : goal.loop-image-preserved
+loop-image-preserved g c =
+    let lt : c.loop-image.image < c.args.map.now.images = omega arith in
+    record {
+      laid_out = subst (λ chip. IsLaidOut c.args.map.now chip) (sym c.read_row.ensures.same)
+          c.loop-image.invariant.laid_out;
+      few = search rules;
+      same = search rules;
+      count = search rules;
+      rows = λ s can. subst (λ l. AreRowsOf s c.args.floors.now (c.loop-image.image + 1) l) (sym c.push.ensures.items)
+          (rows_more s _ _ _ _ (c.loop-image.invariant.rows s can)
+          (row_some c.args.map.now _ _ s _ _ _ _ _ _ _ can lt c.loop-image.invariant.same
+          c.is_member-is_swapped.ensures c.in_ok-read_row.ensures.ok c.in-Some.is
+          (ap (λ k. slice_index c.args.floors.now k) c.from.ensures)));
+      front = readable_more c.args.map.now _ _ c.args.mask c.loop-image.image _ _ _ c.loop-image.invariant.same
+          c.is_member-is_swapped.ensures c.in_ok-read_row.ensures.front c.in-Some.is c.loop-image.invariant.front;
+    }
+
+pub returns : goal.returns
+returns g c = record {
+  same = search rules;
+  ok = λ s can. whole_table c.args.map.now _ s _ _ _ _ can (c.loop-image.invariant.rows s can)
+      (omega arith);
+  whole = search rules;
+  front =
+      let all : c.loop-image.image ≡ c.args.map.now.images = omega arith in
+      subst (λ n. AreReadable (view c.args.map.now (g.F.Flash.chip c.args.flash.now)) c.args.mask n) all
+      c.loop-image.invariant.front;
+  ends = search rules;
+}
