@@ -1,5 +1,5 @@
 -- What holds if a decision is found, and if none is.
-use Rattle.std.proofs.Common.{◌≡◌, ℕ, Bool, List, refl, subst}
+use Rattle.std.proofs.Common.{◌≡◌, ℕ, Bool, List, ap, refl, subst}
 use Rattle.flash_model.specs.Chip.{Chip}
 use Rattle.sector_map.specs.declared.layout.SectorMap.{SectorMap}
 use Rattle.sector_map.specs.declared.layout.Side.TheVariants.{Primary}
@@ -18,6 +18,9 @@ use Rattle.machine.specs.declared.finding.Finding.TheVariants.{Decided, Damaged,
 use Rattle.machine.proofs.FoundAgain.{none_damaged, valid_again}
 use Rattle.machine.proofs.Unique.{one_table}
 use Rattle.decision.specs.Found.{IsFindingAt}
+use Rattle.decision.specs.Places.{finding_in}
+use Rattle.decision.specs.declared.places.Verdict.{Verdict}
+use Rattle.decision.specs.declared.places.Verdict.TheVariants as verdicts
 use Rattle.boot_core.specs.Found.{IsKeptFor, IsSwapAloneFor, IsToldAgain}
 use Rattle.boot_core.specs.FromSwap.{IsSettleRecorded}
 
@@ -81,3 +84,17 @@ told_undecided w mask floors Invalid front finds = (
   front,
   λ s can. let found = finds s can in (found.0, found.1, λ valid greatest. found.2 valid),
 )
+
+-- ---- findings in places
+
+-- A verdict that isn't a decision is none in any places.
+pub undecided_in : (table : Table) (report : Report) (verdict : Verdict) → (verdict ≡ verdicts.Decided → ⊥)
+    → IsUndecided (finding_in table report verdict)
+undecided_in table report verdicts.Decided none = λ t r is. none refl
+undecided_in table report (verdicts.Damaged i) none = λ t r is. cc
+undecided_in table report verdicts.Invalid none = λ t r is. cc
+
+-- A decision in places.
+pub decided_in : (table : Table) (report : Report) (verdict : Verdict) → verdict ≡ verdicts.Decided
+    → finding_in table report verdict ≡ Decided table report
+decided_in table report verdict is = ap (λ v. finding_in table report v) is

@@ -22,3 +22,4 @@ pub mod Over
 pub mod FromTrial
 pub mod FromBack
 pub mod Booting
+pub mod Places

@@ -5,7 +5,8 @@
 //! `Device`: the map is laid out on the flash, and the open uploads match the flash.
 //! `Uploads::stand` checks the latter.
 
-pub use crate::boots::boot_device;
+pub use crate::boots::{boot_device, boot_device_into};
 pub use crate::confirming::confirm_on;
 pub use crate::intake::{accept_manifest, finish, piece, withdraw};
+pub use crate::outcome::Outcome;
 pub use crate::running::{answer, reply_of};

@@ -2,14 +2,18 @@
 //!
 //! It continues a boot from `trial`, or one that a power cut interrupted.
 
+ghost use Rattle.certificate.specs.declared.table.Table.{Table};
+ghost use Rattle.certificate.specs.declared.report.Report.{Report};
+ghost use Rattle.decision.specs.Places.{read_as};
+ghost use Rattle.boot_core.specs.Places.{reply_in};
 ghost use Rattle.boot_core.specs.FromBack.{BootsFromBack, BootsFromBackSettle, FinishesBack, RecordsReturned, SettlesAndReturns, SwapsBack};
 ghost use Rattle.boot_core.specs.Recorded.{HasRecord, HasRecordOf};
 ghost use Rattle.set_log.specs.declared.state.RecordKind.{RecordKind};
 
+use crate::outcome::Outcome;
 use crate::recording::append_state;
 use crate::settle::settle_set;
 use flash_model::{Flash, Result};
-use machine::Reply;
 use sector_map::{SectorMap, Side};
 use set_log::{RecordKind, State, append};
 use swap_scratch::swap_set;
@@ -61,12 +65,13 @@ pub(crate) fn boot_from_back<F: Flash>(
     flash: &mut F,
     map: &SectorMap,
     state: &State,
-) -> Result<Reply>
+) -> Result<Outcome>
     requires { HasRecordOf map.now RecordKind.Back state.now (F.chip flash.old) }
-    ensures { BootsFromBack map.now state.now (F.chip flash.old) (F.chip flash.new) result }
+    ensures { (table : Table) (report : Report) → BootsFromBack map.now state.now
+        (F.chip flash.old) (F.chip flash.new) (read_as (reply_in table report) result) }
 {
     finish_back(flash, map, state)?;
-    Ok(Reply::Reverted(state.mask))
+    Ok(Outcome::Reverted(state.mask))
 }
 
 /// From a record `BackSettle`: settles the set that was swapped back, and replies that it reverted.
@@ -74,10 +79,11 @@ pub(crate) fn boot_from_back_settle<F: Flash>(
     flash: &mut F,
     map: &SectorMap,
     state: &State,
-) -> Result<Reply>
+) -> Result<Outcome>
     requires { HasRecordOf map.now RecordKind.BackSettle state.now (F.chip flash.old) }
-    ensures { BootsFromBackSettle map.now state.now (F.chip flash.old) (F.chip flash.new) result }
+    ensures { (table : Table) (report : Report) → BootsFromBackSettle map.now state.now
+        (F.chip flash.old) (F.chip flash.new) (read_as (reply_in table report) result) }
 {
     settle_and_return(flash, map, state)?;
-    Ok(Reply::Reverted(state.mask))
+    Ok(Outcome::Reverted(state.mask))
 }

@@ -4,18 +4,23 @@
 ghost use Rattle.std.specs.Prelude.{◌<◌, ◌≤◌, ◌≡◌, ℕ, ◌^◌, length};
 ghost use Rattle.sector_map.specs.Map.{HasImage, IsLaidOut};
 ghost use Rattle.sector_map.specs.Part.{is_member};
+ghost use Rattle.certificate.specs.declared.table.Table.{Table};
+ghost use Rattle.certificate.specs.declared.report.Report.{Report};
 ghost use Rattle.certificate.specs.Combination.{entry_in};
 ghost use Rattle.certificate.specs.Rightness.{taken_in};
 ghost use Rattle.machine.specs.Reading.{AreRaisedBy};
 ghost use Rattle.decision.specs.Telling.{Tells};
+ghost use Rattle.decision.specs.Places.{finding_in, read_as};
+ghost use Rattle.boot_core.specs.Places.{reply_in};
 ghost use Rattle.boot_core.specs.Deciding.{AnswersFinding, AreForGoodIn, FindsAgain, IsForGoodIn};
 
+use crate::outcome::Outcome;
 use arrayvec::ArrayVec;
 use certificate::{Image, Report, Request, Table};
 use common::limits::MOST_IMAGES;
-use decision::find;
+use decision::{Verdict, find_into};
 use flash_model::{Flash, Result};
-use machine::{Fault, Finding, Reply};
+use machine::Fault;
 use sector_map::{SectorMap, is_member, mask_of};
 use trailer::{Kind, standing};
 
@@ -48,18 +53,21 @@ pub(crate) fn find_again<F: Flash>(
     map: &SectorMap,
     mask: u8,
     floors: &[u32; MOST_IMAGES],
-) -> Result<Finding>
+    table: &mut Table,
+    report: &mut Report,
+) -> Result<Verdict>
     requires laid_out { IsLaidOut map.now (F.chip flash.old) }
-    ensures { FindsAgain map.now mask floors.now (F.chip flash.old) (F.chip flash.new) result }
+    ensures { FindsAgain map.now mask floors.now (F.chip flash.old) (F.chip flash.new)
+        (read_as (finding_in table.new report.new) result) }
 {
-    match find(flash, map, mask, floors)? {
-        Finding::Decided { table, report } => {
-            if taken_mask(&report) != mask {
-                return Ok(Finding::Invalid);
+    match find_into(flash, map, mask, floors, table, report)? {
+        Verdict::Decided => {
+            if taken_mask(report) != mask {
+                return Ok(Verdict::Invalid);
             }
-            Ok(Finding::Decided { table, report })
+            Ok(Verdict::Decided)
         }
-        finding => Ok(finding),
+        verdict => Ok(verdict),
     }
 }
 
@@ -125,16 +133,13 @@ pub(crate) fn asks_for_good<F: Flash>(flash: &mut F, map: &SectorMap, mask: u8) 
 }
 
 /// The reply of a boot to what it found.
-pub(crate) fn reply_to(finding: Finding, permanent: bool) -> Reply
-    ensures { AnswersFinding finding permanent result }
+pub(crate) fn reply_to(verdict: Verdict, permanent: bool) -> Outcome
+    ensures { (table : Table) (report : Report)
+        → AnswersFinding (finding_in table report verdict) permanent (reply_in table report result) }
 {
-    match finding {
-        Finding::Decided { table, report } => Reply::Booted {
-            table,
-            report,
-            permanent,
-        },
-        Finding::Damaged(image) => Reply::Refused(Fault::RunningDamaged(image)),
-        Finding::Invalid => Reply::Refused(Fault::InvalidSet),
+    match verdict {
+        Verdict::Decided => Outcome::Booted { permanent },
+        Verdict::Damaged(image) => Outcome::Refused(Fault::RunningDamaged(image)),
+        Verdict::Invalid => Outcome::Refused(Fault::InvalidSet),
     }
 }

@@ -5,6 +5,8 @@
 
 ghost use Rattle.std.specs.Prelude.{◌≤◌, ◌≡◌, ℕ, List, true, false, slice_index};
 ghost use Rattle.common.specs.Limits.{MOST_BOOTS_LEFT};
+ghost use Rattle.decision.specs.Places.{finding_in, read_as};
+ghost use Rattle.boot_core.specs.Places.{reply_in};
 ghost use Rattle.boot_core.specs.FromSettle.{BootsFromSettle, CanSettle, FinishesSettle, RecordsTaken, SettlesAndRecords, SettlesFound, SettlesMember, SettlesSet};
 ghost use Rattle.boot_core.specs.Recorded.{HasRecord, HasRecordOf};
 ghost use Rattle.sector_map.specs.Map.{HasImage, IsLaidOut};
@@ -12,9 +14,11 @@ ghost use Rattle.set_log.specs.declared.state.RecordKind.{RecordKind};
 ghost use Rattle.trailer.specs.Settled.{is_confirmed};
 
 use crate::deciding::{find_again, raised_floors, reply_to};
+use crate::outcome::Outcome;
+use certificate::{Report, Table};
 use common::limits::MOST_IMAGES;
+use decision::Verdict;
 use flash_model::{Flash, Result};
-use machine::{Finding, Reply};
 use sector_map::{SectorMap, is_member};
 use set_log::{RecordKind, State, append};
 use trailer::{Settling, settle};
@@ -128,17 +132,20 @@ pub(crate) fn settle_found<F: Flash>(
     map: &SectorMap,
     state: &State,
     left: u8,
-    finding: Finding,
-) -> Result<Finding>
-    requires { CanSettle map.now state.now left finding (F.chip flash.old) }
-    ensures { SettlesFound map.now state.now left finding
-        (F.chip flash.old) (F.chip flash.new) result }
+    verdict: Verdict,
+    table: &Table,
+    report: &Report,
+) -> Result<Verdict>
+    requires { CanSettle map.now state.now left (finding_in table.now report.now verdict)
+        (F.chip flash.old) }
+    ensures { SettlesFound map.now state.now left (finding_in table.now report.now verdict)
+        (F.chip flash.old) (F.chip flash.new) (read_as (finding_in table.now report.now) result) }
 {
-    match finding {
-        Finding::Decided { table, report } => {
-            let floors = raised_floors(&table, state.mask, &state.floors);
+    match verdict {
+        Verdict::Decided => {
+            let floors = raised_floors(table, state.mask, &state.floors);
             settle_and_record(flash, map, state, left, floors)?;
-            Ok(Finding::Decided { table, report })
+            Ok(Verdict::Decided)
         }
         undecided => Ok(undecided),
     }
@@ -151,13 +158,16 @@ fn finish_settle<F: Flash>(
     map: &SectorMap,
     state: &State,
     left: u8,
-) -> Result<Finding>
+    table: &mut Table,
+    report: &mut Report,
+) -> Result<Verdict>
     requires recorded { HasRecordOf map.now RecordKind.Settle state.now (F.chip flash.old) }
     requires few { left ≤ MOST_BOOTS_LEFT }
-    ensures { FinishesSettle map.now state.now left (F.chip flash.old) (F.chip flash.new) result }
+    ensures { FinishesSettle map.now state.now left (F.chip flash.old) (F.chip flash.new)
+        (read_as (finding_in table.new report.new) result) }
 {
-    let finding = find_again(flash, map, state.mask, &state.floors)?;
-    settle_found(flash, map, state, left, finding)
+    let finding = find_again(flash, map, state.mask, &state.floors, table, report)?;
+    settle_found(flash, map, state, left, finding, table, report)
 }
 
 /// From a record `Settle`: finishes the upgrade whose set is swapped.
@@ -166,11 +176,14 @@ pub(crate) fn boot_from_settle<F: Flash>(
     map: &SectorMap,
     state: &State,
     left: u8,
-) -> Result<Reply>
+    table: &mut Table,
+    report: &mut Report,
+) -> Result<Outcome>
     requires recorded { HasRecordOf map.now RecordKind.Settle state.now (F.chip flash.old) }
     requires few { left ≤ MOST_BOOTS_LEFT }
-    ensures { BootsFromSettle map.now state.now left (F.chip flash.old) (F.chip flash.new) result }
+    ensures { BootsFromSettle map.now state.now left (F.chip flash.old) (F.chip flash.new)
+        (read_as (reply_in table.new report.new) result) }
 {
-    let finding = finish_settle(flash, map, state, left)?;
+    let finding = finish_settle(flash, map, state, left, table, report)?;
     Ok(reply_to(finding, state.permanent))
 }

@@ -4,16 +4,20 @@
 
 ghost use Rattle.std.specs.Prelude.{◌≤◌};
 ghost use Rattle.common.specs.Limits.{MOST_BOOTS_LEFT};
+ghost use Rattle.decision.specs.Places.{read_as};
+ghost use Rattle.boot_core.specs.Places.{reply_in};
 ghost use Rattle.boot_core.specs.FromSteady.{BeginsSwap, BootsFromSteady, Upgrades};
 ghost use Rattle.boot_core.specs.Recorded.{CanTake, HasRecord};
 
 use crate::deciding::{asks_for_good, reply_to, taken_mask};
+use crate::outcome::Outcome;
 use crate::preparing::prepare_set;
 use crate::recording::append_state;
 use crate::swap::finish_swap;
-use decision::find;
+use certificate::{Report, Table};
+use decision::{Verdict, find_into};
 use flash_model::{Flash, Result};
-use machine::{Fault, Finding, Reply};
+use machine::Fault;
 use sector_map::{SectorMap, Side};
 use set_log::{RecordKind, State};
 
@@ -48,14 +52,17 @@ fn upgrade<F: Flash>(
     state: &State,
     mask: u8,
     left: u8,
-) -> Result<Reply>
+    table: &mut Table,
+    report: &mut Report,
+) -> Result<Outcome>
     requires chosen { CanTake map.now state.now mask (F.chip flash.old) }
     requires few { left ≤ MOST_BOOTS_LEFT }
-    ensures { Upgrades map.now mask left (F.chip flash.old) (F.chip flash.new) result }
+    ensures { Upgrades map.now mask left (F.chip flash.old) (F.chip flash.new)
+        (read_as (reply_in table.new report.new) result) }
 {
     let permanent = asks_for_good(flash, map, mask)?;
     let swap = begin_swap(flash, map, state, mask, permanent)?;
-    let finding = finish_swap(flash, map, &swap, left)?;
+    let finding = finish_swap(flash, map, &swap, left, table, report)?;
     Ok(reply_to(finding, permanent))
 }
 
@@ -65,24 +72,23 @@ pub(crate) fn boot_from_steady<F: Flash>(
     map: &SectorMap,
     state: &State,
     left: u8,
-) -> Result<Reply>
+    table: &mut Table,
+    report: &mut Report,
+) -> Result<Outcome>
     requires recorded { HasRecord map.now state.now (F.chip flash.old) }
     requires few { left ≤ MOST_BOOTS_LEFT }
-    ensures { BootsFromSteady map.now left (F.chip flash.old) (F.chip flash.new) result }
+    ensures { BootsFromSteady map.now left (F.chip flash.old) (F.chip flash.new)
+        (read_as (reply_in table.new report.new) result) }
 {
-    match find(flash, map, 0, &state.floors)? {
-        Finding::Damaged(image) => Ok(Reply::Refused(Fault::RunningDamaged(image))),
-        Finding::Invalid => Ok(Reply::Refused(Fault::InvalidSet)),
-        Finding::Decided { table, report } => {
-            let mask = taken_mask(&report);
+    match find_into(flash, map, 0, &state.floors, table, report)? {
+        Verdict::Damaged(image) => Ok(Outcome::Refused(Fault::RunningDamaged(image))),
+        Verdict::Invalid => Ok(Outcome::Refused(Fault::InvalidSet)),
+        Verdict::Decided => {
+            let mask = taken_mask(report);
             if mask == 0 {
-                return Ok(Reply::Booted {
-                    table,
-                    report,
-                    permanent: false,
-                });
+                return Ok(Outcome::Booted { permanent: false });
             }
-            upgrade(flash, map, state, mask, left)
+            upgrade(flash, map, state, mask, left, table, report)
         }
     }
 }

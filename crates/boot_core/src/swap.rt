@@ -5,35 +5,46 @@
 
 ghost use Rattle.std.specs.Prelude.{◌≤◌};
 ghost use Rattle.common.specs.Limits.{MOST_BOOTS_LEFT};
+ghost use Rattle.decision.specs.Places.{finding_in, read_as};
+ghost use Rattle.boot_core.specs.Places.{reply_in};
 ghost use Rattle.boot_core.specs.FromSwap.{BootsFromSwap, FinishesSwap, SwapsForth};
 ghost use Rattle.boot_core.specs.Recorded.{HasRecordOf};
 ghost use Rattle.set_log.specs.declared.state.RecordKind.{RecordKind};
 
 use crate::deciding::{find_again, reply_to};
+use crate::outcome::Outcome;
 use crate::recording::append_state;
 use crate::settle::settle_found;
+use certificate::{Report, Table};
+use decision::Verdict;
 use flash_model::{Flash, Result};
-use machine::{Finding, Reply};
 use sector_map::{SectorMap, Side};
 use set_log::{RecordKind, State};
 use swap_scratch::swap_set;
 
 /// From `Swap` to `Settle`: finishes the swap from wherever it is, finds the decision again, and
 /// records that the set is swapped. If the decision isn't found, only the swap is written.
-fn swap_forth<F: Flash>(flash: &mut F, map: &SectorMap, state: &State) -> Result<Finding>
+fn swap_forth<F: Flash>(
+    flash: &mut F,
+    map: &SectorMap,
+    state: &State,
+    table: &mut Table,
+    report: &mut Report,
+) -> Result<Verdict>
     requires { HasRecordOf map.now RecordKind.Swap state.now (F.chip flash.old) }
-    ensures { SwapsForth map.now state.now (F.chip flash.old) (F.chip flash.new) result }
+    ensures { SwapsForth map.now state.now (F.chip flash.old) (F.chip flash.new)
+        (read_as (finding_in table.new report.new) result) }
 {
     let mask = state.mask;
     swap_set(flash, map, mask, Side::Primary)?;
-    match find_again(flash, map, mask, &state.floors)? {
-        Finding::Decided { table, report } => {
+    match find_again(flash, map, mask, &state.floors, table, report)? {
+        Verdict::Decided => {
             let settle = State {
                 kind: RecordKind::Settle,
                 ..*state
             };
             append_state(flash, map, settle)?;
-            Ok(Finding::Decided { table, report })
+            Ok(Verdict::Decided)
         }
         finding => Ok(finding),
     }
@@ -47,24 +58,21 @@ pub(crate) fn finish_swap<F: Flash>(
     map: &SectorMap,
     state: &State,
     left: u8,
-) -> Result<Finding>
+    table: &mut Table,
+    report: &mut Report,
+) -> Result<Verdict>
     requires recorded { HasRecordOf map.now RecordKind.Swap state.now (F.chip flash.old) }
     requires few { left ≤ MOST_BOOTS_LEFT }
-    ensures { FinishesSwap map.now state.now left (F.chip flash.old) (F.chip flash.new) result }
+    ensures { FinishesSwap map.now state.now left (F.chip flash.old) (F.chip flash.new)
+        (read_as (finding_in table.new report.new) result) }
 {
-    match swap_forth(flash, map, state)? {
-        Finding::Decided { table, report } => {
+    match swap_forth(flash, map, state, table, report)? {
+        Verdict::Decided => {
             let settle = State {
                 kind: RecordKind::Settle,
                 ..*state
             };
-            settle_found(
-                flash,
-                map,
-                &settle,
-                left,
-                Finding::Decided { table, report },
-            )
+            settle_found(flash, map, &settle, left, Verdict::Decided, table, report)
         }
         finding => Ok(finding),
     }
@@ -76,11 +84,14 @@ pub(crate) fn boot_from_swap<F: Flash>(
     map: &SectorMap,
     state: &State,
     left: u8,
-) -> Result<Reply>
+    table: &mut Table,
+    report: &mut Report,
+) -> Result<Outcome>
     requires recorded { HasRecordOf map.now RecordKind.Swap state.now (F.chip flash.old) }
     requires few { left ≤ MOST_BOOTS_LEFT }
-    ensures { BootsFromSwap map.now state.now left (F.chip flash.old) (F.chip flash.new) result }
+    ensures { BootsFromSwap map.now state.now left (F.chip flash.old) (F.chip flash.new)
+        (read_as (reply_in table.new report.new) result) }
 {
-    let finding = finish_swap(flash, map, state, left)?;
+    let finding = finish_swap(flash, map, state, left, table, report)?;
     Ok(reply_to(finding, state.permanent))
 }

@@ -5,6 +5,10 @@
 
 ghost use Rattle.std.specs.Prelude.{◌<◌, ◌≤◌, ◌≡◌, ℕ, slice_index, Some};
 ghost use Rattle.common.specs.Limits.{MOST_BOOTS_LEFT};
+ghost use Rattle.decision.specs.Places.{read_as};
+ghost use Rattle.boot_core.specs.Places.{reply_in};
+ghost use Rattle.certificate.specs.declared.table.Table.{Table};
+ghost use Rattle.certificate.specs.declared.report.Report.{Report};
 ghost use Rattle.boot_core.specs.FromTrial.{AreConfirmedIn, BeginsBack, BootsAgain, BootsBack, BootsConfirmed, BootsFromTrial, DecidesTrial, IsAnyDamagedIn, IsConfirmedIn, IsDamagedIn, IsFloorIn, RaisesFloors, RecordsOver};
 ghost use Rattle.boot_core.specs.Recorded.{HasRecord, HasRecordOf};
 ghost use Rattle.decision.specs.Telling.{Tells};
@@ -13,13 +17,15 @@ ghost use Rattle.set_log.specs.Log.{state_of};
 ghost use Rattle.set_log.specs.declared.state.RecordKind.{RecordKind};
 
 use crate::back::boot_from_back;
+use crate::outcome::Outcome;
 use crate::preparing::prepare_set;
 use crate::recording::append_state;
 use crate::steady::boot_from_steady;
+use certificate::{Report, Table};
 use common::limits::MOST_IMAGES;
 use decision::read_slot;
 use flash_model::{Flash, Result};
-use machine::{Passage, Reply};
+use machine::Passage;
 use sector_map::{SectorMap, Side, is_member};
 use set_log::{RecordKind, State, append};
 use trailer::read_trailer;
@@ -144,25 +150,34 @@ fn record_over<F: Flash>(
 
 /// From a trial whose set is completely confirmed: records that the trial is over, with raised
 /// floors, and makes the decision.
-fn boot_over<F: Flash>(flash: &mut F, map: &SectorMap, state: &State, left: u8) -> Result<Reply>
+fn boot_over<F: Flash>(
+    flash: &mut F,
+    map: &SectorMap,
+    state: &State,
+    left: u8,
+    table: &mut Table,
+    report: &mut Report,
+) -> Result<Outcome>
     requires recorded { HasRecord map.now state.now (F.chip flash.old) }
     requires few { left ≤ MOST_BOOTS_LEFT }
-    ensures { BootsConfirmed map.now state.now left (F.chip flash.old) (F.chip flash.new) result }
+    ensures { BootsConfirmed map.now state.now left (F.chip flash.old) (F.chip flash.new)
+        (read_as (reply_in table.new report.new) result) }
 {
     let floors = raise_running(flash, map, &state.floors)?;
     let steady = record_over(flash, map, state, floors)?;
-    boot_from_steady(flash, map, &steady, left)
+    boot_from_steady(flash, map, &steady, left, table, report)
 }
 
 /// From a trial that goes on: records that it has one boot less.
-fn boot_again<F: Flash>(flash: &mut F, map: &SectorMap, state: &State) -> Result<Reply>
+fn boot_again<F: Flash>(flash: &mut F, map: &SectorMap, state: &State) -> Result<Outcome>
     requires recorded { HasRecordOf map.now RecordKind.Trial state.now (F.chip flash.old) }
     requires more { 0 < state.now.left }
-    ensures { BootsAgain map.now (F.chip flash.old) (F.chip flash.new) result }
+    ensures { (table : Table) (report : Report) → BootsAgain map.now (F.chip flash.old) (F.chip flash.new)
+        (read_as (reply_in table report) result) }
 {
     let left = state.left - 1;
     append(flash, map, &State { left, ..*state })?;
-    Ok(Reply::TrialAgain {
+    Ok(Outcome::TrialAgain {
         set: state.mask,
         left,
     })
@@ -185,9 +200,10 @@ fn begin_back<F: Flash>(flash: &mut F, map: &SectorMap, state: &State) -> Result
 }
 
 /// From a trial that reverts: swaps the set back.
-fn boot_back<F: Flash>(flash: &mut F, map: &SectorMap, state: &State) -> Result<Reply>
+fn boot_back<F: Flash>(flash: &mut F, map: &SectorMap, state: &State) -> Result<Outcome>
     requires { HasRecordOf map.now RecordKind.Trial state.now (F.chip flash.old) }
-    ensures { BootsBack map.now (F.chip flash.old) (F.chip flash.new) result }
+    ensures { (table : Table) (report : Report) → BootsBack map.now (F.chip flash.old) (F.chip flash.new)
+        (read_as (reply_in table report) result) }
 {
     let back = begin_back(flash, map, state)?;
     boot_from_back(flash, map, &back)
@@ -199,13 +215,16 @@ pub(crate) fn boot_from_trial<F: Flash>(
     map: &SectorMap,
     state: &State,
     left: u8,
-) -> Result<Reply>
+    table: &mut Table,
+    report: &mut Report,
+) -> Result<Outcome>
     requires recorded { HasRecordOf map.now RecordKind.Trial state.now (F.chip flash.old) }
     requires few { left ≤ MOST_BOOTS_LEFT }
-    ensures { BootsFromTrial map.now state.now left (F.chip flash.old) (F.chip flash.new) result }
+    ensures { BootsFromTrial map.now state.now left (F.chip flash.old) (F.chip flash.new)
+        (read_as (reply_in table.new report.new) result) }
 {
     match decide_trial(flash, map, state)? {
-        Passage::Over => boot_over(flash, map, state, left),
+        Passage::Over => boot_over(flash, map, state, left, table, report),
         Passage::Back => boot_back(flash, map, state),
         Passage::Again => boot_again(flash, map, state),
     }

@@ -15,3 +15,4 @@ pub mod Making
 pub mod Slots
 pub mod Lifecycle
 pub mod State
+pub mod Blank

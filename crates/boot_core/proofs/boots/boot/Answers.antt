@@ -6,6 +6,8 @@ use Rattle.boot_core.proofs.Wears.{worn_read}
 use Rattle.boot_core.proofs.Stops.{no_log_stopped, read_idle, read_over, read_stopped, stood_none}
 use Rattle.boot_core.proofs.OnMap.{layout_same}
 use Rattle.boot_core.proofs.Passed.{here_ends}
+use Rattle.decision.specs.Places.{read_as}
+use Rattle.boot_core.specs.Places.{reply_in}
 use Rattle.boot_core.proofs.boots.boot.Goals as goal
 
 pub returns-in-Ok : goal.returns-in-Ok
@@ -16,20 +18,20 @@ returns-in-Ok g c =
     record {
       layout = booted.boot.layout;
       stands = booted.boot.stands;
-      ok = IfOk-weaker c.boot_from.result _ _ (λ reply gives. gives.ok) booted.boot.done;
-      answers = IfOk-weaker c.boot_from.result _ _ (λ reply gives. λ s stands sound.
+      ok = IfOk-weaker (read_as (reply_in c.boot_from.new.table c.boot_from.new.report) c.boot_from.result) _ _ (λ reply gives. gives.ok) booted.boot.done;
+      answers = IfOk-weaker (read_as (reply_in c.boot_from.new.table c.boot_from.new.report) c.boot_from.result) _ _ (λ reply gives. λ s stands sound.
           sound_answers map (c.args.left + 1) (g.F.Flash.chip c.boot_from.new.flash) s reply sound (gives.ok s stands))
           booted.boot.done;
       empty = λ none. absurd (stood_none map _ _ found.0 none);
       refused = λ none. absurd (stood_none map _ _ found.0 none);
-      erases = IfOk-weaker c.boot_from.result _ _ (λ reply gives. λ state s stood stands.
+      erases = IfOk-weaker (read_as (reply_in c.boot_from.new.table c.boot_from.new.report) c.boot_from.result) _ _ (λ reply gives. λ state s stood stands.
           worn_read map _ _ _ state reply found.0 stood gives.erases s stands) booted.boot.done;
-      stops = IfOk-weaker c.boot_from.result _ _ (λ reply stops. λ state finding permanent stood is.
+      stops = IfOk-weaker (read_as (reply_in c.boot_from.new.table c.boot_from.new.report) c.boot_from.result) _ _ (λ reply stops. λ state finding permanent stood is.
           read_stopped map _ _ _ state finding found.0 stood (stops finding permanent is)) booted.stops;
-      idle = read_idle map _ _ _ c.boot_from.result found.0 booted.idle;
-      over = read_over map _ _ _ c.boot_from.result found.0 booted.over;
+      idle = read_idle map _ _ _ (read_as (reply_in c.boot_from.new.table c.boot_from.new.report) c.boot_from.result) found.0 booted.idle;
+      over = read_over map _ _ _ (read_as (reply_in c.boot_from.new.table c.boot_from.new.report) c.boot_from.result) found.0 booted.over;
       off = λ off. absurd (true≢false (sym found.1 ∙ off));
-      told = IfOk-weaker c.boot_from.result _ _ (λ reply gives. gives.told) booted.boot.done;
+      told = IfOk-weaker (read_as (reply_in c.boot_from.new.table c.boot_from.new.report) c.boot_from.result) _ _ (λ reply gives. gives.told) booted.boot.done;
       ends = booted.boot.ends;
     }
 

@@ -17,14 +17,14 @@ returns-in_err-finding g c =
 
 pub returns : goal.returns
 returns g c = record {
-  boot = boot_replies c.reply_to.ensures c.finish_settle.ensures.layout
+  boot = boot_replies (c.reply_to.ensures c.finish_settle.new.table c.finish_settle.new.report) c.finish_settle.ensures.layout
       (settle_cut c.args.map.now _ _ _ c.args.left c.requires.recorded.read c.requires.recorded.kind
       c.finish_settle.ensures.stands)
       (settle_ends c.args.map.now _ _ _ c.args.left c.requires.recorded.read c.requires.recorded.kind _
       c.in_ok-finding.ensures.done.0.ok)
-      (c.in_ok-finding.ensures.done.0.erases, c.reply_to.ensures.set _ c.in_ok-finding.ensures.done.1.0)
+      (c.in_ok-finding.ensures.done.0.erases, (c.reply_to.ensures c.finish_settle.new.table c.finish_settle.new.report).set _ c.in_ok-finding.ensures.done.1.0)
       c.in_ok-finding.ensures.ends;
   stops = λ finding permanent is. settle_stops c.args.map.now _ _ c.args.state.now.mask
-      c.args.state.now.floors _ finding c.args.state.now.permanent permanent (sym c.reply_to.ensures.is ∙ is)
+      c.args.state.now.floors _ finding c.args.state.now.permanent permanent (sym (c.reply_to.ensures c.finish_settle.new.table c.finish_settle.new.report).is ∙ is)
       c.in_ok-finding.ensures.done.1.1 c.in_ok-finding.ensures.done.0.kept;
 }

@@ -8,6 +8,7 @@ use Rattle.machine.specs.Wear.{IsSetFound}
 use Rattle.boot_core.specs.Found.{IsToldAgain}
 use Rattle.boot_core.proofs.OnMap.{layout_same}
 use Rattle.boot_core.proofs.Passed.{passes_err}
+use Rattle.decision.specs.Places.{finding_in, read_as}
 use Rattle.boot_core.proofs.settle.finish_settle.Goals as goal
 
 pub settle_found-requires : goal.settle_found-requires
@@ -37,7 +38,7 @@ returns g c =
     record {
       layout = settles.layout;
       stands = settles.stands;
-      done = IfOk-weaker c.settle_found.result _ _ (λ answer done. (
+      done = IfOk-weaker (read_as (finding_in c.find_again.new.table c.find_again.new.report) c.settle_found.result) _ _ (λ answer done. (
         done.0,
         (
           subst (λ found. IsSetFound mask found) (sym done.1) finds.set,

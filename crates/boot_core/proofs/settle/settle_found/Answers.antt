@@ -5,18 +5,20 @@ use Rattle.decision.specs.Found.{HasTable}
 use Rattle.boot_core.proofs.OnMap.{layout_same}
 use Rattle.boot_core.proofs.Passed.{here_ends, ok_ends, passes_err}
 use Rattle.boot_core.proofs.Undecided.{kept_for, never_again}
+use Rattle.boot_core.proofs.Undecided.{decided_in, undecided_in}
+use Rattle.decision.specs.Places.{finding_in, read_as}
 use Rattle.boot_core.proofs.settle.settle_found.Goals as goal
 
 pub settle_and_record-requires-clause-rest : goal.settle_and_record-requires-clause-rest
 settle_and_record-requires-clause-rest g c = λ i le.
-    let rows = subst (λ found. HasTable c.args.map.now.images found) c.in-Decided.is c.requires.rows in
+    let rows = subst (λ found. HasTable c.args.map.now.images found) (decided_in c.args.table.now c.args.report.now _ c.in-Decided.is) c.requires.rows in
     c.raised_floors-floors.ensures.rest i (subst (λ n. n ≤ i) (sym rows) le)
 
 pub returns-in_err-settle_and_record-in-Decided : goal.returns-in_err-settle_and_record-in-Decided
 returns-in_err-settle_and_record-in-Decided g c =
     rw (err_passed c.from_residual.result c.in_err-settle_and_record-in-Decided.field-0.0 c.from_residual.ensures.1)
     (passes_err c.settle_and_record.ensures.layout
-    (settle_stands c.args.map.now _ _ _ _ c.args.left _ _ _ _ c.requires.read refl c.requires.found c.in-Decided.is
+    (settle_stands c.args.map.now _ _ _ _ c.args.left _ _ _ _ c.requires.read refl c.requires.found (decided_in c.args.table.now c.args.report.now _ c.in-Decided.is)
     c.raised_floors-floors.ensures c.settle_and_record.ensures.stands)
     c.in_err-settle_and_record-in-Decided.ensures.ends)
 
@@ -26,15 +28,15 @@ returns-in_ok-settle_and_record-in-Decided g c =
     record {
       layout = records.layout;
       stands = settle_stands c.args.map.now _ _ _ _ c.args.left _ _ _ _ c.requires.read refl c.requires.found
-          c.in-Decided.is c.raised_floors-floors.ensures records.stands;
+          (decided_in c.args.table.now c.args.report.now _ c.in-Decided.is) c.raised_floors-floors.ensures records.stands;
       done = (
         record {
           ok = settle_reports c.args.map.now _ _ _ _ c.args.left _ _ _ _ c.requires.read refl c.requires.found
-              c.in-Decided.is c.raised_floors-floors.ensures records.done.ok;
+              (decided_in c.args.table.now c.args.report.now _ c.in-Decided.is) c.raised_floors-floors.ensures records.done.ok;
           erases = records.done.erases;
           kept = tt;
         },
-        sym c.in-Decided.is,
+        sym (decided_in c.args.table.now c.args.report.now _ c.in-Decided.is),
       );
       ends = ok_ends records.ends;
     }
@@ -45,10 +47,10 @@ returns-in_default g c = record {
   stands = λ s table was. inl was;
   done = (
     record {
-      ok = λ s table was. absurd (never_again s c.args.state.now.mask _ c.in_default.not-Decided
+      ok = λ s table was. absurd (never_again s c.args.state.now.mask _ (undecided_in c.args.table.now c.args.report.now _ c.in_default.not-Decided)
           (never_found c.args.map.now _ _ _ _ c.requires.read c.requires.found refl s table was));
       erases = search rules;
-      kept = kept_for _ c.args.finding;
+      kept = kept_for _ (finding_in c.args.table.now c.args.report.now c.args.verdict);
     },
     refl,
   );

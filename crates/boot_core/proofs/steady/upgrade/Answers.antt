@@ -10,6 +10,7 @@ use Rattle.boot_core.proofs.Measured.{fresh_of, fresh_wear}
 use Rattle.boot_core.proofs.OnMap.{layout_same, layout_then}
 use Rattle.boot_core.proofs.Passed.{then_ends}
 use Rattle.boot_core.proofs.Upgrades.{begun_cuts, begun_here, finished_cuts, finished_ends}
+use Rattle.boot_core.specs.Places.{reply_in}
 use Rattle.boot_core.proofs.steady.upgrade.Goals as goal
 
 pub begin_swap-requires : goal.begin_swap-requires
@@ -72,14 +73,14 @@ returns g c =
     let asks = c.in_ok-permanent.ensures.ok in
     let swapping = begun_here map old c.args.mask c.args.left _ asks mid new begun.done.ok in
     record {
-      boot = boot_replies c.reply_to.ensures (layout_then begun.layout finished.layout)
+      boot = boot_replies (c.reply_to.ensures c.finish_swap.new.table c.finish_swap.new.report) (layout_then begun.layout finished.layout)
           (finished_cuts map old c.args.mask c.args.left _ asks mid new begun.done.ok finished.stands)
           (finished_ends map old c.args.mask c.args.left _ asks mid new begun.done.ok _ finished.done.ok)
-          (λ s at. fresh_of map old new c.args.mask c.reply_to.result
-          (c.reply_to.ensures.moved s _ (finished.done.ok s at.0 (swapping s at)).0 finished.done.tells.set)
+          (λ s at. fresh_of map old new c.args.mask (reply_in c.finish_swap.new.table c.finish_swap.new.report c.reply_to.result)
+          ((c.reply_to.ensures c.finish_swap.new.table c.finish_swap.new.report).moved s _ (finished.done.ok s at.0 (swapping s at)).0 finished.done.tells.set)
           (fresh_wear map old old mid new Primary c.args.mask refl begun.done.erases begun.done.moves
           (finished.done.erases s at.0 _ (swapping s at))))
           (then_ends begun.ends c.in_ok-finding.ensures.ends);
-      some = λ s at. c.reply_to.ensures.some s _ (finished.done.ok s at.0 (swapping s at)).0 finished.done.tells.set
+      some = λ s at. (c.reply_to.ensures c.finish_swap.new.table c.finish_swap.new.report).some s _ (finished.done.ok s at.0 (swapping s at)).0 finished.done.tells.set
           c.requires.chosen.some;
     }

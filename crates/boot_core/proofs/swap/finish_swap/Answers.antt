@@ -10,6 +10,8 @@ use Rattle.machine.proofs.Resuming.{swap_finishes}
 use Rattle.boot_core.proofs.OnMap.{layout_then}
 use Rattle.boot_core.proofs.Passed.{passes_err, then_ends}
 use Rattle.boot_core.proofs.Undecided.{never_again}
+use Rattle.boot_core.proofs.Undecided.{decided_in, undecided_in}
+use Rattle.decision.specs.Places.{finding_in, read_as}
 use Rattle.boot_core.proofs.swap.finish_swap.Goals as goal
 
 pub settle_found-requires : goal.settle_found-requires
@@ -19,13 +21,13 @@ settle_found-requires g c =
       laid_out = c.swap_forth.ensures.laid;
       read = subst
           (λ found. IsSettleRecorded c.args.map.now c.args.state.now (g.F.Flash.chip c.swap_forth.new.flash) found)
-          c.in-Decided.is forth.recorded;
+          (decided_in c.swap_forth.new.table c.swap_forth.new.report _ c.in-Decided.is) forth.recorded;
       kind = refl;
       few = c.requires.few;
       found = λ s table permanent can decision.
-          subst (λ found. IsFoundAgain s c.args.state.now.mask found) c.in-Decided.is
+          subst (λ found. IsFoundAgain s c.args.state.now.mask found) (decided_in c.swap_forth.new.table c.swap_forth.new.report _ c.in-Decided.is)
           (forth.found s table permanent can decision);
-      rows = subst (λ found. HasTable c.args.map.now.images found) c.in-Decided.is forth.rows;
+      rows = subst (λ found. HasTable c.args.map.now.images found) (decided_in c.swap_forth.new.table c.swap_forth.new.report _ c.in-Decided.is) forth.rows;
     }
 
 pub returns-in_err-finding : goal.returns-in_err-finding
@@ -43,11 +45,11 @@ returns-in-Decided g c =
     record {
       layout = layout_then c.swap_forth.ensures.layout settles.layout;
       stands = swap_finishes map _ _ _ state c.args.left (λ s table was. (forth.ok s table was).1) settles.stands;
-      done = IfOk-weaker c.settle_found.result _ _ (λ answer done. record {
+      done = IfOk-weaker (read_as (finding_in c.swap_forth.new.table c.swap_forth.new.report) c.settle_found.result) _ _ (λ answer done. record {
         ok = λ s table was. done.0.ok s table (forth.ok s table was).1;
         erases = λ s table permanent was. omega (arith, forth.erases s table permanent was, done.0.erases);
         tells = record {
-          set = subst (λ found. IsSetFound state.mask found) (c.in-Decided.is ∙ sym done.1) forth.tells.set;
+          set = subst (λ found. IsSetFound state.mask found) ((decided_in c.swap_forth.new.table c.swap_forth.new.report _ c.in-Decided.is) ∙ sym done.1) forth.tells.set;
           told = decided_told map _ state answer _ _ done.1;
           alone = decided_alone map _ _ state answer _ _ done.1;
         };
@@ -62,7 +64,7 @@ returns-in_default g c =
       layout = c.swap_forth.ensures.layout;
       stands = λ s table was. inl (c.swap_forth.ensures.stands s table was);
       done = record {
-        ok = λ s table was. absurd (never_again s c.args.state.now.mask _ c.in_default.not-Decided
+        ok = λ s table was. absurd (never_again s c.args.state.now.mask _ (undecided_in c.swap_forth.new.table c.swap_forth.new.report _ c.in_default.not-Decided)
             (forth.ok s table was).0);
         erases = λ s table permanent was. omega (arith, forth.erases s table permanent was);
         tells = forth.tells;

@@ -16,6 +16,7 @@ use Rattle.boot_core.proofs.Records.{fits_next, kind_of_read, read_kept, stands_
 use Rattle.boot_core.proofs.OnMap.{layout_kept, layout_more}
 use Rattle.boot_core.proofs.Passed.{passes_err, then_ends, then_ok}
 use Rattle.boot_core.proofs.Undecided.{alone_for, never_again, never_recorded}
+use Rattle.boot_core.proofs.Undecided.{decided_in, undecided_in}
 use Rattle.boot_core.proofs.swap.swap_forth.Goals as goal
 
 pub swap_set-requires : goal.swap_set-requires
@@ -93,15 +94,15 @@ returns-in_ok-append_state-in-Decided g c =
       done = record {
         ok = λ s table was. (
           never_swapped map _ _ state _ _ c.requires.read ((view_kept map _ _ _ swaps.outside).log refl) swapped
-              finds.ok c.in-Decided.is s table was,
+              finds.ok (decided_in c.find_again.new.table c.find_again.new.report _ c.in-Decided.is) s table was,
           settled s table was,
         );
         recorded = records.done.says;
-        found = λ s table permanent can decision. subst (λ found. IsFoundAgain s state.mask found) c.in-Decided.is
+        found = λ s table permanent can decision. subst (λ found. IsFoundAgain s state.mask found) (decided_in c.find_again.new.table c.find_again.new.report _ c.in-Decided.is)
             (finds.ok s table permanent (can_read_before map _ _ s state.mask _ records.outside can) decision);
-        rows = subst (λ found. HasTable map.images found) c.in-Decided.is finds.rows;
+        rows = subst (λ found. HasTable map.images found) (decided_in c.find_again.new.table c.find_again.new.report _ c.in-Decided.is) finds.rows;
         tells = record {
-          set = subst (λ found. IsSetFound state.mask found) c.in-Decided.is finds.set;
+          set = subst (λ found. IsSetFound state.mask found) (decided_in c.find_again.new.table c.find_again.new.report _ c.in-Decided.is) finds.set;
           told = tt;
           alone = tt;
         };
@@ -121,10 +122,10 @@ returns-in_default g c =
       layout = layout_kept c.requires.laid_out swaps.outside;
       stands = λ s table was. inl (swap_resumes map _ _ state.mask swaps.outside swaps.resumes s table _ was);
       done = record {
-        ok = λ s table was. absurd (never_again s state.mask _ c.in_default.not-Decided
+        ok = λ s table was. absurd (never_again s state.mask _ (undecided_in c.find_again.new.table c.find_again.new.report _ c.in_default.not-Decided)
             (never_swapped map _ _ state _ _ c.requires.read ((view_kept map _ _ _ swaps.outside).log refl) swapped
             finds.ok refl s table was));
-        recorded = never_recorded map state _ _ c.in_default.not-Decided;
+        recorded = never_recorded map state _ _ (undecided_in c.find_again.new.table c.find_again.new.report _ c.in_default.not-Decided);
         found = finds.ok;
         rows = finds.rows;
         tells = record {

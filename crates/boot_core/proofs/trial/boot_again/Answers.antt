@@ -15,7 +15,7 @@ append-requires-clause-fits g c = fits_again c.args.map.now _ c.args.state.now _
     (let more : 0 < c.args.state.now.left = c.requires.more in omega arith)
 
 pub returns-in_err-append : goal.returns-in_err-append
-returns-in_err-append g c =
+returns-in_err-append g c = λ table report.
     let more : 0 < c.args.state.now.left = c.requires.more in
     rw (err_passed c.from_residual.result c.in_err-append.field-0.0 c.from_residual.ensures.1) (record {
       boot = λ boots. boot_fails (layout_kept c.requires.recorded.laid_out c.append.ensures.outside)
@@ -26,7 +26,7 @@ returns-in_err-append g c =
     })
 
 pub returns : goal.returns
-returns g c =
+returns g c = λ table report.
     let more : 0 < c.args.state.now.left = c.requires.more in
     record {
       boot = λ boots. boot_gives (layout_kept c.requires.recorded.laid_out c.append.ensures.outside)

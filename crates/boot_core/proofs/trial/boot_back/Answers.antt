@@ -11,7 +11,7 @@ use Rattle.boot_core.proofs.Wears.{fresh_back}
 use Rattle.boot_core.proofs.trial.boot_back.Goals as goal
 
 pub returns-in_err-back : goal.returns-in_err-back
-returns-in_err-back g c =
+returns-in_err-back g c = λ table report.
     rw (err_passed c.from_residual.result c.in_err-back.field-0.0 c.from_residual.ensures.1) (record {
       boot = λ boots. boot_fails c.begin_back.ensures.layout
           (λ s was. opened_cut c.args.map.now boots _ s was.0 was.1
@@ -28,7 +28,7 @@ boot_from_back-requires g c = record {
 }
 
 pub returns : goal.returns
-returns g c =
+returns g c = λ table report.
     let map = c.args.map.now in
     let old = g.F.Flash.chip c.args.flash.now in
     let mid = g.F.Flash.chip c.begin_back.new.flash in
@@ -39,6 +39,6 @@ returns g c =
           (λ reply worn. λ s was. fresh_back map old mid (g.F.Flash.chip c.boot_from_back.new.flash)
           c.args.state.now.mask reply c.in_ok-back.ensures.done.erases c.in_ok-back.ensures.done.moves
           (rw (ap (λ (state : State). state.mask) c.in_ok-back.ensures.done.is) at (worn s (here s was))))
-          (c.boot_from_back.ensures.boot boots);
-      acts = c.boot_from_back.ensures.acts;
+          ((c.boot_from_back.ensures table report).boot boots);
+      acts = (c.boot_from_back.ensures table report).acts;
     }

@@ -3,6 +3,8 @@ use Rattle.std.proofs.lemmas.Result.{IfOk-weaker}
 use Rattle.set_log.specs.Log.{state_of}
 use Rattle.machine.specs.declared.finding.Passage.TheVariants.{Over, Back, Again}
 use Rattle.boot_core.proofs.Booted.{boot_as, from_passage, trial_here}
+use Rattle.decision.specs.Places.{read_as}
+use Rattle.boot_core.specs.Places.{reply_in}
 use Rattle.boot_core.proofs.trial.boot_from_trial.Goals as goal
 
 pub boot_over-requires-clause-recorded : goal.boot_over-requires-clause-recorded
@@ -32,7 +34,7 @@ returns-in-Over g c =
     c.in_ok-decide_trial.ensures.ok c.in-Over.is in
     record {
       boot = boot_as here (λ reply worn. λ s stands. worn s (here s stands)) booted.boot;
-      idle = IfOk-weaker c.boot_over.result _ _ (λ reply idle. λ nothing. record {
+      idle = IfOk-weaker (read_as (reply_in c.boot_over.new.table c.boot_over.new.report) c.boot_over.result) _ _ (λ reply idle. λ nothing. record {
         confirmed = c.in_ok-decide_trial.ensures.confirmed c.in-Over.is;
         recorded = idle nothing;
       }) booted.idle;
@@ -43,10 +45,10 @@ returns-in-Back g c =
     let here = trial_here c.args.map.now _ c.args.state.now _ Back c.requires.recorded.read c.requires.recorded.kind
     c.in_ok-decide_trial.ensures.ok c.in-Back.is in
     from_passage c.args.state.now c.args.left here (λ reply worn. λ s stands. worn s (here s stands))
-    (rw c.decide_trial.ensures.same at c.boot_back.ensures)
+    (rw c.decide_trial.ensures.same at (c.boot_back.ensures c.args.table.now c.args.report.now))
 
 pub returns-in-Again : goal.returns-in-Again
 returns-in-Again g c = from_passage c.args.state.now c.args.left
     (trial_here c.args.map.now _ c.args.state.now _ Again c.requires.recorded.read c.requires.recorded.kind
     c.in_ok-decide_trial.ensures.ok c.in-Again.is)
-    (λ reply worn. λ s stands. worn) (rw c.decide_trial.ensures.same at c.boot_again.ensures)
+    (λ reply worn. λ s stands. worn) (rw c.decide_trial.ensures.same at (c.boot_again.ensures c.args.table.now c.args.report.now))

@@ -8,6 +8,8 @@ use Rattle.boot_core.proofs.Wears.{over_alone, over_worn}
 use Rattle.boot_core.proofs.Booted.{boot_fails}
 use Rattle.boot_core.proofs.OnMap.{layout_more, layout_same, layout_then}
 use Rattle.boot_core.proofs.Passed.{then_ends}
+use Rattle.decision.specs.Places.{read_as}
+use Rattle.boot_core.specs.Places.{reply_in}
 use Rattle.boot_core.proofs.trial.boot_over.Goals as goal
 
 pub record_over-requires-clause-read : goal.record_over-requires-clause-read
@@ -53,7 +55,7 @@ returns g c =
             booted.boot.layout;
         stands = λ s was. over_cut c.args.map.now (c.args.left + 1) _ _ _ _ _ c.requires.recorded.read
             same c.in_ok-floors.ensures.ok _ over.rests booted.boot.stands s was.0 was.1 was.2;
-        done = IfOk-weaker c.boot_from_steady.result _ _ (λ reply gives. record {
+        done = IfOk-weaker (read_as (reply_in c.boot_from_steady.new.table c.boot_from_steady.new.report) c.boot_from_steady.result) _ _ (λ reply gives. record {
           ok = λ s was. over_ends c.args.map.now (c.args.left + 1) _ _ _ _ _ c.requires.recorded.read same
               c.in_ok-floors.ensures.ok _ reply over.rests gives.ok s was.0 was.1 was.2;
           erases = λ s was. over_worn c.args.map.now old read mid new _ reply same over.recorded.erases
@@ -62,7 +64,7 @@ returns g c =
         }) booted.boot.done;
         ends = then_ends (then_ends c.in_ok-floors.ensures.ends c.in_ok-steady.ensures.ends) booted.boot.ends;
       };
-      idle = IfOk-weaker c.boot_from_steady.result _ _ (λ reply idle. λ nothing.
+      idle = IfOk-weaker (read_as (reply_in c.boot_from_steady.new.table c.boot_from_steady.new.report) c.boot_from_steady.result) _ _ (λ reply idle. λ nothing.
           over_alone c.args.map.now c.args.state.now old read mid new _ same
           (idle _ over.recorded.recorded (ap (λ (state : State). state.kind) over.recorded.is) nothing)
           (record { raised = c.in_ok-floors.ensures.ok; rest = c.in_ok-floors.ensures.rest }) over.recorded.appended)

@@ -13,7 +13,9 @@ use Rattle.boot_core.proofs.Stopping.{boot_stopped, ended_ends, not_empty, not_u
 use Rattle.boot_core.specs.Wear.{DoesNothing, IsWorn}
 use Rattle.flash_model.proofs.Ending.{no_error}
 use Rattle.boot_core.proofs.Stops.{flash_idle, flash_off, flash_over, flash_stopped, flash_stopped_it, flash_unanswered}
-use Rattle.boot_core.proofs.boots.boot_device.Goals as goal
+use Rattle.decision.specs.Places.{read_as}
+use Rattle.boot_core.specs.Places.{reply_in}
+use Rattle.boot_core.proofs.boots.boot_device_into.Goals as goal
 
 pub returns : goal.returns
 returns g c = record {
@@ -26,37 +28,37 @@ returns g c = record {
       (seen (g.F.Flash.chip c.boot.new.flash) c.new.result.sessions c.conclude.new.is_booted) event.Boot reply)
       (sym c.conclude.ensures.is)
       (steps_boot (made c.args.map.now identity (c.args.left + 1)) _ _ _ _ _ _ _ c.conclude.ensures.up c.new.ensures
-      c.in_ok-reply.ensures.ok);
+      c.in_ok-outcome.ensures.ok);
   ok = c.conclude.ensures.answers;
   up = c.conclude.ensures.up ∙ sym (ap is_answer c.conclude.ensures.is);
   told = inl (subst (λ reply. IsBootReply reply) (sym c.conclude.ensures.is)
-      c.in_ok-reply.ensures.told);
+      c.in_ok-outcome.ensures.told);
   answers = λ on uncut s stands sound.
-      ap is_answer c.conclude.ensures.is ∙ c.in_ok-reply.ensures.answers s stands sound;
+      ap is_answer c.conclude.ensures.is ∙ c.in_ok-outcome.ensures.answers s stands sound;
   empty = c.boot.ensures.empty;
   refused = λ on none.
-      unprovisioned c.conclude.result c.conclude.ensures.answers
-      (c.conclude.ensures.is ∙ c.in_ok-reply.ensures.refused none);
+      unprovisioned (read_as (reply_in c.boot.new.table c.boot.new.report) c.conclude.result) c.conclude.ensures.answers
+      (c.conclude.ensures.is ∙ c.in_ok-outcome.ensures.refused none);
   erases = λ on uncut state s stood stands. subst
       (λ reply. IsWorn c.args.map.now state.kind state.mask (g.F.Flash.chip c.args.flash.now)
       (g.F.Flash.chip c.boot.new.flash) reply)
-      (sym c.conclude.ensures.is) (c.in_ok-reply.ensures.erases state s stood stands);
+      (sym c.conclude.ensures.is) (c.in_ok-outcome.ensures.erases state s stood stands);
   stops = λ state finding permanent stood is.
-      c.in_ok-reply.ensures.stops state finding permanent stood (sym c.conclude.ensures.is ∙ is);
-  idle = λ state stood kind takes. c.in_ok-reply.ensures.idle state stood kind
+      c.in_ok-outcome.ensures.stops state finding permanent stood (sym c.conclude.ensures.is ∙ is);
+  idle = λ state stood kind takes. c.in_ok-outcome.ensures.idle state stood kind
       (subst (λ reply. DoesNothing reply) c.conclude.ensures.is takes);
-  over = λ on state stood kind nothing. c.in_ok-reply.ensures.over state stood kind
+  over = λ on state stood kind nothing. c.in_ok-outcome.ensures.over state stood kind
       (subst (λ reply. DoesNothing reply) c.conclude.ensures.is nothing);
-  off = λ off. absurd (no_error _ _ (c.in_ok-reply.ensures.off off));
-  ends = ended_ends _ _ _ _ _ _ _ _ c.conclude.ensures.is c.in_ok-reply.ensures.told c.in_ok-reply.ensures.ends;
+  off = λ off. absurd (no_error _ _ (c.in_ok-outcome.ensures.off off));
+  ends = ended_ends _ _ _ _ _ _ _ _ c.conclude.ensures.is c.in_ok-outcome.ensures.told c.in_ok-outcome.ensures.ends;
 }
 
-pub returns-in_err-reply : goal.returns-in_err-reply
-returns-in_err-reply g c =
-    let error = c.in_err-reply.field-0.0 in
+pub returns-in_err-outcome : goal.returns-in_err-outcome
+returns-in_err-outcome g c =
+    let error = c.in_err-outcome.field-0.0 in
     let old = g.F.Flash.chip c.args.flash.now in
     let new = g.F.Flash.chip c.boot.new.flash in
-    let ends = c.in_err-reply.ensures.ends in
+    let ends = c.in_err-outcome.ensures.ends in
     let passed : c.from_residual.result ≡ Err (no.Flash error) = err_passed _ _ c.from_residual.ensures.1 in
     rw passed (record {
       layout = c.boot.ensures.layout;
@@ -76,6 +78,6 @@ returns-in_err-reply g c =
           flash_stopped c.args.map.now state old new error finding permanent is;
       idle = λ state stood kind nothing. flash_idle error old new ends nothing;
       over = λ on state stood kind nothing. flash_over error c.args.map.now state old new ends on nothing;
-      off = λ off. flash_off error (no.Flash error) old new refl ends (c.in_err-reply.ensures.off off);
+      off = λ off. flash_off error (no.Flash error) old new refl ends (c.in_err-outcome.ensures.off off);
       ends = stopped_ends old new _ _ _ _ c.new.ensures refl error ends;
     })
