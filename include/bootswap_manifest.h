@@ -24,6 +24,9 @@ struct bootswap_identity {
  * Or returns a bootswap_manifest_fault, and `manifest` is unchanged: the lowest one that applies to the text, or
  * BOOTSWAP_NO_MEMORY if an allocation failed. The text overlaps neither the identity nor the manifest.
  *
+ * The call has no state of its own. Several threads may call at the same time if the three functions below may. They are
+ * called in the thread of the call.
+ *
  * The program defines how the call allocates. bindings/c/manifest.c does it for `bootswap_read_manifest`, which most
  * programs call instead. A program with a heap of its own defines these three:
  *

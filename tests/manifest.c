@@ -1,4 +1,5 @@
-/* Reads the JSON text of a manifest in ROOM bytes of memory, for a device with two images.
+/* Reads the JSON text of a manifest in ROOM bytes of memory, for a device with two images. An empty text, or no memory, is
+   passed as null.
 
        manifest VENDOR CLASS FILE ROOM
 
@@ -60,7 +61,8 @@ int main(int count, char **words) {
     memset(&before, UNUSED, sizeof before);
     manifest = before;
 
-    uint32_t number = bootswap_read_manifest(&setup, text, length, memory + 1, room, &manifest);
+    uint32_t number =
+        bootswap_read_manifest(&setup, length ? text : NULL, length, room ? memory + 1 : NULL, room, &manifest);
     must(memory[0] == UNUSED && memory[room + 1] == UNUSED, "it wrote outside its memory");
     if (number) {
         must(!memcmp(&manifest, &before, sizeof manifest), "a refused manifest was changed");

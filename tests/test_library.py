@@ -23,6 +23,7 @@ LIFE = f"{ROOT}/bindings/c/life.c"
 JOURNAL = f"{ROOT}/tests/journal.c"
 NULLS = f"{ROOT}/tests/nulls.c"
 MANIFEST = [f"{ROOT}/tests/manifest.c", f"{ROOT}/bindings/c/manifest.c", "-I", f"{ROOT}/bindings/c"]
+MANIFEST_MEMORY = [f"{ROOT}/tests/manifest_memory.c", f"{ROOT}/bindings/c/manifest.c", "-I", f"{ROOT}/bindings/c"]
 MAKE_IMAGE = f"{ROOT}/tests/make_image.c"
 STRICT = ["-std=c11", "-Wall", "-Wextra", "-Werror", "-I", f"{ROOT}/include"]
 
@@ -101,6 +102,8 @@ class LibraryTest(CaseTest):
             ("enough memory", [*own, text, "13000"], listing),
             ("too little memory", [*own, text, "3000"], b"refused 8 NoMemory\n"),
             ("no memory", [*own, text, "0"], b"refused 8 NoMemory\n"),
+            ("no text", [*own, os.devnull, "13000"], b"refused 1 NotJson\n"),
+            ("neither", [*own, os.devnull, "0"], b"refused 1 NotJson\n"),
             ("another vendor", [own[1], own[1], text, "13000"], b"refused 4 WrongVendor\n"),
             ("an image", [*own, f"{EXAMPLES}/images/one.img", "13000"], b"refused 1 NotJson\n"),
             ("an image that the device lacks", [*own, f"{EXAMPLES}/manifests/third.json", "13000"], b"refused 6 NoComponent\n"),
@@ -117,6 +120,30 @@ class LibraryTest(CaseTest):
             faults, output = ran([self.processor.nm, "--undefined-only", "--format=posix", archive])
             called = {line.split()[0] for line in output.decode().splitlines() if line.split()[1:] == ["U"]}
             self.case(what, faults + [f"what it calls: {it}" for it in sorted(called ^ wanted)])
+
+
+@needs_compiler
+class ManifestMemoryTest(CaseTest):
+    """bindings/c/manifest.c over a stand-in for the library."""
+
+    def test_threads_and_null_pointers(self):
+        """Each of two calls at the same time has its own memory. Null with a length of 0 is no memory, and nothing undefined
+        is computed of it."""
+        flags = [*STRICT, "-Wpedantic", "-Wconversion", "-pthread", "-fsanitize=undefined", "-fno-sanitize-recover=all"]
+        with tempfile.TemporaryDirectory(prefix="bootswap-library-") as folder:
+            for compiler in filter(shutil.which, ("gcc", "clang")):
+                program = f"{folder}/{compiler}"
+                faults = ran([compiler, *flags, *MANIFEST_MEMORY, "-o", program])[0] or ran([program], timeout=LIMIT)[0]
+                self.case(f"calls in two threads with {compiler}", faults)
+
+    def test_without_threads(self):
+        """On a machine without variables of threads it compiles to none."""
+        with tempfile.TemporaryDirectory(prefix="bootswap-library-") as folder:
+            for flag in ("-ffreestanding", "-DBOOTSWAP_NO_THREADS"):
+                made = f"{folder}/manifest.o"
+                faults, _ = ran(["cc", *STRICT, flag, "-c", f"{ROOT}/bindings/c/manifest.c", "-o", made])
+                _, output = ran(["objdump", "--section-headers", made])
+                self.case(f"manifest.c with {flag}", faults + ["it has variables of threads"] * (b".tbss" in output))
 
 
 @needs_compiler

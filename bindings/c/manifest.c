@@ -18,13 +18,28 @@ void rattle_dealloc(void *bytes);
 /* No alignment is larger, and each divides it. */
 enum { UNIT = 16 };
 
-/* What the running call has left of its memory. The first byte is aligned to UNIT. */
-static uint8_t *rest;
-static size_t rest_length;
+/* Each thread has its own, since rattle_alloc isn't passed the memory of its call. */
+#if __STDC_HOSTED__ && !defined BOOTSWAP_NO_THREADS
+#define PER_THREAD _Thread_local
+#else
+#define PER_THREAD
+#endif
+
+/* What the running call of this thread has left of its memory. The first byte is aligned to UNIT.
+ * No call is running, or nothing is left, if the length is 0. */
+static PER_THREAD uint8_t *rest;
+static PER_THREAD size_t rest_length;
+
+/* Begins a call in this memory. */
+static void borrow(uint8_t *memory, size_t length) {
+    size_t skipped = (UNIT - (uintptr_t)memory % UNIT) % UNIT;
+    rest_length = skipped < length ? length - skipped : 0;
+    rest = rest_length > 0 ? memory + skipped : NULL;
+}
 
 /* Takes a block off the front of the memory, at least UNIT bytes. */
 struct block rattle_alloc(size_t size, size_t alignment) {
-    static uint8_t nothing;
+    static uint8_t nothing; /* never read or written: an address that isn't null */
     (void)alignment;
     size_t taken = size ? (size + UNIT - 1) / UNIT * UNIT : UNIT;
     if (taken > rest_length) {
@@ -55,9 +70,7 @@ uint32_t bootswap_read_manifest(const struct bootswap_setup *setup, const char *
     memcpy(identity.class_id, setup->class_id, sizeof identity.class_id);
     identity.images = setup->images < UINT8_MAX ? (uint8_t)setup->images : UINT8_MAX;
 
-    size_t skipped = (UNIT - (uintptr_t)memory % UNIT) % UNIT;
-    rest = memory + (skipped < memory_length ? skipped : memory_length);
-    rest_length = memory_length - (skipped < memory_length ? skipped : memory_length);
+    borrow(memory, memory_length);
     uint32_t number = bootswap_parse_manifest(&identity, text, text_length, manifest);
     rest_length = 0;
     return number;

@@ -1,6 +1,9 @@
 /*
  * Reads the JSON text of a manifest in memory of the caller, without a heap. Link
  * `libbootswap_manifest.a` beside manifest.c and `libbootswap.a`.
+ *
+ * manifest.c has two variables of each thread (`_Thread_local`). On a machine whose program has no
+ * such variables, compile it with `-ffreestanding` or with `-DBOOTSWAP_NO_THREADS`.
  */
 #ifndef BOOTSWAP_READ_MANIFEST_H
 #define BOOTSWAP_READ_MANIFEST_H
@@ -17,7 +20,12 @@ extern "C" {
 
 /*
  * Reads a text of any length, for the device of a setup. `memory` may be used for anything before
- * and after the call, and overlaps nothing else that is passed. Only one call may run at a time.
+ * and after the call, and overlaps nothing else that is passed. `text` and `memory` may each be null
+ * if their length is 0.
+ *
+ * Several threads may call at the same time, each with `memory` and `manifest` of its own. If
+ * manifest.c was compiled with one of the two options above, only one call may run at a time. A
+ * signal handler may not call while its thread is in a call.
  *
  * Returns 0, and `manifest` is what `bootswap_accept` takes. Or returns a bootswap_manifest_fault,
  * and `manifest` is unchanged: the lowest one that applies to the text, or BOOTSWAP_NO_MEMORY if
