@@ -121,6 +121,14 @@ class LibraryTest(CaseTest):
             called = {line.split()[0] for line in output.decode().splitlines() if line.split()[1:] == ["U"]}
             self.case(what, faults + [f"what it calls: {it}" for it in sorted(called ^ wanted)])
 
+    def test_has_no_data(self):
+        """The libraries have no data that a call might change, so any number of threads may call at the same time."""
+        for archive in (self.archive, self.manifests):
+            faults, output = ran([self.processor.nm, "--defined-only", "--format=posix", archive])
+            rows = [line.split() for line in output.decode().splitlines()]
+            data = [row[0] for row in rows if len(row) > 1 and row[1] in "bBcCdDsS"]
+            self.case("a library has no data of its own", faults + [f"its data: {it}" for it in data])
+
 
 @needs_compiler
 class ManifestMemoryTest(CaseTest):

@@ -8,6 +8,11 @@ A call raises `ValueError` for an argument that the device can't be passed, `Ref
 `BootswapError` if no call could be made. In each of these cases but `Refused`, nothing changed. A device with
 `raises_refusals=False` returns a refusal as any other reply.
 
+A call that takes bytes takes any buffer, as `hashlib` does: all its bytes count, whatever its items are.
+
+Several threads may make calls at the same time. Calls on the same device follow each other. During a call no other
+thread may change the device's `flash` itself.
+
 The library is the file that the environment names in BOOTSWAP_LIBRARY, or `out/libbootswap.so` of the repository, which
 `bindings/build` makes, or else the installed one.
 """
@@ -17,6 +22,7 @@ from __future__ import annotations
 import ctypes
 import enum
 import os
+import threading
 import uuid
 from collections.abc import Iterable, Sequence
 from ctypes import POINTER, byref, c_char, c_size_t, c_uint8, c_uint16, c_uint32, c_uint64
@@ -84,7 +90,8 @@ class UploadFault(enum.IntEnum):
 
 
 class ManifestFault(enum.IntEnum):
-    """Why a manifest is refused. One that is given by its fields is refused for NoComponent or RepeatedComponent."""
+    """Why a manifest is refused. One that is given by its fields is refused for BadValue if it has no component, for
+    NoComponent or for RepeatedComponent."""
 
     NotJson = 1
     BadKey = 2
@@ -347,12 +354,13 @@ class Component:
     @classmethod
     def of(cls, image: int, file: bytes, kind: Kind = Kind.TEST, precursor: bytes | None = None) -> Component:
         """Returns the component for a file."""
-        return cls(image, len(file), digest(file), kind, precursor)
+        given = _bytes(file)
+        return cls(image, len(given), digest(given), kind, precursor)
 
 
 @dataclass(frozen=True)
 class Manifest:
-    """A manifest: its sequence number, which rises from manifest to manifest, and the images that may be uploaded."""
+    """A manifest: its sequence number, which rises from manifest to manifest, and 1 to 8 images that may be uploaded."""
 
     sequence: int
     components: tuple[Component, ...]
@@ -451,8 +459,15 @@ def _description(given: _Description) -> Description:
     )
 
 
-def _bytes_of(given: bytes) -> ctypes.Array[c_uint8]:
-    return (c_uint8 * max(len(given), 1)).from_buffer_copy(given or b"\0")
+def _bytes(given: bytes) -> bytes:
+    """Returns the bytes of a buffer, whatever its items are. Raises `TypeError` for anything else."""
+    return given if isinstance(given, bytes) else bytes(memoryview(given))
+
+
+def _passed(given: bytes) -> tuple[ctypes.Array[c_uint8], int]:
+    """Returns the two arguments by which bytes are passed: a copy of them, and their number."""
+    copied = _bytes(given)
+    return (c_uint8 * max(len(copied), 1)).from_buffer_copy(copied or b"\0"), len(copied)
 
 
 def _cuts(given: Sequence[Cut]) -> ctypes.Array[_Cut]:
@@ -480,15 +495,25 @@ def _byte(image: int) -> int:
 
 
 def _digest(given: bytes) -> bytes:
-    if len(given) != 32:
-        raise ValueError(f"a digest has 32 bytes, and not {len(given)}")
-    return given
+    copied = _bytes(given)
+    if len(copied) != 32:
+        raise ValueError(f"a digest has 32 bytes, and not {len(copied)}")
+    return copied
 
 
 @dataclass
 class Device:
-    """A device in memory with `len(sectors)` images, and these numbers of sectors for each slot. Its flash is erased at
-    first, and has exactly the length that the device needs. If `raises_refusals` is set, a refused call raises `Refused`."""
+    """A device in memory with `len(sectors)` images, and these numbers of sectors for each slot. If `raises_refusals` is
+    set, a refused call raises `Refused`.
+
+    - `sector_size`: a multiple of 64 from 512 to 131072
+    - `sectors`: 1 to 8 numbers, each at least 1. For n sectors in a slot a sector has at least 24 n + 56 bytes.
+    - `trial_boots`: 1 to 7
+    - `flash`: whole sectors, no fewer than the device needs, and fewer than 2^32 bytes. By default it is erased, and
+      has exactly the length that the device needs.
+
+    Raises `ValueError` for any other sizes.
+    """
 
     sector_size: int
     sectors: Sequence[int]
@@ -504,12 +529,35 @@ class Device:
         for it in (self.sector_size, *self.sectors):
             _number("a number of bytes or sectors", it, 2**32 - 1)
         _number("the number of boots of a trial", self.trial_boots, 2**32 - 1)
-        if not self.flash:
-            self.flash = bytearray(b"\xff" * self.sector_size * (2 * sum(it + 1 for it in self.sectors) + 4))
         self._setup = _Setup(self.sector_size, len(self.sectors), trial_boots=self.trial_boots)
         self._setup.sectors[: len(self.sectors)] = self.sectors
         self._setup.vendor[:], self._setup.class_id[:] = self.vendor.bytes, self.class_id.bytes
-        self._saved = _SavedState()
+        self._saved, self._lock = _SavedState(), threading.RLock()
+        # The default flash is made only for sizes of a map: for others it might need all memory.
+        self._check_setup((c_uint8 * 0)())
+        if not memoryview(self.flash).nbytes:
+            self.flash = bytearray(b"\xff" * self.sector_size * (2 * sum(it + 1 for it in self.sectors) + 4))
+        if self._check_setup(self._flash()) == Number.NO_FLASH:
+            raise ValueError(f"the flash of this device doesn't have {len(self._flash())} bytes")
+
+    def _check_setup(self, flash: ctypes.Array[c_uint8]) -> int:
+        """Raises `ValueError` if the library has no map or no trial for the setup. Returns its number for these bytes."""
+        number = _LIBRARY.bootswap_state(byref(self._setup), flash, len(flash), byref(_State()))
+        if number == Number.NO_MAP:
+            raise ValueError(f"no map has sectors of {self.sector_size} bytes and slots of {[*self.sectors]} sectors")
+        if number == Number.NO_TRIAL:
+            raise ValueError(f"a trial has 1 to 7 boots, and not {self.trial_boots}")
+        return number
+
+    def __getstate__(self) -> dict[str, object]:
+        return {name: it for name, it in self.__dict__.items() if name != "_lock"}
+
+    def __setstate__(self, state: dict[str, object]) -> None:
+        self.__dict__.update(state, _lock=threading.RLock())
+
+    def _flash(self) -> ctypes.Array[c_uint8]:
+        """Returns the bytes of the flash, to be changed in place."""
+        return (c_uint8 * memoryview(self.flash).nbytes).from_buffer(self.flash)
 
     def place(self, image: int, side: int = 0) -> int:
         """Returns the address of an image's slot: side 0 is the primary one, 1 the secondary one."""
@@ -521,10 +569,15 @@ class Device:
     def write(self, image: int, file: bytes, side: int = 0) -> None:
         """Writes a file to the front of a slot, as a programmer does before the device is provisioned. Raises `ValueError`
         if the file is longer than the slot."""
-        room = self.sectors[image] * self.sector_size if 0 <= image < len(self.sectors) else 0
-        if room and len(file) > room:
-            raise ValueError(f"a slot of image {image} has {room} bytes, and the file {len(file)}")
-        self.flash[self.place(image, side) : self.place(image, side) + len(file)] = file
+        given, start = _bytes(file), self.place(image, side)
+        room = self.sectors[image] * self.sector_size
+        if len(given) > room:
+            raise ValueError(f"a slot of image {image} has {room} bytes, and the file {len(given)}")
+        with self._lock:
+            flash = self._flash()
+            if start + room > len(flash):
+                raise ValueError(f"the flash has {len(flash)} bytes, and the slot ends at {start + room}")
+            ctypes.memmove(byref(flash, start), given, len(given))
 
     @property
     def is_booted(self) -> bool:
@@ -543,7 +596,7 @@ class Device:
     def read_manifest(self, text: str | bytes, room: int | None = None) -> Manifest:
         """Reads the JSON text of a manifest for the device, in `room` bytes of memory. By default they are always enough for
         a manifest whose objects name no key twice. Raises `BadManifest` for any other text, or if they aren't enough."""
-        given = text.encode() if isinstance(text, str) else bytes(text)
+        given = text.encode() if isinstance(text, str) else _bytes(text)
         room = MANIFEST_ROOM + len(given) if room is None else _number("a number of bytes", room, 2**32 - 1)
         memory, result = (c_uint8 * max(room, 1))(), _Manifest()
         buffer = ctypes.create_string_buffer(given, len(given) + 1)
@@ -555,7 +608,7 @@ class Device:
         return Manifest(result.sequence, tuple(map(_component, result.components[: result.count])))
 
     def accept(self, sequence: int, components: Iterable[Component], cuts: Sequence[Cut] = ()) -> Reply:
-        """Accepts a manifest."""
+        """Accepts a manifest. One without components is refused."""
         rows = list(components)
         if len(rows) > MOST_IMAGES:
             raise BootswapError(Number.TOO_MANY)
@@ -571,7 +624,7 @@ class Device:
 
     def piece(self, image: int, more: bytes, cuts: Sequence[Cut] = ()) -> Reply:
         """Adds bytes to the upload of an image."""
-        return self._call("piece", cuts, _byte(image), _bytes_of(more), len(more))
+        return self._call("piece", cuts, _byte(image), *_passed(more))
 
     def finish(self, image: int, cuts: Sequence[Cut] = ()) -> Reply:
         """Finishes the upload of an image, and requests the image."""
@@ -587,20 +640,25 @@ class Device:
 
     def reset(self) -> None:
         """Resets the device: all uploads are closed, and it isn't booted."""
-        _LIBRARY.bootswap_reset(byref(self._saved))
+        with self._lock:
+            _LIBRARY.bootswap_reset(byref(self._saved))
 
     def slot(self, image: int, side: int = 0) -> Description | ImageFault:
         """Returns the description of the image at the front of a slot, or the first check that fails."""
-        result, flash = _Description(), (c_uint8 * len(self.flash)).from_buffer(self.flash)
-        number = _LIBRARY.bootswap_slot(byref(self._setup), flash, len(flash), _byte(image), _byte(side), byref(result))
+        result, words = _Description(), (_byte(image), _byte(side))
+        with self._lock:
+            flash = self._flash()
+            number = _LIBRARY.bootswap_slot(byref(self._setup), flash, len(flash), *words, byref(result))
         if number >= Number.NO_MAP:
             raise BootswapError(Number(number))
         return ImageFault(number) if number else _description(result)
 
     def state(self) -> State:
         """Returns the state in the log. Raises `BootswapError` if the log has none."""
-        result, flash = _State(), (c_uint8 * len(self.flash)).from_buffer(self.flash)
-        number = _LIBRARY.bootswap_state(byref(self._setup), flash, len(flash), byref(result))
+        result = _State()
+        with self._lock:
+            flash = self._flash()
+            number = _LIBRARY.bootswap_state(byref(self._setup), flash, len(flash), byref(result))
         if number:
             raise BootswapError(Number(number))
         floors = tuple(result.floors[: len(self.sectors)])
@@ -610,12 +668,12 @@ class Device:
     def _call(self, name: str, cuts: Sequence[Cut], *words: object, texts: tuple = ()) -> Reply:
         if len(cuts) > MOST_CUTS:
             raise BootswapError(Number.TOO_MANY)
-        result, flash = _CallResult(), (c_uint8 * len(self.flash)).from_buffer(self.flash)
-        saved = [] if name == "provision" else [byref(self._saved)]
-        call = getattr(_LIBRARY, f"bootswap_{name}")
-        number = Number(
-            call(byref(self._setup), flash, len(flash), *saved, _cuts(cuts), len(cuts), *words, byref(result))
-        )
+        result, call = _CallResult(), getattr(_LIBRARY, f"bootswap_{name}")
+        with self._lock:
+            flash, saved = self._flash(), [] if name == "provision" else [byref(self._saved)]
+            number = Number(
+                call(byref(self._setup), flash, len(flash), *saved, _cuts(cuts), len(cuts), *words, byref(result))
+            )
         if number >= Number.NO_MAP:
             raise BootswapError(number)
         reply = _reply(number, result, texts)
@@ -656,14 +714,14 @@ def _reply(number: Number, result: _CallResult, texts: tuple) -> Reply:
 def describe(image: bytes) -> Description | ImageFault:
     """Returns the description of the image that these bytes are, or the first check that fails."""
     result = _Description()
-    number = _LIBRARY.bootswap_describe(_bytes_of(image), len(image), byref(result))
+    number = _LIBRARY.bootswap_describe(*_passed(image), byref(result))
     return ImageFault(number) if number else _description(result)
 
 
 def digest(file: bytes) -> bytes:
     """Returns the SHA-256 of a file, by which a manifest names it."""
     result = _Sha256()
-    _LIBRARY.bootswap_digest(_bytes_of(file), len(file), byref(result))
+    _LIBRARY.bootswap_digest(*_passed(file), byref(result))
     return bytes(result.bytes)
 
 

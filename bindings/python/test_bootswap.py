@@ -1,11 +1,18 @@
 """Tests of the Python module and of its library: each example of the repository, a power cut at each write of a boot, and
 contents that no call wrote. `python3 bindings/python/test_bootswap.py` runs them."""
 
+import array
+import copy
+import hashlib
 import json
 import os
 import random
+import sys
+import threading
+import time
 import unittest
 import uuid
+from unittest import mock
 
 import bootswap
 from bootswap import BadManifest, Component, Cut, Device, Fault, ImageFault, Kind, Manifest, ManifestFault, Need, Number
@@ -129,6 +136,162 @@ class Images(unittest.TestCase):
     def test_the_digest_of_abc(self):
         wanted = "ba7816bf8f01cfea414140de5dae2223b00361a396177a9cb410ff61f20015ad"
         self.assertEqual(bootswap.digest(b"abc").hex(), wanted)
+
+
+class Buffers(unittest.TestCase):
+    """Any buffer is its bytes, as for `hashlib`."""
+
+    def buffers(self, name):
+        """Returns a file of whole units of 4 bytes as bytes, and as buffers whose items are others."""
+        file = read(name)
+        file += b"\xff" * (-len(file) % 4)
+        numbers, spread = array.array("I", file), bytearray(2 * len(file))
+        spread[::2] = file
+        views = [memoryview(file).cast("H"), memoryview(file).cast("B", [2, len(file) // 2]), memoryview(spread)[::2]]
+        return file, [bytearray(file), numbers, *views]
+
+    def test_a_digest(self):
+        file, buffers = self.buffers("images/one.img")
+        for buffer in buffers:
+            self.assertEqual(bootswap.digest(buffer), hashlib.sha256(file).digest())
+        numbers = array.array("I", [1, 2, 3])
+        self.assertEqual(bootswap.digest(numbers), hashlib.sha256(numbers).digest())
+
+    def test_a_description(self):
+        file, buffers = self.buffers("images/one.img")
+        for buffer in buffers:
+            self.assertEqual(bootswap.describe(buffer), bootswap.describe(file))
+
+    def test_a_component(self):
+        file, buffers = self.buffers("images/one.img")
+        for buffer in buffers:
+            self.assertEqual(Component.of(0, buffer), Component(0, len(file), hashlib.sha256(file).digest()))
+
+    def test_the_text_of_a_manifest(self):
+        it = json.loads(read("manifests/both.json"))
+        device = Device(512, [2, 2], 1, uuid.UUID(it["vendor-id"]), uuid.UUID(it["class-id"]))
+        text = read("manifests/both.json")
+        text += b" " * (-len(text) % 4)
+        for buffer in (bytearray(text), array.array("I", text), memoryview(text).cast("H")):
+            self.assertEqual(device.read_manifest(buffer), device.read_manifest(text))
+
+    def test_a_written_file_and_an_upload(self):
+        (old, olds), (new, news) = self.buffers("images/one.img"), self.buffers("images/patched.img")
+        for first, second in zip(olds, news):
+            device = Device(512, [2])
+            device.write(0, first)
+            self.assertEqual(device.flash, old + b"\xff" * (len(device.flash) - len(old)))
+            device.provision()
+            device.boot()
+            digests = array.array("I", hashlib.sha256(new).digest()), array.array("I", device.slot(0).digest)
+            device.accept(1, [Component(0, len(new), digests[0], Kind.PERMANENT, digests[1])])
+            device.piece(0, second)
+            device.finish(0)
+            self.assertEqual(str(device.boot().versions[0]), "1.1.0+0")
+
+    def test_a_flash(self):
+        flash = array.array("I", b"\xff" * 512 * 10)
+        device = Device(512, [2], flash=flash)
+        device.write(0, read("images/one.img"))
+        device.provision()
+        self.assertEqual(device.boot().versions, (device.slot(0).version,))
+        self.assertEqual(device.state().phase, Phase.STEADY)
+        self.assertEqual(flash.tobytes()[:4], read("images/one.img")[:4])
+
+    def test_items_that_are_no_bytes_are_no_digest(self):
+        device = device_of("pair")
+        device.boot()
+        for given in (array.array("I", [300] * 32), array.array("H", [1] * 32), b"", bytes(33)):
+            with self.assertRaises(ValueError):
+                device.accept(1, [Component(0, 8, given)])
+            with self.assertRaises(ValueError):
+                device.accept(1, [Component(0, 8, bytes(32), precursor=given)])
+
+    def test_what_is_no_buffer(self):
+        device = device_of("pair")
+        device.boot()
+        flash = bytes(device.flash)
+        for given in ("abcdefgh", [1, 2, 3, 4], 8, None):
+            calls = [lambda: bootswap.digest(given), lambda: bootswap.describe(given), lambda: Component.of(0, given)]
+            calls += [lambda: device.piece(0, given), lambda: device.write(0, given)]
+            calls += [lambda: device.accept(1, [Component(0, 8, given)])]
+            calls += [lambda: device.read_manifest(given)] * (given != "abcdefgh")
+            for call in calls:
+                with self.subTest(given), self.assertRaises(TypeError):
+                    call()
+        self.assertEqual(device.flash, flash)
+
+
+class Threads(unittest.TestCase):
+    """Calls in several threads at the same time."""
+
+    def run_in_threads(self, count, call):
+        """Calls something in threads that change often, and raises what one of them raises."""
+        interval, errors = sys.getswitchinterval(), []
+
+        def run(number):
+            try:
+                call(number)
+            except Exception as error:
+                errors.append(error)
+
+        threads = [threading.Thread(target=run, args=(number,)) for number in range(count)]
+        sys.setswitchinterval(1e-5)
+        try:
+            for it in threads:
+                it.start()
+            for it in threads:
+                it.join()
+        finally:
+            sys.setswitchinterval(interval)
+        self.assertEqual(errors, [])
+
+    def test_manifests(self):
+        text = json.loads(read("manifests/both.json"))
+        vendor, class_id = uuid.UUID(text["vendor-id"]), uuid.UUID(text["class-id"])
+
+        def read_many(number):
+            device, value = Device(512, [2, 2], 1, vendor, class_id), {**text, "sequence-number": number}
+            given = json.dumps(value)
+            wanted = Manifest(number, tuple(components_of(value)))
+            for _ in range(1000):
+                self.assertEqual(device.read_manifest(given), wanted)
+
+        self.run_in_threads(8, read_many)
+
+    def test_the_calls_of_a_device_follow_each_other(self):
+        device, running, most = device_of("pair"), [], []
+
+        def slowly(*given):
+            running.append(given)
+            time.sleep(0.002)
+            most.append(len(running))
+            running.pop()
+            return 0
+
+        names = "provision boot accept piece finish withdraw confirm reset slot state".split()
+        calls = [device.provision, device.boot, lambda: device.accept(1, []), lambda: device.piece(0, b"")]
+        calls += [lambda: device.finish(0), lambda: device.withdraw(0), lambda: device.confirm(0), device.reset]
+        calls += [lambda: device.slot(0), lambda: self.assertRaises(ValueError, device.state)]
+        with mock.patch.multiple(bootswap._LIBRARY, **{f"bootswap_{it}": slowly for it in names}):
+            self.run_in_threads(len(calls), lambda number: calls[number]())
+        self.assertEqual(most, [1] * len(calls))
+
+    def test_the_calls_of_two_devices_do_not(self):
+        both = threading.Barrier(2, timeout=20)
+        devices = device_of("pair"), device_of("pair")
+        with mock.patch.object(bootswap._LIBRARY, "bootswap_finish", lambda *given: both.wait() * 0):
+            self.run_in_threads(2, lambda number: devices[number].finish(0))
+
+    def test_a_copy_of_a_device_is_another_one(self):
+        device = device_of("pair")
+        device.boot()
+        other = copy.deepcopy(device)
+        self.assertTrue(other.is_booted)
+        other.accept(7, [Component.of(0, read("images/patched.img"))])
+        other.reset()
+        self.assertEqual((device.state().sequence, device.is_booted), (0, True))
+        self.assertEqual((other.state().sequence, other.is_booted), (7, False))
 
 
 class Manifests(unittest.TestCase):
@@ -364,23 +527,44 @@ class Devices(unittest.TestCase):
             call = numbers.choice((device.boot, lambda: device.piece(0, b"abcdefgh"), lambda: device.finish(1)))
             self.assertIn(call().number, (Number.BOOTED, Number.DONE, Number.REFUSED))
 
-    def test_sizes_that_make_no_device_change_nothing(self):
-        for sector, sectors, boots, number in (
-            (500, [2], 1, Number.NO_MAP),
-            (512, [20], 1, Number.NO_MAP),
-            (512, [2], 0, Number.NO_TRIAL),
-            (512, [2], 8, Number.NO_TRIAL),
+    def test_sizes_that_make_no_device_are_refused(self):
+        for sector, sectors, boots, text in (
+            (100, [2], 1, "no map has sectors of 100 bytes and slots of [2] sectors"),
+            (500, [2], 1, "no map has sectors of 500 bytes and slots of [2] sectors"),
+            (448, [2], 1, "no map has sectors of 448 bytes and slots of [2] sectors"),
+            (131136, [2], 1, "no map has sectors of 131136 bytes and slots of [2] sectors"),
+            (0, [2], 1, "no map has sectors of 0 bytes and slots of [2] sectors"),
+            (512, [2, 0], 1, "no map has sectors of 512 bytes and slots of [2, 0] sectors"),
+            (512, [20], 1, "no map has sectors of 512 bytes and slots of [20] sectors"),
+            (131072, [2**32 - 1], 1, "no map has sectors of 131072 bytes and slots of [4294967295] sectors"),
+            (512, [2], 0, "a trial has 1 to 7 boots, and not 0"),
+            (512, [2], 8, "a trial has 1 to 7 boots, and not 8"),
         ):
-            device = Device(sector, sectors, boots)
-            with self.assertRaises(bootswap.BootswapError) as caught:
-                device.boot()
-            self.assertEqual(caught.exception.number, number)
-        for flash in (b"", b"\xff" * 512 * 9, b"\xff" * (512 * 10 + 1)):
+            with self.assertRaises(ValueError) as caught:
+                Device(sector, sectors, boots)
+            self.assertEqual(str(caught.exception), text)
+        for length in (1, 512 * 9, 512 * 10 + 1):
+            with self.assertRaises(ValueError) as caught:
+                Device(512, [2], flash=bytearray(length))
+            self.assertEqual(str(caught.exception), f"the flash of this device doesn't have {length} bytes")
+        with self.assertRaises(TypeError):
+            Device(512, [2], flash=bytes(512 * 10))
+        for sector, sectors, boots, count in ((512, [19], 1, 44), (131072, [2], 7, 10), (576, [1] * 8, 7, 36)):
+            self.assertEqual(Device(sector, sectors, boots).flash, b"\xff" * sector * count)
+        Device(512, [2], flash=bytearray(512 * 11))
+
+    def test_calls_that_are_not_made_change_nothing(self):
+        for flash in (b"", b"\xff", b"\xff" * 512 * 9, b"\xff" * (512 * 10 + 1)):
             device = Device(512, [2])
-            device.flash[:] = flash or b"\xff"
+            device.flash[:] = flash
             with self.assertRaises(bootswap.BootswapError) as caught:
                 device.boot()
-            self.assertEqual((caught.exception.number, device.flash.count(0xFF)), (Number.NO_FLASH, len(device.flash)))
+            self.assertEqual((caught.exception.number, device.flash), (Number.NO_FLASH, flash))
+        device = Device(512, [2])
+        del device.flash[512:]
+        with self.assertRaises(ValueError):
+            device.write(0, b"\x00" * 600)
+        self.assertEqual(device.flash, b"\xff" * 512)
         with self.assertRaises(bootswap.BootswapError) as caught:
             Device(512, [2]).slot(1)
         self.assertEqual(caught.exception.number, Number.NO_IMAGE)
