@@ -26,7 +26,7 @@ import threading
 import uuid
 from collections.abc import Iterable, Sequence
 from ctypes import POINTER, byref, c_char, c_size_t, c_uint8, c_uint16, c_uint32, c_uint64
-from dataclasses import dataclass, field
+from dataclasses import dataclass, field, replace
 
 MOST_IMAGES = 8
 MOST_CUTS = 16
@@ -411,6 +411,7 @@ class Reply:
     - `left`: the number of boots that are left to the trial, if TRIAL_AGAIN
     - `permanent`: whether the set is taken without a trial, if BOOTED
     - `versions`, `refusals`, `table`, `report`: the decision, if BOOTED
+    - `reverted`: the images that the boot before this one reverted, in a reply of `Device.start`
     """
 
     number: Number
@@ -425,6 +426,7 @@ class Reply:
     refusals: tuple[Refusal, ...] = ()
     table: str = ""
     report: str = ""
+    reverted: tuple[int, ...] = ()
 
     def reason(self) -> str:
         """Returns the names of the fault and of what caused it, or the number of the image."""
@@ -589,9 +591,24 @@ class Device:
         return self._call("provision", cuts)
 
     def boot(self, cuts: Sequence[Cut] = ()) -> Reply:
-        """Boots."""
+        """Boots once, as one step of the machine. A loader that starts the images calls `start`."""
         table, report = ctypes.create_string_buffer(TABLE_ROOM), ctypes.create_string_buffer(REPORT_ROOM)
         return self._call("boot", cuts, table, TABLE_ROOM, report, REPORT_ROOM, texts=(table, report))
+
+    def start(self, cuts: Sequence[Cut] = ()) -> Reply:
+        """Boots as a loader does: after a boot that reverted it boots once more, and `reverted` of the reply has the
+        images that the first boot reverted. The loader may start the running images only if the reply is BOOTED or
+        TRIAL_AGAIN. `cuts` and `writes` count the writes of both boots. If the second boot is refused, its reply has
+        `reverted` too."""
+        with self._lock:
+            first = self.boot(cuts)
+            if first.number != Number.REVERTED:
+                return first
+            more = [replace(it, write=it.write - first.writes) for it in cuts if it.write > first.writes]
+            try:
+                return _after(first, self.boot(more))
+            except Refused as error:
+                raise Refused("boot", _after(first, error.reply)) from None
 
     def read_manifest(self, text: str | bytes, room: int | None = None) -> Manifest:
         """Reads the JSON text of a manifest for the device, in `room` bytes of memory. By default they are always enough for
@@ -689,6 +706,11 @@ def _detail(fault: int, detail: int) -> UploadFault | ManifestFault | int:
 
 def _images(mask: int) -> tuple[int, ...]:
     return tuple(i for i in range(MOST_IMAGES) if mask >> i & 1)
+
+
+def _after(first: Reply, second: Reply) -> Reply:
+    """Returns the reply of a boot that followed one which reverted."""
+    return replace(second, writes=first.writes + second.writes, reverted=first.images)
 
 
 def _reply(number: Number, result: _CallResult, texts: tuple) -> Reply:

@@ -272,7 +272,7 @@ class Threads(unittest.TestCase):
         names = "provision boot accept piece finish withdraw confirm reset slot state".split()
         calls = [device.provision, device.boot, lambda: device.accept(1, []), lambda: device.piece(0, b"")]
         calls += [lambda: device.finish(0), lambda: device.withdraw(0), lambda: device.confirm(0), device.reset]
-        calls += [lambda: device.slot(0), lambda: self.assertRaises(ValueError, device.state)]
+        calls += [lambda: device.slot(0), lambda: self.assertRaises(ValueError, device.state), device.start]
         with mock.patch.multiple(bootswap._LIBRARY, **{f"bootswap_{it}": slowly for it in names}):
             self.run_in_threads(len(calls), lambda number: calls[number]())
         self.assertEqual(most, [1] * len(calls))
@@ -426,6 +426,76 @@ class Devices(unittest.TestCase):
             phases.append(state.phase)
         phases = [phase for i, phase in enumerate(phases) if phase not in phases[i - 1 : i]]
         self.assertEqual(phases, [Phase.STEADY, Phase.SWAP, Phase.SETTLE])
+
+    def on_trial(self, requested=(1,), **more):
+        """Returns a device whose next boot reverts image 1, which is on trial. If image 0 is requested too, it isn't taken
+        yet: it was damaged in that boot, and is intact again."""
+        device, file = Device(512, [2, 2], **more), read("images/patched.img")
+        for image in (0, 1):
+            device.write(image, read("images/one.img"))
+        device.provision()
+        device.boot()
+        device.accept(1, [Component.of(image, file) for image in requested])
+        for image in requested:
+            device.piece(image, file)
+            device.finish(image)
+        device.flash[device.place(0, side=1) + 40] ^= 1
+        self.assertEqual(device.start().images, (1,))
+        device.flash[device.place(0, side=1) + 40] ^= 1
+        return device
+
+    def test_a_loader_boots_once_more_after_a_boot_that_reverted(self):
+        single, device = self.on_trial(), self.on_trial()
+        boots, replies = [single.boot() for _ in range(3)], [device.start() for _ in range(2)]
+        self.assertEqual([it.number for it in boots], [Number.REVERTED, Number.BOOTED, Number.BOOTED])
+        self.assertEqual([(it.number, it.images, it.reverted) for it in replies], [
+            (Number.BOOTED, (), (1,)),
+            (Number.BOOTED, (), ()),
+        ])
+        self.assertEqual(replies[0].writes, boots[0].writes + boots[1].writes)
+        self.assertEqual(replies[0].versions, (Version(1), Version(1)))
+        self.assertEqual((device.flash, bytes(device._saved)), (single.flash, bytes(single._saved)))
+
+    def test_a_loader_starts_nothing_after_a_refused_second_boot(self):
+        for raises in (True, False):
+            device = self.on_trial(raises_refusals=raises)
+            device.flash[device.place(0) + 40] ^= 1
+            if raises:
+                with self.assertRaises(bootswap.Refused) as caught:
+                    device.start()
+                self.assertEqual(str(caught.exception), "boot is refused: RunningDamaged 0")
+            reply = caught.exception.reply if raises else device.start()
+            self.assertEqual((reply.number, reply.fault, reply.detail), (Number.REFUSED, Fault.RunningDamaged, 0))
+            self.assertEqual((reply.reverted, reply.writes > 0, device.is_booted), ((1,), True, False))
+
+    def test_the_cuts_of_a_start_count_the_writes_of_both_boots(self):
+        device = self.on_trial(requested=(0, 1))
+        kept, flash, numbers = bytes(device._saved), bytes(device.flash), set()
+        first = device.boot().writes
+        second = device.boot()
+        self.assertEqual((second.images, second.writes > 20), ((0,), True))
+        for write in range(1, first + second.writes + 1):
+            device.flash[:], device._saved = flash, type(device._saved).from_buffer_copy(kept)
+            reply = device.start([Cut(write, b"\x5a"), Cut(2**64 - 1)])
+            self.assertEqual((reply.number, reply.writes, device.is_booted), (Number.CUT, write, False))
+            self.assertEqual(reply.reverted, (1,) if write > first else ())
+            reply = device.start()
+            self.assertEqual((reply.number, reply.images, reply.versions[1]), (Number.BOOTED, (0,), Version(1)))
+            numbers.add(reply.reverted)
+        self.assertEqual(numbers, {(), (1,)})
+
+    def test_a_refused_manifest_without_components_says_why(self):
+        def refuse(*given):
+            result = given[-1]._obj
+            result.fault, result.detail = Fault.Manifest, 3
+            return Number.REFUSED
+
+        device = Device(512, [2])
+        with mock.patch.object(bootswap._LIBRARY, "bootswap_accept", refuse):
+            with self.assertRaises(bootswap.Refused) as caught:
+                device.accept(3, [])
+        self.assertEqual(str(caught.exception), "accept is refused: Manifest BadValue")
+        self.assertEqual(caught.exception.reply.detail, ManifestFault.BadValue)
 
     def test_what_a_boot_refuses_is_told_as_fields(self):
         device = device_of("either")
