@@ -476,7 +476,7 @@ class Devices(unittest.TestCase):
         self.assertEqual((second.images, second.writes > 20), ((0,), True))
         for write in range(1, first + second.writes + 1):
             device.flash[:], device._saved = flash, type(device._saved).from_buffer_copy(kept)
-            reply = device.start([Cut(write, b"\x5a"), Cut(2**64 - 1)])
+            reply = device.start([Cut(write), Cut(2**64 - 1)])
             self.assertEqual((reply.number, reply.writes, device.is_booted), (Number.CUT, write, False))
             self.assertEqual(reply.reverted, (1,) if write > first else ())
             reply = device.start()
