@@ -145,13 +145,13 @@ class ManifestMemoryTest(CaseTest):
                 self.case(f"calls in two threads with {compiler}", faults)
 
     def test_without_threads(self):
-        """On a machine without variables of threads it compiles to none."""
+        """For a machine without thread-local variables it compiles to none."""
         with tempfile.TemporaryDirectory(prefix="bootswap-library-") as folder:
             for flag in ("-ffreestanding", "-DBOOTSWAP_NO_THREADS"):
                 made = f"{folder}/manifest.o"
                 faults, _ = ran(["cc", *STRICT, flag, "-c", f"{ROOT}/bindings/c/manifest.c", "-o", made])
                 _, output = ran(["objdump", "--section-headers", made])
-                self.case(f"manifest.c with {flag}", faults + ["it has variables of threads"] * (b".tbss" in output))
+                self.case(f"manifest.c with {flag}", faults + ["it has thread-local variables"] * (b".tbss" in output))
 
 
 @needs_compiler

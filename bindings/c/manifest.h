@@ -2,8 +2,8 @@
  * Reads the JSON text of a manifest in memory of the caller, without a heap. Link
  * `libbootswap_manifest.a` beside manifest.c and `libbootswap.a`.
  *
- * manifest.c has two variables of each thread (`_Thread_local`). On a machine whose program has no
- * such variables, compile it with `-ffreestanding` or with `-DBOOTSWAP_NO_THREADS`.
+ * manifest.c has two thread-local variables (`_Thread_local`). For a machine without these, compile
+ * it with `-ffreestanding` or with `-DBOOTSWAP_NO_THREADS`.
  */
 #ifndef BOOTSWAP_READ_MANIFEST_H
 #define BOOTSWAP_READ_MANIFEST_H
