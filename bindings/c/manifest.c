@@ -18,7 +18,7 @@ void rattle_dealloc(void *bytes);
 /* No alignment is larger, and each divides it. */
 enum { UNIT = 16 };
 
-/* Each thread has its own, since rattle_alloc isn't passed the memory of its call. */
+/* The memory of a call is in variables of its thread, since rattle_alloc isn't passed it. */
 #if __STDC_HOSTED__ && !defined BOOTSWAP_NO_THREADS
 #define PER_THREAD _Thread_local
 #else
