@@ -138,6 +138,7 @@ static bool take_event(struct event *event) {
     for (size_t i = 0; i < sizeof words / sizeof words[0]; i++) {
         if (take_word(words[i].word)) {
             event->kind = words[i].kind;
+            break;
         }
     }
     switch (event->kind) {

@@ -69,6 +69,7 @@ LINES = [
 ]
 UNREADABLE = ["", "boot now", "boo", " boot", "boot ", "confirm 256", "finish", "finish 0 0"]
 UNREADABLE += ["finish  0", "piece 0 5", "piece 0 5G", "piece 0", "piece 0 ", "piece 0 -5"]
+UNREADABLE += ["boot reset", "boot provision", "finish confirm 0", "accept piece 0 -"]
 UNREADABLE += [f"piece 1 {8193 * '5a'}", 40000 * "z", "accept 1"]
 UNREADABLE += [f"accept 4294967296 0 test 3 {DIGEST} -", f"accept 1 0 test 3 {DIGEST}"]
 UNREADABLE += [f"accept 1 0 test 3 {DIGEST}5a -", f"accept 1{9 * f' 0 test 3 {DIGEST} -'}"]
