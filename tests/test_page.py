@@ -1,6 +1,7 @@
 """What the page of web/ shows, how it looks, and its links and controls."""
 
 import base64
+import http.client
 import json
 import os
 import shutil
@@ -92,6 +93,14 @@ WRONG = {
     "an upload of nothing": acting(BOOT, {"do": "upload", "rows": []}),
     "an upload of no version": acting(BOOT, {"do": "upload", "rows": [{**PAIR[0], "version": "x"}]}),
     "an upload of one image twice": acting(BOOT, {"do": "upload", "rows": [PAIR[0], PAIR[0]]}),
+    "a list": hash_of([]),
+    "a further key of an action": acting({**BOOT, "then": "\u2028"}),
+    "an argument of another action": acting({**BOOT, "image": 0}),
+    "a further key of a cut": acting({"do": "boot", "cut": {"write": 1, "left": "keep", "then": "\u2028"}}),
+    "a further key of an upload": acting(BOOT, {"do": "upload", "rows": [{**PAIR[0], "then": "\u2028"}]}),
+    "a line separator in a version": acting(BOOT, {"do": "upload", "rows": [{**PAIR[0], "version": "2.0.0\u2028"}]}),
+    "a line separator in what an image needs": acting(BOOT, {"do": "upload", "rows": [{**PAIR[0], "needs": "1\u20282.0.0"}]}),
+    "a line separator for a request": acting(BOOT, {"do": "upload", "rows": [{**PAIR[0], "permanent": "\u2028"}]}),
 }
 
 # The links on the page to scenes, and the events of these.
@@ -102,6 +111,31 @@ EXAMPLES_OF_LINKS = {
     ],
     "example-refused": ["provision", "boot", "upload image 0 2.0.0+0", "boot"],
 }
+
+
+class ServeTest(ProgramTest):
+    """`web/serve` without a browser, over any file in place of the library."""
+
+    def test_names(self):
+        """It answers each name: a file that isn't there, and a name that no file can have."""
+        with open(f"{self.folder}/bootswap.wasm", "wb"):
+            pass
+        page = Page(self.folder)
+        self.addCleanup(page.close)
+        for name, wanted in (("index.html", 200), ("index.html?%00", 200), ("absent", 404), ("index.html%00", 404), ("%00", 404)):
+            got = self.status_of(page.address.removeprefix("http://"), f"/{name}")
+            self.case(f"/{name}", [f"{got}, and not {wanted}"] * (got != wanted))
+
+    def status_of(self, address, name):
+        """The status of the answer, or the name of the error if there is none."""
+        connection = http.client.HTTPConnection(address, timeout=10)
+        try:
+            connection.request("GET", name)
+            return connection.getresponse().status
+        except http.client.HTTPException as error:
+            return type(error).__name__
+        finally:
+            connection.close()
 
 
 @needs_browser

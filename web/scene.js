@@ -14,25 +14,38 @@ const MOST_ACTIONS = 1000;
 const MOST_PATTERN = 8;
 
 const isWhole = (value, from, to) => Number.isInteger(value) && value >= from && value <= to;
-const isText = (value) => typeof value === "string" && value.length < 1000;
+/** Whether a value is an object that has no other keys. */
+const isObject = (value, keys) =>
+  value !== null && typeof value === "object" && !Array.isArray(value) && Object.keys(value).every((it) => keys.includes(it));
+
+/** A link is in base64 of ASCII, so only a text in ASCII can go back into one. */
+const isText = (value) => typeof value === "string" && /^[ -~]{0,999}$/.test(value);
+
 const isPattern = (value) => Array.isArray(value) && isWhole(value.length, 1, MOST_PATTERN) && value.every((it) => isWhole(it, 0, 255));
-const isCut = (value) => isWhole(value?.write, 1, Number.MAX_SAFE_INTEGER) && (["keep", "done"].includes(value.left) || isPattern(value.left));
+const isCut = (value) =>
+  isObject(value, ["write", "left"]) && isWhole(value.write, 1, Number.MAX_SAFE_INTEGER) &&
+  (["keep", "done"].includes(value.left) || isPattern(value.left));
 const hasImage = ({ image }, images) => isWhole(image, 0, images - 1);
 const isRow = (row, images) =>
-  row !== null && typeof row === "object" && hasImage(row, images) && isText(row.version) && isText(row.needs) && versionOf(row.version) && needsOf(row.needs);
+  isObject(row, ["image", "version", "needs", "permanent"]) && hasImage(row, images) &&
+  [row.version, row.needs].every(isText) && versionOf(row.version) && needsOf(row.needs) && [undefined, false, true].includes(row.permanent);
+const areRows = (rows, images) =>
+  Array.isArray(rows) && rows.length > 0 && rows.every((it) => isRow(it, images)) && new Set(rows.map((it) => it.image)).size === rows.length;
 
-/** The actions. Each has a function that checks its arguments for a device with this number of images. */
+/** The actions. Each has its arguments, and a function that checks them for a device with this number of images. */
 const ACTIONS = {
-  boot: ({ cut }) => cut === undefined || isCut(cut),
-  reset: () => true,
-  confirm: hasImage,
-  withdraw: hasImage,
-  upload: ({ rows }, images) =>
-    Array.isArray(rows) && rows.length > 0 && rows.every((it) => isRow(it, images)) && new Set(rows.map((it) => it.image)).size === rows.length,
+  boot: [["cut"], ({ cut }) => cut === undefined || isCut(cut)],
+  reset: [[], () => true],
+  confirm: [["image"], hasImage],
+  withdraw: [["image"], hasImage],
+  upload: [["rows"], ({ rows }, images) => areRows(rows, images)],
 };
 
-const isAction = (action, images) =>
-  action !== null && typeof action === "object" && Object.hasOwn(ACTIONS, action.do) && ACTIONS[action.do](action, images);
+function isAction(action, images) {
+  if (!Object.hasOwn(ACTIONS, action?.do)) return false;
+  const [names, isRight] = ACTIONS[action.do];
+  return isObject(action, ["do", ...names]) && isRight(action, images);
+}
 
 /** Returns the setup and the actions of a scene in the hash of a link, or null if the hash isn't valid. */
 export function startOfHash(hash) {
@@ -43,7 +56,7 @@ export function startOfHash(hash) {
   } catch {
     return null;
   }
-  if (given === null || typeof given !== "object" || Object.keys(given).some((it) => !["images", "boots", "actions"].includes(it))) return null;
+  if (!isObject(given, ["images", "boots", "actions"])) return null;
   const { images = 2, boots = 1, actions = [] } = given;
   if (!isWhole(images, 1, MOST_IMAGES) || !isWhole(boots, 1, MOST_BOOTS)) return null;
   const isKnown = Array.isArray(actions) && actions.length <= MOST_ACTIONS && actions.every((it) => isAction(it, images));
