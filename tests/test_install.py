@@ -24,7 +24,9 @@ PLACES = {
     *(f"include/bootswap{it}.h" for it in ("", "_manifest", "_names")),
     *(f"lib/libbootswap.so.{major()}", f"lib/libbootswap.so.{version()}", "lib/pkgconfig/bootswap.pc"),
     *(f"lib/cmake/bootswap/bootswap-config{it}.cmake" for it in ("", "-version")),
-    *("share/doc/bootswap/LICENSE", "share/doc/bootswap/CHANGELOG.md", LIST),
+    *(f"share/doc/bootswap/{it}" for it in ("LICENSE", "CHANGELOG.md", "README.md")),
+    *(f"share/doc/bootswap/docs/{it}" for it in os.listdir(f"{ROOT}/docs")),
+    LIST,
     *("share/man/man1/bootswap.1", *(f"share/man/man1/bootswap-{it}.1" for it in COMMANDS)),
     *("share/man/man5/bootswap-formats.5", "share/man/man3/libbootswap.3"),
     *(f"share/man/man3/{it}.3" for it in declared("call")),
@@ -35,6 +37,32 @@ PLACES = {
 # What life.c prints with a cut of write 5, and the program of bindings/README.md.
 LIFE_PRINTS = b"power failed in write 5\npermanent\ntake 0 1.1.0+0\n"
 PYTHON_PRINTS = b"take 0 1.1.0+0\n"
+
+# What an installation says if the system's linker doesn't search its folder.
+NOT_SEARCHED = "install: programs find the library in {}/lib by LD_LIBRARY_PATH, or if /etc/ld.so.conf names it and ldconfig ran\n"
+
+# Installs below /usr/local on a system of its own: this one, over which a layer lies that is thrown away. Then the library is
+# found without an environment that says where, until it is removed.
+SYSTEM = r"""
+set -e
+mount -t tmpfs tmpfs "$1"
+mkdir "$1/upper" "$1/work" "$1/root"
+mount -t overlay overlay -o lowerdir=/,upperdir="$1/upper",workdir="$1/work" "$1/root"
+mkdir -p "$1/root$2"
+mount --bind "$2" "$1/root$2"
+mount --bind /dev "$1/root/dev"
+exec chroot "$1/root" /bin/bash -c "$USES" uses "$2" "$3" "$4"
+"""
+USES = r"""
+set -e
+cd "$1"
+load() { "$1" -c 'import ctypes, sys; ctypes.CDLL(sys.argv[1])' "$2" 2> /dev/null && echo found || echo absent; }
+tools/install
+load "$2" "$3"
+tools/uninstall
+load "$2" "$3"
+ldconfig -p | grep bootswap || echo "not in the cache"
+"""
 
 CMAKE_LISTS = """cmake_minimum_required(VERSION 3.16)
 project(life C)
@@ -56,7 +84,8 @@ class InstallTest(BuiltCloneTest):
 
     def install(self):
         """Installs below the prefix of this test."""
-        self.expect_tool("it is installed", "install", "--prefix", self.prefix)
+        said = NOT_SEARCHED.format(self.prefix).encode()
+        self.expect_tool("it is installed", "install", "--prefix", self.prefix, said=said)
         return {**os.environ, "LD_LIBRARY_PATH": f"{self.prefix}/lib"}
 
     def test_files(self):
@@ -89,6 +118,58 @@ class InstallTest(BuiltCloneTest):
         self.case("what is left", [str(left)] * (left != ["lib", "lib/other.so"]))
         said = f"uninstall: nothing is installed: there is no {self.prefix}/{LIST}\n".encode()
         self.expect_tool("it can't be removed twice", "uninstall", "--prefix", self.prefix, status=1, said=said)
+
+    def test_repeated(self):
+        """What couldn't be removed because of one file is removed once that file is."""
+        self.install()
+        fault = f"{self.prefix}/lib/libbootswap.a"
+        os.remove(fault)
+        os.mkdir(fault)
+        said = f"uninstall: {fault}: Is a directory\n".encode()
+        self.expect_tool("a folder is in the way", "uninstall", "--prefix", self.prefix, status=1, said=said)
+        os.rmdir(fault)
+        self.expect_tool("it is removed", "uninstall", "--prefix", self.prefix)
+        self.case("nothing is left", os.listdir(self.prefix))
+
+    def test_compiled(self):
+        """What Python compiled of the files is removed too, but nothing of other files."""
+        self.install()
+        (module,) = (it for it in places_below(self.prefix) if it.endswith("/bootswap.py"))
+        folder = f"{self.prefix}/{os.path.dirname(module)}"
+        shutil.copy(f"{self.prefix}/{module}", f"{folder}/bootswap_other.py")
+        words = [sys.executable, "-m", "compileall", "-q", self.prefix]
+        faults, _ = ran(words, env={**os.environ, "PYTHONPYCACHEPREFIX": ""})
+        compiled = os.listdir(f"{folder}/__pycache__")
+        self.case("both are compiled", faults + [str(compiled)] * (len(compiled) != 2))
+        self.expect_tool("it is removed", "uninstall", "--prefix", self.prefix)
+        left = {os.path.basename(it).split(".")[0] for it in places_below(self.prefix)}
+        self.case("what is left", [str(left)] * (left != {"bootswap_other"}))
+
+    def test_modes(self):
+        """Everybody may use what is installed, whatever the umask of the caller is."""
+        self.expect_tool("it is installed", "install", "--prefix", "/usr", "--destdir", f"{self.folder}/system", umask=0o077)
+        faults = []
+        for at, folders, names in os.walk(f"{self.folder}/system"):
+            for name in [*folders, *names]:
+                found = os.lstat(f"{at}/{name}")
+                allowed = (0o755,) if stat.S_ISDIR(found.st_mode) else (0o644, 0o755)
+                is_right = stat.S_ISLNK(found.st_mode) or stat.S_IMODE(found.st_mode) in allowed
+                faults += [] if is_right else [f"{at}/{name}: {oct(found.st_mode)}"]
+        self.case("the modes", faults)
+
+    @unittest.skipUnless(os.getuid() == 0 and shutil.which("unshare"), "only root can lay a layer over the system")
+    def test_found(self):
+        """Programs find the library below /usr/local, and no longer when it is removed."""
+        layer = f"{self.folder}/layer"
+        os.mkdir(layer)
+        words = ["unshare", "--mount", "bash", "-c", SYSTEM, "layer", layer, self.clone, sys.executable]
+        words.append(f"libbootswap.so.{major()}")
+        environment = {"PATH": f"{os.path.dirname(sys.executable)}:/usr/sbin:/usr/bin:/sbin:/bin", "USES": USES, "LC_ALL": "C"}
+        done = subprocess.run(words, env=environment, stdin=subprocess.DEVNULL, capture_output=True, text=True)
+        if "mount" in done.stderr and not done.stdout:
+            self.skipTest(f"no layer can be laid over the system here: {short(done.stderr.encode())}")
+        wanted = "found\nabsent\nnot in the cache\n"
+        self.case("by the linker's cache", [done.stdout, done.stderr] * ((done.stdout, done.stderr) != (wanted, "")))
 
     def test_again(self):
         """An installation over an older one leaves nothing of the older one."""

@@ -4,6 +4,8 @@
 """
 
 import argparse
+import contextlib
+import glob
 import os
 import re
 import shutil
@@ -28,8 +30,9 @@ COMPLETIONS = {
     "fish": "share/fish/vendor_completions.d/bootswap.fish",
 }
 
-# Where the examples are, those of bindings/c among them.
-EXAMPLES = "share/doc/bootswap/examples"
+# Where the documents and the examples are, those of bindings/c among them.
+DOCUMENTS = "share/doc/bootswap"
+EXAMPLES = f"{DOCUMENTS}/examples"
 
 PKG_CONFIG = """prefix={prefix}
 includedir=${{prefix}}/include
@@ -104,14 +107,14 @@ def share(archives, shared):
 
 def items(prefix, python, program, archives, shared):
     """Returns the files of an installation below a prefix: the program, the static libraries and the shared one, the module
-    of Python in its folder, and what belongs to them."""
+    of Python in its folder, the documents, and what belongs to them."""
     library = [*shared_items("lib", shared), *library_items(prefix, "lib", archives, day_of(program))]
-    return [*program_items(program), *library, *python_items(python)]
+    return [*program_items(program), *library, *python_items(python), *document_items()]
 
 
 def program_items(program):
-    """Returns the files of the program: itself, its manual pages and completions, which it prints, the page of its formats, and
-    its documents."""
+    """Returns the files of the program: itself, its manual pages and completions, which it prints, the page of its formats, its
+    licence, and the examples."""
     commands = [[], *([it] for it in commands_of(program))]
     pages = {"-".join(["bootswap", *words]): ["help", "man", *words] for words in commands}
     return [
@@ -119,10 +122,16 @@ def program_items(program):
         *(Item(f"share/man/man1/{name}.1", contents=printed(program, words)) for name, words in pages.items()),
         Item("share/man/man5/bootswap-formats.5", text=formats_page(text_of(f"{ROOT}/{SOURCE}"), day_of(program), version())),
         *(Item(place, contents=printed(program, ["help", "completions", it])) for it, place in COMPLETIONS.items()),
-        Item("share/doc/bootswap/LICENSE", f"{ROOT}/LICENSE"),
-        Item("share/doc/bootswap/CHANGELOG.md", f"{ROOT}/CHANGELOG.md"),
+        Item(f"{DOCUMENTS}/LICENSE", f"{ROOT}/LICENSE"),
         *copies(f"{ROOT}/examples", EXAMPLES),
     ]
+
+
+def document_items():
+    """Returns the documents, which the manual pages name. Their links to each other lead to the same places as in the
+    repository."""
+    top = [Item(f"{DOCUMENTS}/{it}", f"{ROOT}/{it}") for it in ("README.md", "CHANGELOG.md")]
+    return [*top, *copies(f"{ROOT}/docs", f"{DOCUMENTS}/docs")]
 
 
 def commands_of(program):
@@ -201,10 +210,20 @@ def install(top, every):
     every = sorted([*every, Item(LIST)], key=lambda it: it.place)
     folders = sorted({it for item in every for it in folders_to(top, item.place)})
     places = [*folders, *(it.place for it in every)]
-    os.makedirs(os.path.dirname(f"{top}/{LIST}"), exist_ok=True)
-    for item in [Item(LIST, text="".join(f"{it}\n" for it in places)), *(it for it in every if it.place != LIST)]:
-        os.makedirs(os.path.dirname(f"{top}/{item.place}"), exist_ok=True)
-        put(f"{top}/{item.place}", item)
+    with usual_modes():
+        for item in [Item(LIST, text="".join(f"{it}\n" for it in places)), *(it for it in every if it.place != LIST)]:
+            os.makedirs(os.path.dirname(f"{top}/{item.place}"), exist_ok=True)
+            put(f"{top}/{item.place}", item)
+
+
+@contextlib.contextmanager
+def usual_modes():
+    """Lets everybody use new folders, whatever the umask of the caller is."""
+    before = os.umask(0o022)
+    try:
+        yield
+    finally:
+        os.umask(before)
 
 
 def folders_to(top, place):
@@ -232,16 +251,37 @@ def put(file, item):
 
 
 def uninstall(top):
-    """Removes what the list names: its files, and those of its folders that are empty then. Returns whether there was a
-    list."""
+    """Removes what the list names: its files, what Python compiled of them, and those of its folders that are empty then.
+    Returns whether there was a list.
+
+    The list is the last file, so that an uninstallation that failed can be repeated.
+    """
     places = (text_of(f"{top}/{LIST}") or "").splitlines()
-    for place in reversed(places):
-        if not place.endswith("/"):
+    for place in places:
+        if place != LIST and not place.endswith("/"):
             with_no_fault(os.remove, f"{top}/{place}")
+            remove_compiled(f"{top}/{place}")
+    remove_folders(top, places)
+    if places:
+        with_no_fault(os.remove, f"{top}/{LIST}")
+        remove_folders(top, places)
+    return bool(places)
+
+
+def remove_folders(top, places):
+    """Removes the folders among these places that are empty."""
     for place in reversed(places):
         if place.endswith("/"):
             with_no_fault(os.rmdir, f"{top}/{place}")
-    return bool(places)
+
+
+def remove_compiled(file):
+    """Removes what Python compiled of a file, and the folder of that if it is empty then."""
+    folder, name = os.path.split(file)
+    if name.endswith(".py"):
+        for it in glob.glob(f"{glob.escape(folder)}/__pycache__/{glob.escape(name[:-3])}.*.pyc"):
+            with_no_fault(os.remove, it)
+        with_no_fault(os.rmdir, f"{folder}/__pycache__")
 
 
 def with_no_fault(remove, path):

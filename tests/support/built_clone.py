@@ -39,7 +39,7 @@ class BuiltCloneTest(ProgramTest):
         self.clone = f"{self.folder}/clone"
         for name in NEEDED:
             shutil.copytree(f"{ROOT}/{name}", f"{self.clone}/{name}", ignore=shutil.ignore_patterns("__pycache__"))
-        for name in ("LICENSE", "CHANGELOG.md"):
+        for name in ("LICENSE", "README.md", "CHANGELOG.md"):
             shutil.copy(f"{ROOT}/{name}", self.clone)
         os.mkdir(f"{self.clone}/out")
         shutil.copy(self.program, f"{self.clone}/out/bootswap")

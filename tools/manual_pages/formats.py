@@ -9,7 +9,8 @@ SOURCE = "docs/FORMATS.md"
 SEE_ALSO = """.BR bootswap (1),
 .BR libbootswap (3)
 .PP
-The documents that this page names are in the folder docs of the sources."""
+The documents that this page names are in the folder share/doc/bootswap/docs of an installation. On Debian this is
+/usr/share/doc/bootswap/docs, of the package bootswap\\-doc."""
 
 
 def formats_page(text, day, version):

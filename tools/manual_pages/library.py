@@ -23,7 +23,8 @@ SEE_ALSO = """.BR bootswap (1),
 .BR pkg\\-config (1),
 .BR bootswap\\-formats (5)
 .PP
-The documents that this page names are in the folder docs of the sources. The files of bindings/c are among the examples."""
+The documents that this page names are in the folder share/doc/bootswap of an installation. On Debian this is
+/usr/share/doc/bootswap, of the package bootswap\\-doc. The files of bindings/c are among the examples."""
 
 # What a comment names: code in quotes, and what the headers declare.
 NAMED = re.compile(r"`([^`]+)`|\b((?:BOOTSWAP|bootswap)_\w+(?:\.h)?)")
