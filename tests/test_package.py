@@ -1,8 +1,11 @@
 """The packages that `tools/package` makes."""
 
+import gzip
 import os
+import re
 import shutil
 import subprocess
+import sys
 import unittest
 
 from support.built_clone import LIBRARIES, BuiltCloneTest
@@ -21,7 +24,10 @@ SECONDS = "1700000000"
 # What the packed program prints as its version.
 VERSION = f"bootswap {version()} ({COMMIT[:12]})\n"
 
-DEBIAN = tuple(f"{it}_{version()}_amd64.deb" for it in ("bootswap", "libbootswap-dev", "python3-bootswap"))
+DEBIAN = (
+    *(f"{it}_{version()}_amd64.deb" for it in ("bootswap", "libbootswap-dev", "python3-bootswap")),
+    f"bootswap-doc_{version()}_all.deb",
+)
 ARCHIVES = (f"bootswap-{version()}-x86_64-linux.tar.xz", f"libbootswap-{version()}-aarch64-linux.tar.xz")
 
 # Some files of each package, the others being examples and documents.
@@ -39,7 +45,52 @@ FILES = {
         *("share/man/man3/libbootswap.3.gz", "share/man/man3/bootswap_boot.3.gz"),
     },
     "python3-bootswap": {"lib/python3/dist-packages/bootswap.py"},
+    "bootswap-doc": {"share/doc/bootswap/README.md", "share/doc/bootswap/docs/TUTORIAL.md"},
 }
+
+# Changes, and how Debian's tools show those of the packages that are made of them.
+CHANGELOG = f"""# Changelog
+
+## What a version promises
+
+- Nothing.
+
+## [Unreleased]
+
+### Added
+
+- A new
+  option.
+
+## [{version()}] - 2026-02-03
+
+Some words.
+
+### Fixed
+
+- `a` and [b](docs/B.md).
+- c
+
+## [0.9.0] - 2026-01-02
+
+- d
+"""
+CHANGES = f"""Changes:
+ bootswap ({version()}) unstable; urgency=medium
+ .
+   [ Not released: Added ]
+   * A new option.
+ .
+   * Some words.
+ .
+   [ Fixed ]
+   * `a` and b.
+   * c
+ .
+ bootswap (0.9.0) unstable; urgency=medium
+ .
+   * d
+"""
 
 # What a user does with the packages on a system of its own, and what it prints. The system is this one, over which a
 # layer lies that is thrown away. The folders of the toolchain aren't on the PATH.
@@ -53,7 +104,7 @@ bootswap provision $examples/devices/pair.json pair.flash $examples/images/one.i
 cc /usr/share/doc/libbootswap-dev/examples/c/life.c $(pkg-config --cflags --libs bootswap) -o life
 ./life $examples/images/one.img $examples/images/patched.img 5
 /usr/bin/python3 -c 'import bootswap; print(bootswap.digest(b"").hex()[:8])'
-dpkg --purge python3-bootswap libbootswap-dev bootswap > /dev/null
+dpkg --purge bootswap-doc python3-bootswap libbootswap-dev bootswap > /dev/null
 find /usr -name '*bootswap*' -newer pair.flash
 find /usr -name '*bootswap*'
 """
@@ -75,6 +126,17 @@ cd "$shift_to/root/packages" && set -- *.deb && set -- "${@/#//packages/}"
 exec chroot "$shift_to/root" /bin/bash -c "$USES" uses "$@"
 """
 
+
+# A function in which a compiler has something to check, and what a hardened library has then.
+COPIES = """
+void copies(const char *from, size_t length, char *to) {
+    char here[8];
+    memcpy(here, from, length);
+    memcpy(to, here, sizeof here);
+}
+"""
+HARDENED = ("BIND_NOW", "GNU_RELRO", "__stack_chk_fail", "__memcpy_chk")
+SHARE = "import sys; sys.path.insert(0, 'tools'); from installing import share; sys.exit(not share(sys.argv[2:], sys.argv[1]))"
 
 # A folder with a clean Debian, as `tools/try_packages --root` makes it.
 SYSTEM = os.environ.get("BOOTSWAP_DEBIAN_ROOT")
@@ -129,13 +191,49 @@ class PackageTest(PackedTest):
         faults, _ = ran(["sha256sum", "--check", "--strict", "SHA256SUMS"], cwd=self.made)
         self.case("the checksums", faults)
         seen = {}
-        for name, wanted in FILES.items():
-            _, output = ran(["dpkg-deb", "--contents", f"{self.made}/{name}_{version()}_amd64.deb"])
+        for (name, wanted), file in zip(FILES.items(), DEBIAN):
+            _, output = ran(["dpkg-deb", "--contents", f"{self.made}/{file}"])
             rows = [it.split() for it in output.decode().splitlines()]
             files = {it[5].removeprefix("./usr/") for it in rows if it[0][0] in "-l"}
             self.case(f"{name} has its files", sorted(wanted - files))
             self.case(f"{name} is root's", [" ".join(it) for it in rows if it[1] != "root/root"])
             self.case(f"{name} shares no file", sorted(it for it in files if seen.setdefault(it, name) != name))
+
+    def unpacked(self):
+        """The folder of a system that has the files of all packages of Debian."""
+        for it in DEBIAN:
+            faults, _ = ran(["dpkg-deb", "--extract", f"{self.made}/{it}", f"{self.folder}/system"])
+            self.case(f"{it} is unpacked", faults)
+        return f"{self.folder}/system"
+
+    def test_named_documents(self):
+        """Each document that a manual page names is where the page says."""
+        self.package()
+        system, named, faults = self.unpacked(), set(), []
+        for at, _, names in os.walk(f"{system}/usr/share/man"):
+            for name in names:
+                text = gzip.decompress(read(f"{at}/{name}")).decode()
+                folder = re.search(r"/usr/share/doc/[\w/]+|$", text)[0]
+                documents = {*re.findall(r"(?:docs/)?[A-Z]+\.md", text)}
+                named |= documents
+                faults += [f"{name} names {it}" for it in documents if not os.path.exists(f"{system}{folder}/{it}")]
+        self.case("they are there", sorted(faults))
+        few = {"COMMANDS.md", "FLEETS.md", "docs/PORTING.md"} - named
+        self.case("the pages name documents", sorted(few))
+
+    @unittest.skipUnless(shutil.which("dpkg-parsechangelog"), "there is no dpkg-parsechangelog")
+    def test_changelog(self):
+        """Each package has the changes of all versions, as Debian's tools read them. The latest entry begins with what isn't
+        released yet."""
+        with open(f"{self.clone}/CHANGELOG.md", "w", encoding="utf-8") as it:
+            it.write(CHANGELOG)
+        self.package()
+        system = self.unpacked()
+        for name in FILES:
+            changes = gzip.decompress(read(f"{system}/usr/share/doc/{name}/changelog.gz"))
+            words = ["dpkg-parsechangelog", "-l", self.file("changes", changes), "--all"]
+            faults, output = ran(words, cwd=self.folder)
+            self.case(name, faults or [output.decode()] * (CHANGES not in output.decode()))
 
     def test_archives(self):
         """An archive is unpacked to one folder, in which the program runs, or the library of a board is."""
@@ -148,6 +246,16 @@ class PackageTest(PackedTest):
         self.case("the library for ARM", [] if read(f"{arm}/lib/libbootswap.a") == read(self.arm[0]) else ["it differs"])
         self.case("its header", [] if os.path.exists(f"{arm}/include/bootswap.h") else ["there is none"])
 
+    def test_hardened(self):
+        """What the C compiler makes of the shared library checks the stack and the lengths of copies, and has no table of calls
+        that can be written."""
+        with open(f"{self.clone}/bindings/c/manifest.c", "a", encoding="utf-8") as it:
+            it.write(COPIES)
+        library = f"{self.folder}/hardened.so"
+        faults, _ = ran([sys.executable, "-B", "-c", SHARE, library, *self.archives], cwd=self.clone)
+        _, output = ran(["readelf", "--wide", "--segments", "--dynamic", "--dyn-syms", library])
+        self.case("it has", faults + [it for it in HARDENED if it not in output.decode()])
+
     @unittest.skipUnless(shutil.which("lintian"), "there is no lintian")
     def test_lintian(self):
         """Debian's checker of packages has nothing to say."""
@@ -158,7 +266,7 @@ class PackageTest(PackedTest):
 
     @unittest.skipUnless(os.getuid() == 0 and shutil.which("unshare"), "only root can lay a layer over the system")
     def test_used(self):
-        """The three packages are enough for the program, a C program and a Python program. Removed, nothing is left."""
+        """The packages are enough for the program, a C program and a Python program. Removed, nothing is left."""
         self.package()
         layer = f"{self.folder}/layer"
         os.mkdir(layer)
@@ -171,9 +279,9 @@ class PackageTest(PackedTest):
 
     def test_refusals(self):
         """What isn't built, and arguments, are refused."""
-        os.remove(f"{self.clone}/out/{ARM_TARGET}/libbootswap.a")
-        said = f"package: out/{ARM_TARGET}/libbootswap.a isn't built: run bindings/build --target {ARM_TARGET}\n".encode()
-        self.expect_tool("without the library for ARM", "package", status=1, said=said, env=self.environment)
+        os.remove(f"{self.clone}/out/libbootswap.a")
+        said = b"package: out/libbootswap.a isn't built: run bindings/build\n"
+        self.expect_tool("without the library", "package", status=1, said=said, env=self.environment)
         status, _ = self.run_tool("package", "all")
         self.case("with an argument", [f"status {status}"] * (status != 2))
         del self.environment["SOURCE_DATE_EPOCH"]
@@ -185,6 +293,20 @@ class PackageTest(PackedTest):
         del self.environment["SOURCE_COMMIT"]
         said = b"package: commit the changes first, or name the commit of the sources in SOURCE_COMMIT\n"
         self.expect_tool("without a commit", "package", status=1, said=said, env=self.environment)
+
+    def test_without_arm(self):
+        """If the library for ARM isn't built, its archive is left out, and so is one that was made before."""
+        self.package()
+        os.remove(f"{self.clone}/out/{ARM_TARGET}/libbootswap.a")
+        status, said = self.run_tool("package", env=self.environment)
+        lines = [f"out/packages/{it}" for it in (*DEBIAN, ARCHIVES[0], "SHA256SUMS")]
+        lines.append(f"package: {ARCHIVES[1]} is left out: out/{ARM_TARGET}/libbootswap.a isn't built: "
+                     f"run bindings/build --target {ARM_TARGET}")
+        self.case("it says so", [said.decode()] * (status != 0 or sorted(said.decode().splitlines()) != sorted(lines)))
+        faults, output = ran(["sha256sum", "--check", "--strict", "SHA256SUMS"], cwd=self.made)
+        faults += [output.decode()] * (len(output.splitlines()) != len(DEBIAN) + 1)
+        self.case("the checksums", faults)
+        self.case("no older archive", [ARCHIVES[1]] * os.path.exists(f"{self.made}/{ARCHIVES[1]}"))
 
     def test_nothing_to_try(self):
         """Without packages nothing is tried, and no system is made."""

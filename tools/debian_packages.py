@@ -1,4 +1,4 @@
-"""The packages for Debian: `bootswap`, `libbootswap-dev` and `python3-bootswap`."""
+"""The packages for Debian: `bootswap`, `libbootswap-dev`, `python3-bootswap` and `bootswap-doc`."""
 
 import gzip
 import hashlib
@@ -8,7 +8,8 @@ import subprocess
 import time
 from typing import NamedTuple
 
-from installing import Item, day_of, library_items, major, program_items, put, python_items, shared_items, version
+from debian_changelog import debian_changelog
+from installing import Item, day_of, document_items, library_items, major, program_items, put, python_items, shared_items, version
 from sealed_archives import paths_below
 
 PREFIX = "usr"
@@ -17,11 +18,10 @@ MAINTAINER = "Burinwhite maintainers <maintainers@users.noreply.burinwhite.examp
 
 CONTROL = """Package: {name}
 Version: {version}
-Architecture: amd64
+Architecture: {architecture}
 Maintainer: {maintainer}
 Installed-Size: {kib}
-Depends: {depends}
-Section: {section}
+{relations}Section: {section}
 Priority: optional
 Description: {about}
 """
@@ -37,13 +37,6 @@ License: Apache-2.0
 License: Apache-2.0
  On Debian systems, the complete text of the Apache License, Version 2.0, is
  in /usr/share/common-licenses/Apache-2.0.
-"""
-
-CHANGES = """bootswap ({version}) unstable; urgency=medium
-
-  * Release of version {version}: see CHANGELOG.md of the sources.
-
- -- {maintainer}  {day}
 """
 
 # The program and the shared library are one package, since both are made of the same crates.
@@ -86,6 +79,11 @@ ABOUT = {
  A device whose flash is a bytearray: for simulators, update servers and tests.
  .
  The module bootswap, over the shared library by ctypes.""",
+    "bootswap-doc": """bootloader core and updater - documentation
+ A tutorial, the pages on commands, fleets, formats and ports, the statement
+ that is proved, and how the design survives power cuts.
+ .
+ The manual pages of bootswap and libbootswap-dev name these documents.""",
 }
 
 
@@ -94,17 +92,22 @@ NAMES = tuple(ABOUT)
 
 
 class Package(NamedTuple):
-    """A package: its name, its section, what it depends on, and its files below the prefix."""
+    """A package: its name, its section, its relations to other packages, and its files below the prefix."""
 
     name: str
     section: str
-    depends: list
+    relations: dict
     files: list
+
+
+def architecture_of(name):
+    """Returns the processors that a package is for."""
+    return "all" if name == "bootswap-doc" else "amd64"
 
 
 def file_of(name):
     """Returns the file name of a package."""
-    return f"{name}_{version()}_amd64.deb"
+    return f"{name}_{version()}_{architecture_of(name)}.deb"
 
 
 def debian_packages(folder, made, seconds, built):
@@ -115,15 +118,16 @@ def debian_packages(folder, made, seconds, built):
 def packages(program, archives, shared):
     """Returns the packages and what is in them."""
     same = f"bootswap (= {version()})"
-    left_out = ("share/doc/bootswap/LICENSE", "share/doc/bootswap/CHANGELOG.md")
-    of_program = [packed(it) for it in program_items(program) if it.place not in left_out]
+    of_program = [packed(it) for it in program_items(program) if not it.place.endswith("/LICENSE")]
     of_program += shared_items(LIBRARIES, shared)
     of_library = [packed(it) for it in library_items(f"/{PREFIX}", LIBRARIES, archives, day_of(program))]
     of_python = python_items("lib/python3/dist-packages")
+    named = {"Suggests": "bootswap-doc"}
     return [
-        Package("bootswap", "devel", [libc_of(program, shared)], of_program),
-        Package("libbootswap-dev", "libdevel", [same], moved(of_library, "libbootswap-dev")),
-        Package("python3-bootswap", "python", [same, "python3:any (>= 3.9)"], of_python),
+        Package("bootswap", "devel", {"Depends": libc_of(program, shared), **named}, of_program),
+        Package("libbootswap-dev", "libdevel", {"Depends": same, **named}, moved(of_library, "libbootswap-dev")),
+        Package("python3-bootswap", "python", {"Depends": f"{same}, python3:any (>= 3.9)"}, of_python),
+        Package("bootswap-doc", "doc", {}, document_items()),
     ]
 
 
@@ -165,9 +169,8 @@ def debian_package(package, folder, top, seconds):
 
 def documents_of(package, seconds):
     """Returns the documents that Debian asks of a package: its licence and its changes."""
-    day = time.strftime("%a, %d %b %Y %H:%M:%S +0000", time.gmtime(seconds))
     year = time.gmtime(seconds).tm_year
-    changes = CHANGES.format(version=version(), maintainer=MAINTAINER, day=day)
+    changes = debian_changelog(MAINTAINER, seconds)
     overrides = [Item("share/lintian/overrides/bootswap", text=OVERRIDES)] if package.name == "bootswap" else []
     return [
         *overrides,
@@ -183,8 +186,8 @@ def seal(top, package):
     files = [it for it in paths_below(f"{top}/{PREFIX}") if os.path.isfile(it) and not os.path.islink(it)]
     sums = [f"{digest_of(it)}  {os.path.relpath(it, top)}\n" for it in files]
     fields = {"name": package.name, "version": version(), "maintainer": MAINTAINER, "section": package.section}
-    fields.update(kib=-(-sum(map(os.path.getsize, files)) // 1024), depends=", ".join(package.depends))
-    fields.update(about=ABOUT[package.name])
+    fields.update(kib=-(-sum(map(os.path.getsize, files)) // 1024), architecture=architecture_of(package.name))
+    fields.update(relations="".join(f"{key}: {it}\n" for key, it in package.relations.items()), about=ABOUT[package.name])
     write(f"{top}/DEBIAN/control", CONTROL.format(**fields))
     write(f"{top}/DEBIAN/md5sums", "".join(sums))
     if any(it.place.startswith(f"{LIBRARIES}/libbootswap.so.") for it in package.files):

@@ -34,6 +34,10 @@ COMPLETIONS = {
 DOCUMENTS = "share/doc/bootswap"
 EXAMPLES = f"{DOCUMENTS}/examples"
 
+# What distributions ask of a C compiler: checks of the stack and of lengths, and no table of calls that can be written. A
+# compiler that checks lengths by default would complain of another level.
+HARDENED = ["-O2", "-fstack-protector-strong", "-U_FORTIFY_SOURCE", "-D_FORTIFY_SOURCE=2", "-Wl,-z,relro,-z,now"]
+
 PKG_CONFIG = """prefix={prefix}
 includedir=${{prefix}}/include
 libdir=${{prefix}}/{libraries}
@@ -100,7 +104,7 @@ def major():
 def share(archives, shared):
     """Makes a shared library of everything in static ones, and of the memory for manifests. Returns whether it
     succeeded."""
-    words = ["cc", "-O2", "-shared", "-fPIC", "-s", f"-Wl,-soname,libbootswap.so.{major()}", "-o", shared]
+    words = ["cc", *HARDENED, "-shared", "-fPIC", "-s", f"-Wl,-soname,libbootswap.so.{major()}", "-o", shared]
     words += ["-I", f"{ROOT}/include", f"{ROOT}/bindings/c/manifest.c"]
     return subprocess.run([*words, "-Wl,--whole-archive", *archives, "-Wl,--no-whole-archive"]).returncode == 0
 
