@@ -39,10 +39,12 @@ LIFE_PRINTS = b"power failed in write 5\npermanent\ntake 0 1.1.0+0\n"
 PYTHON_PRINTS = b"take 0 1.1.0+0\n"
 
 # What an installation says if the system's linker doesn't search its folder.
-NOT_SEARCHED = "install: programs find the library in {}/lib by LD_LIBRARY_PATH, or if /etc/ld.so.conf names it and ldconfig ran\n"
+NOT_SEARCHED = (
+    "install: programs find the library in {}/lib by LD_LIBRARY_PATH, or if /etc/ld.so.conf names it and ldconfig ran\n"
+)
 
-# Installs below /usr/local on a system of its own: this one, over which a layer lies that is thrown away. Then the library is
-# found without an environment that says where, until it is removed.
+# Installs below /usr/local on a system of its own: this one, over which a layer lies that is thrown away. Then the library
+# is found without an environment that says where, until it is removed.
 SYSTEM = r"""
 set -e
 mount -t tmpfs tmpfs "$1"
@@ -147,9 +149,9 @@ class InstallTest(BuiltCloneTest):
 
     def test_modes(self):
         """Everybody may use what is installed, whatever the umask of the caller is."""
-        self.expect_tool("it is installed", "install", "--prefix", "/usr", "--destdir", f"{self.folder}/system", umask=0o077)
-        faults = []
-        for at, folders, names in os.walk(f"{self.folder}/system"):
+        system, faults = f"{self.folder}/system", []
+        self.expect_tool("it is installed", "install", "--prefix", "/usr", "--destdir", system, umask=0o077)
+        for at, folders, names in os.walk(system):
             for name in [*folders, *names]:
                 found = os.lstat(f"{at}/{name}")
                 allowed = (0o755,) if stat.S_ISDIR(found.st_mode) else (0o644, 0o755)
@@ -164,7 +166,8 @@ class InstallTest(BuiltCloneTest):
         os.mkdir(layer)
         words = ["unshare", "--mount", "bash", "-c", SYSTEM, "layer", layer, self.clone, sys.executable]
         words.append(f"libbootswap.so.{major()}")
-        environment = {"PATH": f"{os.path.dirname(sys.executable)}:/usr/sbin:/usr/bin:/sbin:/bin", "USES": USES, "LC_ALL": "C"}
+        path = f"{os.path.dirname(sys.executable)}:/usr/sbin:/usr/bin:/sbin:/bin"
+        environment = {"PATH": path, "USES": USES, "LC_ALL": "C"}
         done = subprocess.run(words, env=environment, stdin=subprocess.DEVNULL, capture_output=True, text=True)
         if "mount" in done.stderr and not done.stdout:
             self.skipTest(f"no layer can be laid over the system here: {short(done.stderr.encode())}")

@@ -136,7 +136,12 @@ void copies(const char *from, size_t length, char *to) {
 }
 """
 HARDENED = ("BIND_NOW", "GNU_RELRO", "__stack_chk_fail", "__memcpy_chk")
-SHARE = "import sys; sys.path.insert(0, 'tools'); from installing import share; sys.exit(not share(sys.argv[2:], sys.argv[1]))"
+SHARE = """
+import sys
+sys.path.insert(0, "tools")
+from installing import share
+sys.exit(not share(sys.argv[2:], sys.argv[1]))
+"""
 
 # A folder with a clean Debian, as `tools/try_packages --root` makes it.
 SYSTEM = os.environ.get("BOOTSWAP_DEBIAN_ROOT")
@@ -223,8 +228,8 @@ class PackageTest(PackedTest):
 
     @unittest.skipUnless(shutil.which("dpkg-parsechangelog"), "there is no dpkg-parsechangelog")
     def test_changelog(self):
-        """Each package has the changes of all versions, as Debian's tools read them. The latest entry begins with what isn't
-        released yet."""
+        """Each package has the changes of all versions, as Debian's tools read them. The latest entry begins with what
+        isn't released yet."""
         with open(f"{self.clone}/CHANGELOG.md", "w", encoding="utf-8") as it:
             it.write(CHANGELOG)
         self.package()
@@ -247,8 +252,8 @@ class PackageTest(PackedTest):
         self.case("its header", [] if os.path.exists(f"{arm}/include/bootswap.h") else ["there is none"])
 
     def test_hardened(self):
-        """What the C compiler makes of the shared library checks the stack and the lengths of copies, and has no table of calls
-        that can be written."""
+        """What the C compiler makes of the shared library checks the stack and the lengths of copies, and has no table of
+        calls that can be written."""
         with open(f"{self.clone}/bindings/c/manifest.c", "a", encoding="utf-8") as it:
             it.write(COPIES)
         library = f"{self.folder}/hardened.so"

@@ -99,7 +99,7 @@ WRONG = {
     "a further key of a cut": acting({"do": "boot", "cut": {"write": 1, "left": "keep", "then": "\u2028"}}),
     "a further key of an upload": acting(BOOT, {"do": "upload", "rows": [{**PAIR[0], "then": "\u2028"}]}),
     "a line separator in a version": acting(BOOT, {"do": "upload", "rows": [{**PAIR[0], "version": "2.0.0\u2028"}]}),
-    "a line separator in what an image needs": acting(BOOT, {"do": "upload", "rows": [{**PAIR[0], "needs": "1\u20282.0.0"}]}),
+    "a line separator in a need": acting(BOOT, {"do": "upload", "rows": [{**PAIR[0], "needs": "1\u20282.0.0"}]}),
     "a line separator for a request": acting(BOOT, {"do": "upload", "rows": [{**PAIR[0], "permanent": "\u2028"}]}),
 }
 
@@ -122,7 +122,8 @@ class ServeTest(ProgramTest):
             pass
         page = Page(self.folder)
         self.addCleanup(page.close)
-        for name, wanted in (("index.html", 200), ("index.html?%00", 200), ("absent", 404), ("index.html%00", 404), ("%00", 404)):
+        answers = {"index.html": 200, "index.html?%00": 200, "absent": 404, "index.html%00": 404, "%00": 404}
+        for name, wanted in answers.items():
             got = self.status_of(page.address.removeprefix("http://"), f"/{name}")
             self.case(f"/{name}", [f"{got}, and not {wanted}"] * (got != wanted))
 

@@ -9,7 +9,8 @@ import time
 from typing import NamedTuple
 
 from debian_changelog import debian_changelog
-from installing import Item, day_of, document_items, library_items, major, program_items, put, python_items, shared_items, version
+from installing import Item, day_of, major, put, version
+from installing import document_items, library_items, program_items, python_items, shared_items
 from sealed_archives import paths_below
 
 PREFIX = "usr"

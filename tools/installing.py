@@ -117,8 +117,8 @@ def items(prefix, python, program, archives, shared):
 
 
 def program_items(program):
-    """Returns the files of the program: itself, its manual pages and completions, which it prints, the page of its formats, its
-    licence, and the examples."""
+    """Returns the files of the program: itself, its manual pages and completions, which it prints, the page of its formats,
+    its licence, and the examples."""
     commands = [[], *([it] for it in commands_of(program))]
     pages = {"-".join(["bootswap", *words]): ["help", "man", *words] for words in commands}
     return [
