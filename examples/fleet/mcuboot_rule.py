@@ -23,7 +23,7 @@ import sys
 
 sys.dont_write_bytecode = True
 
-from fleet_tables import Entry, Image, Version, devices_in, read_table, version_text
+from fleet_tables import Entry, Image, Version, devices_in, lines_in, read_table, version_text
 
 EXAMPLE = """example:
   examples/fleet/make_fleet.py --devices 1000 > out/fleet.txt
@@ -85,7 +85,7 @@ def main() -> None:
     parser.add_argument("--rule", choices=RULES, default="code", help="default: code")
     args = parser.parse_args()
     with sys.stdin.buffer if args.fleet == "-" else open(args.fleet, "rb") as fleet:
-        for name, table in devices_in(fleet):
+        for name, table in devices_in(lines_in(fleet)):
             print(f"device {name}\n{lines_of(table, args.rule)}", end="")
 
 
