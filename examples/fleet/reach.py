@@ -2,19 +2,30 @@
 """Prints what a release reaches, as bars: what devices take, and which requests they refuse and why.
 
 It reads a summary of `bootswap plan --summary`. Each bar is a share of all devices. A device takes one set, and may refuse
-several requests.
+several requests. The exit status is 1 if the summary has another line.
 """
 
 from __future__ import annotations
 
 import argparse
 import html
+import re
 import sys
-from typing import NamedTuple
+from typing import BinaryIO, NamedTuple
+
+sys.dont_write_bytecode = True
+
+from pictures import PictureError, add_picture, picture_of
 
 EXAMPLE = """example:
   ./bootswap plan out/fleet.txt --summary | examples/fleet/reach.py -
 """
+
+# A line of a summary.
+LINE = re.compile(rb"([1-9][0-9]{0,19}) [!-~]{1,255} ([ -~]+)\n?")
+
+# No line is longer: a key has at most a reason with eight versions.
+MOST_LINE = 1024
 
 # The widths in characters of a label and of the longest bar.
 LABEL, WIDTH = 44, 40
@@ -43,9 +54,22 @@ def label_of(key: str) -> tuple[str, str]:
     return "not taken", {"bad": "bad table", "not-valid": "running images don't fit"}.get(word, key)
 
 
-def rows_of(lines: list[str], most: int) -> tuple[int, list[Row]]:
+def counts_in(stream: BinaryIO) -> dict[str, int]:
+    """Returns the count of each key of a summary, or ends the program at a wrong line."""
+    counts: dict[str, int] = {}
+    for number, line in enumerate(iter(lambda: stream.readline(MOST_LINE), b""), 1):
+        found = LINE.fullmatch(line)
+        key = found[2].decode("ascii") if found else ""
+        if not found or key in counts or len(line) == MOST_LINE:
+            raise SystemExit(f"reach.py: line {number} isn't one of a summary")
+        counts[key] = int(found[1])
+    if counts and max(counts.values()) > counts.get("device", 0):
+        raise SystemExit("reach.py: the summary counts fewer devices than results")
+    return counts
+
+
+def rows_of(counts: dict[str, int], most: int) -> tuple[int, list[Row]]:
     """Returns the number of devices, and the bars: for the sets and for the refusals the most frequent ones first."""
-    counts = {key: int(count) for count, _, key in (line.rstrip("\n").split(" ", 2) for line in lines)}
     devices = counts.pop("device", 0)
     rows = [Row(*label_of(key), count) for key, count in counts.items()]
     rows.sort(key=lambda it: (it.kind == "refuse", -it.count))
@@ -91,14 +115,17 @@ def main() -> None:
     )
     parser.add_argument("summary", metavar="SUMMARY", help="file of a summary; - is standard input")
     parser.add_argument("--most", type=int, default=12, metavar="N", help="bars of a kind; default: %(default)s")
-    parser.add_argument("--svg", metavar="FILE", help="draw the bars into this file too")
+    add_picture(parser, "--svg", "draw the bars into this file too")
     args = parser.parse_args()
-    with sys.stdin if args.summary == "-" else open(args.summary, encoding="ascii") as lines:
-        devices, rows = rows_of([*lines], args.most)
-    print(text_of(devices, rows), end="")
-    if args.svg:
-        with open(args.svg, "w", encoding="utf-8") as it:
-            it.write(svg_of(devices, rows))
+    picture = picture_of(args.svg, [0 if args.summary == "-" else args.summary], args.force)
+    with sys.stdin.buffer if args.summary == "-" else open(args.summary, "rb") as stream:
+        devices, rows = rows_of(counts_in(stream), args.most)
+    print(text_of(devices, rows), end="", flush=True)
+    if picture:
+        try:
+            picture.write(svg_of(devices, rows).encode())
+        except PictureError as error:
+            raise SystemExit(str(error)) from None
 
 
 if __name__ == "__main__":

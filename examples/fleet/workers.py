@@ -7,12 +7,18 @@ import collections
 import contextlib
 import functools
 import os
+import shutil
+import subprocess
+import sys
 from collections.abc import Callable, Iterable, Iterator
 from concurrent.futures import ThreadPoolExecutor
 from typing import Any
 
 OUT = os.path.realpath(f"{os.path.dirname(os.path.realpath(__file__))}/../../out")
 PROGRAM = f"{OUT}/bootswap" if os.access(f"{OUT}/bootswap", os.X_OK) else "bootswap"
+
+# Has Linux kill a process once the thread that started it ends, also by SIGKILL. The shell sees an end before that.
+WITH_STARTER = ["setpriv", "--pdeathsig", "KILL", "sh", "-c", '[ "$PPID" = "$0" ] && exec "$@"']
 
 # The most parts that are held for each worker, so that it never waits for the next one.
 AHEAD = 3
@@ -25,11 +31,29 @@ def local_workers(processes: int) -> Iterator[tuple[Callable[..., Any], int]]:
         yield pool.submit, processes
 
 
+def bound(words: list[str]) -> list[str]:
+    """Returns the words of a command that ends with this process, where there is setpriv (util-linux 2.33)."""
+    return [*WITH_STARTER, str(os.getpid()), *words] if shutil.which("setpriv") else words
+
+
+def repeated(call: Callable[[], Any]) -> Any:
+    """Returns what a call returns. If its process doesn't end in time, since it is stopped or hangs, it is called once more."""
+    with contextlib.suppress(subprocess.TimeoutExpired):
+        return call()
+    try:
+        return call()
+    except subprocess.TimeoutExpired as error:
+        raise RuntimeError(f"a worker didn't end within {error.timeout:g} s, twice") from None
+
+
 @contextlib.contextmanager
 def dask_workers(address: str) -> Iterator[tuple[Callable[..., Any], int]]:
     """Yields the same for the workers of a dask scheduler, once there is one."""
+    import cloudpickle
     from distributed import Client
 
+    # The workers get the code of this module too.
+    cloudpickle.register_pickle_by_value(sys.modules[__name__])
     with Client(address) as client:
         client.wait_for_workers(1)
         # A part is passed as an argument, which the scheduler keeps. A scattered one would be lost with its worker.
@@ -52,9 +76,19 @@ def in_order(submit: Callable[[Any], Any], parts: Iterable[Any], most: int) -> I
         yield waiting.popleft().result()
 
 
-def add_workers(parser: argparse.ArgumentParser) -> None:
-    """Adds the arguments that name the program and the workers."""
+def positive(text: str) -> int:
+    """Returns a number from 1 on."""
+    number = int(text)
+    if number < 1:
+        raise ValueError
+    return number
+
+
+def add_workers(parser: argparse.ArgumentParser, limit: str) -> None:
+    """Adds the arguments that name the program and the workers. `limit` is the default of --limit."""
     parser.add_argument("--program", default=PROGRAM, metavar="FILE", help="default: %(default)s")
+    help_of_limit = f"how long a part may take; one that takes longer is done once more; default: {limit}"
+    parser.add_argument("--limit", type=positive, metavar="SECONDS", help=help_of_limit)
     workers = parser.add_mutually_exclusive_group()
-    workers.add_argument("--processes", type=int, default=os.cpu_count(), metavar="N", help="default: all processors")
+    workers.add_argument("--processes", type=positive, default=os.cpu_count(), metavar="N", help="default: all processors")
     workers.add_argument("--dask", metavar="ADDRESS", help="scheduler, such as tcp://10.0.0.1:8786")

@@ -34,6 +34,7 @@ sys.dont_write_bytecode = True
 
 from make_fleet import Fleet, Mix, table_text
 from mcuboot_rule import taken_by_code, taken_by_design
+from pictures import PictureError, add_picture, picture_of
 
 EXAMPLE = """example:
   bindings/build && examples/fleet/worth.py --tables 1000000 --plot docs/worth.svg
@@ -150,10 +151,9 @@ def gnuplot(found: dict[Mix, collections.Counter]) -> str:
     return "\n".join([*commands, f"plot {', '.join(lines)}", ""])
 
 
-def plot(found: dict[Mix, collections.Counter], file: str) -> None:
-    """Draws the plot into a file of SVG."""
-    with open(file, "wb") as it:
-        subprocess.run(["gnuplot", "-"], input=gnuplot(found).encode(), stdout=it, check=True)
+def plot(found: dict[Mix, collections.Counter]) -> bytes:
+    """Returns the plot as SVG."""
+    return subprocess.run(["gnuplot", "-"], input=gnuplot(found).encode(), stdout=subprocess.PIPE, check=True).stdout
 
 
 def main() -> None:
@@ -165,14 +165,18 @@ def main() -> None:
     parser.add_argument("--processes", type=int, default=os.cpu_count(), metavar="N", help="default: all processors")
     parser.add_argument("--images", type=int, nargs="+", default=[*IMAGES], metavar="N", help="rows to print; default: all")
     parser.add_argument("--csv", action="store_true", help="print all counts as CSV, and no Markdown")
-    parser.add_argument("--plot", metavar="FILE", help="draw a plot of all mixes too, as SVG; needs gnuplot")
+    add_picture(parser, "--plot", "draw a plot of all mixes too, as SVG; needs gnuplot")
     args = parser.parse_args()
     if args.plot and not shutil.which("gnuplot"):
         parser.error("--plot needs the program gnuplot")
+    picture = picture_of(args.plot, [], args.force)
     found = measured(args.tables, args.seed, args.processes)
     print(csv(found) if args.csv else markdown(found, args.images), end="")
-    if args.plot:
-        plot(found, args.plot)
+    if picture:
+        try:
+            picture.write(plot(found))
+        except (PictureError, subprocess.CalledProcessError) as error:
+            raise SystemExit(str(error)) from None
 
 
 if __name__ == "__main__":
