@@ -17,7 +17,7 @@ from collections.abc import Iterable
 # How pictures begin: those of `bootswap sweep` and reach.py, and those of gnuplot for worth.py.
 HEADS = re.compile(
     rb'<svg xmlns="http://www\.w3\.org/2000/svg" width="\d+" height="\d+" (viewBox="0 0 \d+ \d+" )?'
-    rb'font-family="sans-serif" font-size="12">\n'
+    rb'font-family="sans-serif" font-size="12">\n<rect width="(\d+|100%)" height="(\d+|100%)" fill="white"/>\n'
     rb'|<\?xml version="1\.0" encoding="utf-8"  standalone="no"\?>\n<svg \n width="\d+" height="\d+"\n viewBox="0 0 \d+ \d+"\n'
 )
 

@@ -32,11 +32,11 @@ class DaskTest(ProgramTest):
         self.addCleanup(process.kill)
         return process
 
-    def waited(self, is_so):
+    def waited(self, is_so, limit=LIMIT):
         """Waits until something is so, and fails if that takes too long."""
-        until = time.monotonic() + LIMIT
+        until = time.monotonic() + limit
         while not is_so():
-            self.assertLess(time.monotonic(), until, "dask doesn't go on")
+            self.assertLess(time.monotonic(), until, "it doesn't go on")
             time.sleep(0.05)
 
     def expect_of_dask(self, name, words, wanted):
