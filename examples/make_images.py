@@ -1,11 +1,12 @@
 #!/usr/bin/env python3
-"""Makes the intact images of this folder by their format: examples/make_images.py FOLDER
+"""Makes the intact images of this folder by their format, and replaces no other file: examples/make_images.py FOLDER
 
 An image is a header of 32 bytes, a body, a protected area where the image has a security counter or needs others (each
 of some, or one of several), and an unprotected area with the SHA-256 of what stands before it. docs/FORMATS.md has the whole format.
 """
 
 import hashlib
+import os
 import struct
 import sys
 
@@ -51,12 +52,25 @@ IMAGES = {
 }
 
 
+def has(name, contents):
+    """Whether a file has these contents."""
+    if not os.path.isfile(name) or os.path.getsize(name) != len(contents):
+        return False
+    with open(name, "rb") as it:
+        return it.read() == contents
+
+
 def main(words):
     if len(words) != 1:
         sys.exit(__doc__)
-    for name, contents in IMAGES.items():
-        with open(f"{words[0]}/{name}.img", "wb") as it:
-            it.write(contents)
+    files = {f"{words[0]}/{name}.img": contents for name, contents in IMAGES.items()}
+    for name, contents in files.items():
+        if os.path.lexists(name) and not has(name, contents):
+            sys.exit(f"make_images.py: {name} is another file")
+    for name, contents in files.items():
+        if not os.path.lexists(name):
+            with open(name, "xb") as it:
+                it.write(contents)
 
 
 if __name__ == "__main__":
