@@ -4,6 +4,8 @@
  * On a board of one's own, everything up to run_images() is the bootloader, and the events come to
  * the application, from a radio or a cable.
  */
+#include <stdbool.h>
+
 #include "driver.h"
 #include "images.h"
 #include "nor.h"
@@ -70,13 +72,23 @@ static uint32_t answer(void) {
     }
 }
 
+/* Whether the event was a boot, and what it returned lets the images run. No other number does. */
+static bool may_run(uint32_t number) {
+    return event.kind == EVENT_BOOT &&
+           (number == BOOTSWAP_BOOTED || number == BOOTSWAP_TRIAL_AGAIN);
+}
+
 int main(void) {
     serial_start();
     event.kind = EVENT_BOOT;
     for (uint32_t count = 1;; count++) {
         uint32_t number = answer();
+        if (event.kind == EVENT_BOOT && device.reverted != 0) {
+            /* The device booted twice, as two events of a script. */
+            reply_reverted(count++, device.reverted);
+        }
         reply(count, number, &device.told, report);
-        if (event.kind == EVENT_BOOT && number <= BOOTSWAP_TRIAL_AGAIN) {
+        if (may_run(number)) {
             run_images(&setup);
         }
         script_read(&event);

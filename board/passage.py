@@ -11,10 +11,10 @@ PIECE = 1500
 OLD, NEW = ["1.0.0", "1.0.0"], ["2.0.0", "2.0.0"]
 
 
-def kind_of(text):
-    """Returns the word of the reply at the front of a text, or None if its line isn't complete."""
-    found = re.match(r"\d+ ([a-z-]+)[^\n]*\n", text)
-    return found and found[1]
+def kinds_in(text):
+    """Returns the words of the replies in a text whose lines are complete. A boot that reverts has
+    two: `reverted`, and that of the boot after it."""
+    return re.findall(r"^\d+ ([a-z-]+)[^\n]*\n", text, re.MULTILINE)
 
 
 def versions_in(text):
@@ -46,12 +46,12 @@ class Passage:
 
     def next_lines(self, text):
         """Returns the lines after the answer to a boot. There are none if the passage ended."""
-        reply, versions = kind_of(text), versions_in(text)
-        if reply in ("trial", "trial-again"):
+        replies, versions = kinds_in(text), versions_in(text)
+        if replies[-1] in ("trial", "trial-again"):
             self.was_tried = True
             return ["confirm 0", "confirm 1", "boot"] if self.kind == "upgrade" else ["boot"]
         if self.kind == "upgrade":
             has_ended = versions == NEW
         else:
-            has_ended = versions == OLD and (reply == "reverted" or self.was_tried)
+            has_ended = versions == OLD and ("reverted" in replies or self.was_tried)
         return [] if has_ended else [*self.upload]

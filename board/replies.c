@@ -56,10 +56,6 @@ static void write_result(uint32_t number, const struct bootswap_told *told) {
     case BOOTSWAP_BOOTED:
         serial_write_text(kind_of(told));
         break;
-    case BOOTSWAP_REVERTED:
-        serial_write_text(" reverted");
-        write_set(told->set);
-        break;
     case BOOTSWAP_TRIAL_AGAIN:
         serial_write_text(" trial-again");
         write_set(told->set);
@@ -74,6 +70,13 @@ static void write_result(uint32_t number, const struct bootswap_told *told) {
         serial_write_text(" failed");
         write_number(number);
     }
+}
+
+void reply_reverted(uint32_t event, uint32_t set) {
+    serial_write_number(event);
+    serial_write_text(" reverted");
+    write_set(set);
+    serial_write('\n');
 }
 
 void reply(uint32_t event, uint32_t number, const struct bootswap_told *told, const char *report) {

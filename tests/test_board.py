@@ -25,10 +25,11 @@ LIMIT = 600
 KILLS = 20
 
 # Ten events that upgrade and revert, by the files that `board/run` makes, and their replies.
-# docs/FORMATS.md says each reply.
+# docs/FORMATS.md says each reply. The board boots once more after a boot that reverts: it has one
+# reply more.
 REVERT = ["boot", "accept {0}/new.json", "piece 0 {0}/new0.img", "piece 1 {0}/new1.img"]
 REVERT += ["finish 0", "finish 1", "boot", "confirm 0", "boot", "boot"]
-REVERTED = [PLAIN, *5 * ["done"], TRIED, "done", "reverted 0 1", PLAIN]
+REVERTED = [PLAIN, *5 * ["done"], TRIED, "done", "reverted 0 1", PLAIN, PLAIN]
 
 # Ten events after these. A file of another length comes for image 0, and no byte for image 1.
 REFUSED = ["boot", "withdraw 0", "confirm 1", "piece 0 {0}/new.json", "accept {0}/new.json"]
@@ -77,6 +78,12 @@ UNREADABLE += [f"accept 1 0 test 3 {DIGEST}5a -", f"accept 1{9 * f' 0 test 3 {DI
 BAD_SCRIPTS = ["cut 1 keep\nboot\n", "boot\nfinish\n", "boot\npiece 0 absent.img\n", "finish 0\n"]
 
 
+def more_boots(replies):
+    """The boots that `run` needs at the end of a script for the same replies: one for each revert. All
+    are equal here: the events after a revert are boots."""
+    return "boot\n" * sum(it.startswith("reverted") for it in replies)
+
+
 @unittest.skipIf(parts.missing(), f"there is no {', and no '.join(parts.missing())}")
 class BoardTest(ProgramTest):
     """`board/run` and `board/kill`, over the library that was built."""
@@ -105,7 +112,7 @@ class BoardTest(ProgramTest):
             wanted = (status, numbered(replies).decode(), ran)
             got = self.run_board("run", "-", "--out", self.made, given=script)
             self.case(f"{name} on the board", [f"{short(got)}, and not {wanted}"] * (got != wanted))
-            self.expect_program(name, script, status, numbered(replies))
+            self.expect_program(name, script + more_boots(replies), status, numbered(replies))
 
     def expect_program(self, name, script, status, wanted):
         """Cases: `bootswap run` prints the same, and leaves the same flash, on the same device."""

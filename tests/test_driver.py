@@ -15,7 +15,7 @@ from ctypes import POINTER, byref, c_char, c_size_t, c_uint8, c_uint32, c_uint64
 from support.builders import image, version
 from support.compiled import needs_compiler
 from support.driven import CUT, DRIVER_FAILED, INCLUDE, SMALL_JOURNAL, STRICT
-from support.driven import Driven, Flash, Library, reply_of
+from support.driven import Driven, Flash, Library, replies_of, reply_of
 from support.files import EXAMPLES, ROOT, names_in, read
 from support.libraries import ran
 from support.processors import HERE
@@ -23,6 +23,8 @@ from support.program import ProgramTest, CaseTest, short
 from support.worked import SUM_OF_WRITES, WORKED
 
 DRIVER = f"{ROOT}/bindings/c/driver.c"
+PAIR = f"{EXAMPLES}/devices/pair.json"
+NEWER = image([], own=version(2))
 ONE, NEEDING, PARTNER = (read(f"{EXAMPLES}/images/{name}.img") for name in ("one", "needing", "partner"))
 OLD, NEW = 2 * ["1.0.0+0"], 2 * ["2.0.0+0"]
 
@@ -78,6 +80,17 @@ class DriverTest(CaseTest):
             numbers += [device.piece(number, file), device.finish(number)]
         self.assertEqual(numbers, [1, *(1 + 2 * len(files)) * [0]])
 
+    def on_trial_with_request(self, room=None):
+        """A device with image 0 on trial, and the slot and the trailer of a request for image 1 from another device."""
+        device, other = self.new_device(room=room), self.new_device()
+        self.request(device, [NEWER])
+        self.assertEqual((device.boot(), device.device.told.set), (1, 1))
+        numbers = other.boot(), other.accept(self.library.manifest(1, [(1, NEWER, False)]))
+        self.assertEqual((*numbers, other.piece(1, NEWER), other.finish(1)), (1, 0, 0, 0))
+        device.flash.bytes[9 * 512 : 12 * 512] = other.flash.bytes[9 * 512 : 12 * 512]
+        self.assertEqual(device.open(), 0)
+        return device
+
 
 def make_call(device, event):
     """Makes the call of a line of a script, and returns its number. A device that lost power is opened again."""
@@ -98,22 +111,25 @@ def make_call(device, event):
 
 
 def play(device, events):
-    """Plays events on a device, and yields the device and the reply after each. After a power cut it is a new device over
+    """Plays events on a device, and yields the device and the replies after each. After a power cut it is a new device over
     what the flash holds."""
     for event in events:
         number = make_call(device, event)
-        reply = reply_of(device, number)
+        replies = replies_of(device, number)
         if number == DRIVER_FAILED:
             device.flash.restart()
             device = Driven(device.library, device.setup, device.flash, device.room)
             if device.open() != 0:
                 device.flash.wrong.append("the device isn't opened again")
-        yield device, reply
+        yield device, replies
 
 
 @needs_compiler
 class ScriptsTest(DriverTest, ProgramTest):
-    """Each script of examples/ with a power cut at each of its writes, beside `run` with the same cut."""
+    """Each script of examples/ with a power cut at each of its writes, beside `run` with the same cut.
+
+    A boot over a driver that reverts boots once more. So the script for `run` has another `boot` after such a boot.
+    """
 
     def test_scripts(self):
         for name in names_in("scripts"):
@@ -122,21 +138,29 @@ class ScriptsTest(DriverTest, ProgramTest):
             own = {int(number): torn for number, torn in own.items()}
             events = [line for line in lines if not line.startswith("cut ")]
             kind = name if name in names_in("devices") else "pair"
-            count, faults = self.compare(name, f"{EXAMPLES}/devices/{kind}.json", own, events)
+            device_file = f"{EXAMPLES}/devices/{kind}.json"
+            self.first = self.provisioned(device_file, json.loads(read(device_file)))
+            count, faults = self.compare(name, device_file, own, events)
             self.case(f"{name}.txt with {count} power cuts", faults[:5])
+
+    def test_request_after_revert(self):
+        """A boot reverts image 0, and then takes a request for image 1. Only another program leaves such a flash."""
+        self.first = self.on_trial_with_request().state()[0]
+        count, faults = self.compare("a request", PAIR, {}, ["boot", "boot"])
+        # Two reverts and an upgrade of an image whose swap moves one sector: each swap makes 3 * 4 writes and more.
+        self.case(f"a revert, an upgrade and its revert with {count} power cuts", faults[:5] + [count] * (count < 4 * 36))
 
     def compare(self, name, device_file, own, events):
         """Compares each cut of a script that has cuts of its own, and returns their number and what is wrong."""
         given = json.loads(read(device_file))
-        self.first = self.provisioned(device_file, given)
         setup = self.library.setup(given["sector"], given["sectors"], given.get("trial-boots", 1))
         device = Driven(self.library, setup, Flash(self.first, given["sector"]), LONG)
         device.flash.cuts = own
         device.open()
         states, replies = [device.state()], []
-        for device, reply in play(device, events):
+        for device, given in play(device, events):
             states.append(device.state())
-            replies.append(reply)
+            replies.append(given)
         made = device.flash.made
         faults = device.flash.wrong + self.other_than(device_file, own, events, replies, device)
         if name == WORKED and len(made) != SUM_OF_WRITES:
@@ -148,7 +172,7 @@ class ScriptsTest(DriverTest, ProgramTest):
                     count += 1
                     cuts = {**own, write: torn}
                     later = self.replayed(device, states[at], cuts, events[at:])
-                    wanted = [*replies[:at], *(reply for _, reply in later)]
+                    wanted = [*replies[:at], *(given for _, given in later)]
                     faults += self.other_than(device_file, cuts, events, wanted, later[-1][0])
         return count, faults
 
@@ -163,7 +187,7 @@ class ScriptsTest(DriverTest, ProgramTest):
         return whole
 
     def replayed(self, device, state, cuts, events):
-        """Plays events from a state on, with these cuts: the device and the reply after each."""
+        """Plays events from a state on, with these cuts: the device and the replies after each."""
         other = Driven(self.library, device.setup, Flash(device.flash.bytes, device.flash.sector), device.room)
         other.put(state)
         other.flash.cuts = cuts
@@ -172,7 +196,9 @@ class ScriptsTest(DriverTest, ProgramTest):
     def other_than(self, device_file, cuts, events, replies, device):
         """What differs from a run of the program with these cuts: its output, or what its flash file then holds."""
         self.file("flash", self.first)
-        script = [f"cut {number} {torn}" for number, torn in sorted(cuts.items())] + events
+        script = [f"cut {number} {torn}" for number, torn in sorted(cuts.items())]
+        script += [event for event, given in zip(events, replies) for _ in given]
+        replies = [reply for given in replies for reply in given]
         got = self.run_program(["run", device_file, "flash", "-"], given="".join(f"{it}\n" for it in script).encode())
         status = 3 if replies[-1] == "cut" else int(replies[-1].startswith("refused"))
         wanted = status, "".join(f"{at} {reply}\n" for at, reply in enumerate(replies, 1)).encode(), b""
@@ -231,7 +257,7 @@ class FailuresTest(DriverTest):
         opened, booted = device.open(), device.boot()
         running = list(device.versions())
         faults += [f"opened {opened}, booted {booted}, runs {running}"] * (
-            opened != 0 or booted not in (1, 2) or running not in (OLD, NEW)
+            opened != 0 or booted != 1 or running not in (OLD, NEW)
         )
         return faults + device.flash.wrong
 
@@ -251,9 +277,9 @@ class FailuresTest(DriverTest):
         attempts. The next boot ends it, unless the last write was interrupted."""
         device = self.new_device()
         self.request(device, (NEEDING, PARTNER))
-        for name, ends, later in (("upgrade", (1, NEW), (2, OLD)), ("revert", (2, OLD), (1, OLD))):
+        for name, ends, later in (("upgrade", (1, 0, NEW), (1, 3, OLD)), ("revert", (1, 3, OLD), (1, 0, OLD))):
             state, first = device.state(), len(device.flash.made)
-            got = device.boot(), list(device.versions())
+            got = device.boot(), device.device.reverted, list(device.versions())
             made, faults = device.flash.made[first:], [got] * (got != ends)
             after = device.state()
             for number, write in enumerate(made, 1):
@@ -262,11 +288,38 @@ class FailuresTest(DriverTest):
                     device.flash.cuts = {device.flash.writes + number: torn}
                     got = device.boot()
                     device.flash.restart()
-                    got = got, device.open(), device.boot(), list(device.versions())
+                    got = got, device.open(), device.boot(), device.device.reverted, list(device.versions())
                     wanted = [(DRIVER_FAILED, 0, *it) for it in (ends, later)[: 1 + (number == len(made))]]
                     faults += [f"write {number}, {torn}: {got}"] * (got not in wanted)
             device.put(after)
             self.case(f"{len(made)} writes of an {name}", faults[:5] + device.flash.wrong)
+
+    def test_refused_after_revert(self):
+        """A boot that reverts, and then finds an image outside the set that is damaged, is refused."""
+        device = self.new_device()
+        self.request(device, [NEWER])
+        self.assertEqual(device.boot(), 1)
+        device.flash.bytes[3 * 512 + 40] ^= 1
+        self.assertEqual(device.open(), 0)
+        got = device.boot(), reply_of(device, 4), device.device.reverted, device.is_booted, list(device.versions())
+        wanted = 4, "refused boot 5 RunningDamaged 1", 1, False, ["1.0.0+0", None]
+        self.case("an image outside the set is damaged", [got] * (got != wanted) + device.flash.wrong)
+        got = device.boot(), device.device.reverted
+        self.case("the next boot", [got] * (got != (4, 0)))
+
+    def test_failure_after_revert(self):
+        """If the driver fails after the revert, the call returns that, and says what was reverted."""
+        device = self.on_trial_with_request()
+        state = device.state()
+        got, first = (device.boot(), device.device.reverted, device.device.told.set), device.flash.writes
+        self.case("a revert, and then an upgrade", [got] * (got != (1, 1, 2)))
+        device.put(state)
+        device.flash.cuts = {first: "keep"}
+        got = device.boot(), device.device.reverted, bytes(device.device.told).strip(b"\0"), device.is_booted
+        self.case("the last write fails", [got] * (got != (DRIVER_FAILED, 1, b"", False)))
+        device.flash.restart()
+        got = device.open(), device.device.reverted, device.boot(), device.device.reverted, list(device.versions())
+        self.case("the boot after it", [got] * (got != (0, 0, 1, 0, ["1.0.0+0", "2.0.0+0"])) + device.flash.wrong)
 
     def test_failing_provisioning(self):
         """Provisioning that failed anywhere is made again."""
@@ -374,10 +427,19 @@ class JournalsTest(DriverTest):
         self.assertEqual(device.boot(), 1)
         for record in range(records):
             self.assertEqual(device.accept(self.library.manifest(record + 1, [(0, NEEDING, 0)])), 0)
-        self.request(device, count * [image([], own=version(2))], records + 1)
+        self.request(device, count * [NEWER], records + 1)
         self.assertEqual((device.boot(), list(device.versions())), (1, count * ["2.0.0+0"]))
-        self.assertEqual((device.boot(), list(device.versions())), (2, count * ["1.0.0+0"]))
-        self.assertEqual(device.flash.wrong, [])
+        self.assertEqual((device.boot(), device.device.reverted), (1, 2**count - 1))
+        self.assertEqual((list(device.versions()), device.flash.wrong), (count * ["1.0.0+0"], []))
+
+    def test_request_after_revert(self):
+        """The same boots with the shortest journal as with a long one."""
+        ends = []
+        for room in (ROOMS[512], LONG):
+            device = self.on_trial_with_request(room)
+            number, told = device.boot(), device.device.told
+            ends.append((number, device.device.reverted, told.set, bytes(device.flash.bytes), *device.flash.wrong))
+        self.case("a revert, and then an upgrade", [it[:3] for it in ends] * (ends[0] != ends[1] or ends[0][:3] != (1, 1, 2)))
 
     def test_attempts(self):
         """A boot in several attempts repeats no more of a step than the first one began. Here a journal holds two steps and
@@ -399,7 +461,7 @@ class JournalsTest(DriverTest):
                 self.assertEqual(device.boot(), 1)
                 for record in range(start):
                     self.assertEqual(device.accept(self.library.manifest(record + 1, [(0, NEEDING, 0)])), 0)
-                self.request(device, count * [image([], own=version(2))], start + 1)
+                self.request(device, count * [NEWER], start + 1)
                 self.assertEqual(device.boot(), 1)
                 endless += self.is_endless(device, ROOMS[sector] - 1)
             device.device.journal_room = ROOMS[sector] - 1
@@ -502,6 +564,16 @@ class MalformedTest(DriverTest):
             number = calls.bootswap_device_boot(byref(device), text, c_size_t(8), text, c_size_t(8))
             got = (number, calls.malformed_attempts(), len(made))
             self.case(f"a boot that writes {used} bytes", [got] * (got != (SMALL_JOURNAL, 2, 2 * (used > 0))))
+
+
+    def test_reverts_only(self):
+        """A boot ends after three boots that revert. The device isn't booted."""
+        device, _ = self.opened(bytes(856), 0, 2)
+        device.kept.is_booted = 1
+        text, calls = self.library.copy(bytes(8)), self.library.calls
+        number = calls.bootswap_device_boot(byref(device), text, c_size_t(8), text, c_size_t(8))
+        got = number, calls.malformed_attempts(), device.told.writes, device.kept.is_booted
+        self.case("boots that revert", [got] * (got != (SMALL_JOURNAL, 3, 3, 0)))
 
 
 def words(*numbers):

@@ -22,7 +22,7 @@ ONE, NEEDING, PARTNER = (f"{EXAMPLES}/images/{name}.img" for name in ("one", "ne
 # What a boot prints.
 PLAIN = f"plain\nrun 0 {OLD}\nrun 1 {OLD}\nruns 0 {OLD}\nruns 1 {OLD}\n"
 TRIAL = f"trial\ntake 0 {NEW}\ntake 1 {NEW}\nruns 0 {NEW}\nruns 1 {NEW}\n"
-BACK = f"reverted\nruns 0 {OLD}\nruns 1 {OLD}\n"
+BACK = f"reverted 0 1\n{PLAIN}"
 KEPT = f"plain\nrun 0 {NEW}\nrun 1 {NEW}\nruns 0 {NEW}\nruns 1 {NEW}\n"
 
 # What the next boots of a device print, after the boot that takes the images was interrupted; the last two after the boot

@@ -32,6 +32,7 @@ static uint32_t fail(struct bootswap_device *device) {
  * isn't made. */
 static uint32_t begin(struct bootswap_device *device, uint64_t need) {
     memset(&device->told, 0, sizeof device->told);
+    device->reverted = 0;
     if (device->kept.unused[0] == STALE) {
         return BOOTSWAP_DRIVER_FAILED;
     }
@@ -145,6 +146,7 @@ uint32_t bootswap_open(struct bootswap_device *device) {
     const struct bootswap_driver *driver = device->driver;
     uint32_t length = (uint32_t)device->mirror_length;
     memset(&device->told, 0, sizeof device->told);
+    device->reverted = 0;
     bootswap_reset(&device->kept);
     if (length != device->mirror_length ||
         driver->read(driver->context, 0, device->mirror, length) != 0) {
@@ -175,22 +177,54 @@ static size_t boot_room(const struct bootswap_device *device) {
     return whole < BOOTSWAP_SETTLE_ROOM ? device->journal_room : whole;
 }
 
-uint32_t bootswap_device_boot(struct bootswap_device *device, char *table, size_t table_room,
-                              char *report, size_t report_room) {
-    struct attempts attempts = {.writes = 0};
-    uint32_t number = begin(device, BOOTSWAP_JOURNAL_ROOM(device->setup->sector_size));
-    if (number == BOOTSWAP_SMALL_JOURNAL) {
-        bootswap_reset(&device->kept);
-    }
-    if (number != BOOTSWAP_DONE) {
-        return number;
-    }
+/* The buffers for the texts of a boot. */
+struct texts {
+    char *table, *report;
+    size_t table_room, report_room;
+};
+
+/* Boots, in one attempt or several. `told.writes` counts those of the boots before it too. */
+static uint32_t boot_once(struct bootswap_device *device, const struct texts *texts) {
+    struct attempts attempts = {.writes = device->told.writes};
+    uint32_t number;
     do {
         number = bootswap_journal_boot(device->setup, device->mirror, device->mirror_length,
-                                       &device->kept, device->journal, boot_room(device), table,
-                                       table_room, report, report_room, &device->told);
+                                       &device->kept, device->journal, boot_room(device),
+                                       texts->table, texts->table_room, texts->report,
+                                       texts->report_room, &device->told);
     } while (has_to_follow(device, &attempts, &number));
     return number;
+}
+
+/* Ends a boot for which the journal is too short. */
+static uint32_t end_small(struct bootswap_device *device) {
+    uint64_t writes = device->told.writes;
+    memset(&device->told, 0, sizeof device->told);
+    device->told.writes = writes;
+    bootswap_reset(&device->kept);
+    return BOOTSWAP_SMALL_JOURNAL;
+}
+
+/* The most boots of a call. After a revert the log is at rest, so the second boot doesn't revert. It
+ * may only if its journal is full right after a trial began: then it continues as the trial's next
+ * boot. The third boot is for that. */
+enum { MOST_BOOTS = 3 };
+
+uint32_t bootswap_device_boot(struct bootswap_device *device, char *table, size_t table_room,
+                              char *report, size_t report_room) {
+    const struct texts texts = {table, report, table_room, report_room};
+    uint32_t number = begin(device, BOOTSWAP_JOURNAL_ROOM(device->setup->sector_size));
+    if (number != BOOTSWAP_DONE) {
+        return number == BOOTSWAP_SMALL_JOURNAL ? end_small(device) : number;
+    }
+    for (int boots = 0; boots < MOST_BOOTS; boots++) {
+        number = boot_once(device, &texts);
+        if (number != BOOTSWAP_REVERTED) {
+            return number;
+        }
+        device->reverted |= (uint8_t)device->told.set;
+    }
+    return end_small(device);
 }
 
 /* The most bytes of a journal that a manifest asks for. */

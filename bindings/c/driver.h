@@ -43,6 +43,8 @@ struct bootswap_device {
     size_t journal_room;       /* its bytes: at least BOOTSWAP_JOURNAL_ROOM of the sector size */
     struct bootswap_kept kept; /* the saved state */
     struct bootswap_told told; /* the result of the last call. `writes` counts all its attempts. */
+    uint8_t reverted;          /* bit i for image i: the images that the last call reverted, if it
+                                  was a boot. Else 0. */
 };
 
 /* What the calls below return beside a bootswap_number. */
@@ -84,13 +86,24 @@ enum bootswap_device_number {
 uint32_t bootswap_open(struct bootswap_device *device);
 
 /*
- * Each makes the call of the same name, and performs its writes through the driver. A boot and
- * provisioning continue until they answer. They return what that call returns, or a
- * bootswap_device_number.
+ * Each makes the call of the same name, and performs its writes through the driver. Provisioning
+ * continues until it answers. They return what that call returns, or a bootswap_device_number.
  */
 uint32_t bootswap_device_provision(struct bootswap_device *device);
+
+/*
+ * Boots, and continues until a boot answers. After BOOTSWAP_REVERTED it boots once more: that boot
+ * reads all images of the device, so it doesn't start the old ones if they are damaged or don't fit
+ * each other. Returns what the last boot returned, or a bootswap_device_number, and never
+ * BOOTSWAP_REVERTED. `told` and the texts are those of the last boot. `reverted` has the images
+ * that the boots before it reverted, also if the last one failed or was refused.
+ *
+ * Start images after BOOTSWAP_BOOTED and BOOTSWAP_TRIAL_AGAIN only.
+ */
 uint32_t bootswap_device_boot(struct bootswap_device *device, char *table, size_t table_room,
                               char *report, size_t report_room);
+
+/* The other calls. */
 uint32_t bootswap_device_accept(struct bootswap_device *device,
                                 const struct bootswap_manifest *manifest);
 uint32_t bootswap_device_piece(struct bootswap_device *device, uint8_t image, const uint8_t *bytes,

@@ -12,7 +12,7 @@
  *
  * The commands run in their order. The second run uploads two images that need each other. The boot
  * of the third run takes them for a trial, and they are confirmed. Without `confirm`, the boot of
- * the next run reverts both.
+ * the next run reverts both, and starts the old images.
  */
 #define _POSIX_C_SOURCE 200809L
 
@@ -127,6 +127,17 @@ static void provision(char **names) {
     must("provision", bootswap_device_provision(&device), BOOTSWAP_DONE);
 }
 
+/* Prints a line of a word and the images of a set. */
+static void print_set(const char *word, uint32_t set) {
+    printf("%s", word);
+    for (uint32_t image = 0; image < IMAGES; image++) {
+        if (set >> image & 1) {
+            printf(" %u", (unsigned)image);
+        }
+    }
+    printf("\n");
+}
+
 /* Prints the version of each running image. A bootloader jumps to them instead. */
 static void print_running(void) {
     static struct bootswap_description it;
@@ -142,8 +153,11 @@ static void boot(void) {
     const struct bootswap_told *told = &device.told;
     uint32_t number =
         bootswap_device_boot(&device, table, sizeof table, report, sizeof report);
-    if (number == BOOTSWAP_REVERTED) {
-        printf("reverted\n");
+    if (device.reverted != 0) {
+        print_set("reverted", device.reverted);
+    }
+    if (number == BOOTSWAP_TRIAL_AGAIN) {
+        print_set("trial-again", told->set);
     } else {
         must("boot", number, BOOTSWAP_BOOTED);
         const char *kind = told->permanent ? "permanent" : told->set ? "trial" : "plain";

@@ -89,6 +89,7 @@ class Library:
             ("journal_room", c_size_t),
             ("kept", names._SavedState),
             ("told", names._CallResult),
+            ("reverted", c_uint8),
         ]})
 
     def setup(self, sector, sectors, trial_boots=1):
@@ -245,16 +246,24 @@ class Driven:
         self.flash.restart()
 
 
+def replies_of(device, number):
+    """The replies to a call. A boot over a driver that reverts has two, as two boots of `run`: it boots once more."""
+    reverted = device.device.reverted
+    return [f"reverted {images_of(reverted)}"] * (reverted != 0) + [reply_of(device, number)]
+
+
+def images_of(mask):
+    return " ".join(str(i) for i in range(8) if mask >> i & 1)
+
+
 def reply_of(device, number):
     """The lines that `run` prints for a reply, without the event's number (docs/FORMATS.md, "Replies of a device")."""
-    told, images = device.device.told, " ".join(str(i) for i in range(8) if device.device.told.set >> i & 1)
+    told, images = device.device.told, images_of(device.device.told.set)
     if number in (DRIVER_FAILED, CUT):
         return "cut"
     if number == 1:
         kind = "permanent" if told.permanent else "trial" if told.set else "plain"
         return f"{kind}\n{device.report.raw[: told.report_length].decode()}".rstrip("\n")
-    if number == 2:
-        return f"reverted {images}"
     if number == 3:
         return f"trial-again {images} left {told.left}"
     if number == 4:
