@@ -196,35 +196,24 @@ static uint32_t boot_once(struct bootswap_device *device, const struct texts *te
     return number;
 }
 
-/* Ends a boot for which the journal is too short. */
-static uint32_t end_small(struct bootswap_device *device) {
-    uint64_t writes = device->told.writes;
-    memset(&device->told, 0, sizeof device->told);
-    device->told.writes = writes;
-    bootswap_reset(&device->kept);
-    return BOOTSWAP_SMALL_JOURNAL;
-}
-
-/* The most boots of a call. After a revert the log is at rest, so the second boot doesn't revert. It
- * may only if its journal is full right after a trial began: then it continues as the trial's next
- * boot. The third boot is for that. */
-enum { MOST_BOOTS = 3 };
-
 uint32_t bootswap_device_boot(struct bootswap_device *device, char *table, size_t table_room,
                               char *report, size_t report_room) {
     const struct texts texts = {table, report, table_room, report_room};
     uint32_t number = begin(device, BOOTSWAP_JOURNAL_ROOM(device->setup->sector_size));
+    if (number == BOOTSWAP_SMALL_JOURNAL) {
+        bootswap_reset(&device->kept);
+    }
     if (number != BOOTSWAP_DONE) {
-        return number == BOOTSWAP_SMALL_JOURNAL ? end_small(device) : number;
+        return number;
     }
-    for (int boots = 0; boots < MOST_BOOTS; boots++) {
+    number = boot_once(device, &texts);
+    if (number == BOOTSWAP_REVERTED) {
+        device->reverted = (uint8_t)device->told.set;
         number = boot_once(device, &texts);
-        if (number != BOOTSWAP_REVERTED) {
-            return number;
-        }
-        device->reverted |= (uint8_t)device->told.set;
     }
-    return end_small(device);
+    /* A revert leaves the log at rest, so the second boot has nothing to revert. Also if its journal
+     * is full: the write that begins a trial is the last one of a boot. */
+    return number == BOOTSWAP_REVERTED ? fail(device) : number;
 }
 
 /* The most bytes of a journal that a manifest asks for. */
