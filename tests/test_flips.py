@@ -3,7 +3,7 @@
 A device of two images is in one of eleven states. A bit of its flash flips, and the bootloader boots. If it starts the images,
 each has to be intact, and they have to fit each other. Here both are read by docs/FORMATS.md, without the library.
 
-BOOTSWAP_EVERY_FLIP=1 tries every bit instead of each 37th one, and prints what happened in each state.
+BOOTSWAP_EVERY_FLIP=1 tries every bit instead of each 17th one, and prints what happened in each state.
 """
 
 import hashlib
@@ -43,8 +43,10 @@ STATES = [
 ]
 
 # An entry of tests/flips.c, and the number of its bit if none flipped.
-ENTRY, SLOT, NO_BIT = struct.Struct("<3I1024s1024s"), 1024, 2**32 - 1
-BITS = 8 * 16 * 512
+ENTRY, NO_BIT = struct.Struct("<3I1024s1024s"), 2**32 - 1
+
+# How many bits the flash has, and how far the bits that flip are apart.
+BITS, STEP = 8 * 16 * 512, 17
 
 
 def area(part, magic):
@@ -111,7 +113,7 @@ class FlipsTest(CaseTest):
         """No boot starts an image that is damaged, or images that don't fit each other."""
         is_every = os.environ.get("BOOTSWAP_EVERY_FLIP") == "1"
         seen, faults = [Counter() for _ in STATES], [[] for _ in STATES]
-        for state, bit, number, *slots in self.entries(1 if is_every else 37):
+        for state, bit, number, *slots in self.entries(1 if is_every else STEP):
             got = outcome(number, slots)
             if bit == NO_BIT:
                 _, wanted, version = STATES[state]
@@ -123,7 +125,7 @@ class FlipsTest(CaseTest):
         for (name, *_), counts, wrong in zip(STATES, seen, faults):
             if is_every:
                 print(f"{name}: {dict(sorted(counts.items()))}")
-            # Most bits are of no image that runs, and some are.
+            # Most bits are of no image that is started, and some are.
             flips = sum(counts.values())
-            is_few = flips < BITS // 37 or counts["started"] < flips // 2 or counts["not started"] < flips // 100
+            is_few = flips < BITS // STEP or counts["started"] < flips // 2 or not counts["not started"]
             self.case(f"{name}: each of {flips} flips", wrong[:5] + [counts] * is_few)
