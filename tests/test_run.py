@@ -10,7 +10,7 @@ from support.files import EXAMPLES, PAIR, names_in, read
 from support.flashes import expect_flash, flash_of, placed
 from support.program import ProgramTest, short
 from support.stories import changes, expect_story, keeping, runs, shows
-from support.worked import NOTHING_REQUESTED, NOT_UP, NO_SESSION, NO_TRIAL, PLAIN, numbered
+from support.worked import NEEDS, NOTHING_REQUESTED, NOT_UP, NO_SESSION, NO_TRIAL, PLAIN, numbered
 
 
 def asked(image, major):
@@ -39,6 +39,9 @@ DURABLY = ": --durable"
 # How many boots a killed run has in its script. Their replies are far longer than a pipe's buffer.
 MANY = 20_000
 
+# One of two images that need each other is requested.
+HALF_AN_UPLOAD = "boot, accept trial.json, piece 1 partner.img, finish 1, boot"
+
 # Events on a new device, their replies, the status, and that with `--strict`.
 LAST_REPLIES = [
     (
@@ -58,6 +61,10 @@ LAST_REPLIES = [
     ("cut 1 keep, boot, accept trial.json, boot", [PLAIN, "cut", PLAIN], 0, 0),
     ("cut 1 keep, boot, accept trial.json, finish 0", [PLAIN, "cut", NOT_UP], 1, 1),
     ("reset, reset", ["done", "done"], 0, 0),
+    # A boot whose report refuses a request: the device runs on, and only `--strict` ends with 1.
+    (HALF_AN_UPLOAD, [PLAIN, *3 * ["done"], NEEDS], 0, 1),
+    (f"{HALF_AN_UPLOAD}, withdraw 1, boot", [PLAIN, *3 * ["done"], NEEDS, "done", PLAIN], 0, 1),
+    (f"cut 6 keep, {HALF_AN_UPLOAD}, accept second.json", [PLAIN, *3 * ["done"], NEEDS, "cut"], 3, 3),
 ]
 
 

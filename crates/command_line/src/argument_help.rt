@@ -95,7 +95,7 @@ pub const PERMANENT: OptionHelp = OptionHelp(
 
 pub const STRICT: &str = "End with status 1 if there is a note";
 
-pub const STRICT_RUN: &str = "End with status 1 if any reply is a refusal";
+pub const STRICT_RUN: &str = "End with status 1 if any reply or report refuses something";
 
 pub const SWEPT_FILES: &str = "DEVICE, SCRIPT and IMAGEs, or OUTPUTs; `-` is standard input";
 

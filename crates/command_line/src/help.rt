@@ -49,9 +49,9 @@ and `bootswap codes` for the codes and names of refusals.",
     long_after: "Exit status:
   0  done; `check` answers `yes`
   1  refused: the answer is a refusal, or `no` of `check`; the last reply of
-     `run` is a refusal, or with `--strict` any; standard error has a line
-     `error: ..`, such as `error: table line 3`; or the output could not be
-     written
+     `run` is a refusal, or with `--strict` any reply or report refuses
+     something; standard error has a line `error: ..`, such as
+     `error: table line 3`; or the output could not be written
   2  usage error
   3  power failed in the last event of `run`
   4  the flash file could not be made or written: `error: flash file`
@@ -554,13 +554,14 @@ Example: bootswap run device.json flash.bin script.txt
 See `bootswap run --help` for the lines of a script.",
     long_after: "Exit status:
   0  the script was run, and its last reply is none of the two below
-  1  the last reply is a refusal, or with `--strict` any reply is and the last
-     isn't `cut`; or the sizes of the device are refused; or standard error has
-     a line `error: ..`: `device file` if DEVICE is none, `flash size` if FLASH
-     isn't as long as the device's flash, `flash in use` if another program
-     holds FLASH, or if it is a block device that is mounted, swapped to or
-     held, `script line 3` for the first wrong line, `cannot read NAME`, or
-     `memory`; or the replies could not be written
+  1  the last reply is a refusal, or with `--strict` any reply is, or any report
+     refuses a request, and the last reply isn't `cut`; or the sizes of the
+     device are refused; or standard error has a line `error: ..`: `device file`
+     if DEVICE is none, `flash size` if FLASH isn't as long as the device's
+     flash, `flash in use` if another program holds FLASH, or if it is a block
+     device that is mounted, swapped to or held, `script line 3` for the first
+     wrong line, `cannot read NAME`, or `memory`; or the replies could not be
+     written
   2  usage error
   3  the last reply is `cut`
   4  standard error has the line `error: flash file`, however the run ended: a

@@ -17,7 +17,6 @@ use Rattle.machine.specs.Intake.{Setup}
 use Rattle.machine.specs.Passing.{StepsTo}
 use Rattle.machine.specs.Steps.{DeviceEvent}
 use Rattle.machine.specs.declared.reply.Reply.{Reply}
-use Rattle.machine.specs.declared.reply.Reply.TheVariants as reply
 use Rattle.machine.proofs.Runs.{runs_more, runs_none}
 use Rattle.boot_core.specs.CutEvents.{IsCutAsDue, IsCutByWrite}
 use Rattle.boot_core.specs.Device.{seen}
@@ -34,9 +33,10 @@ use Rattle.device_texts.proofs.ReplyLaws.{replies_text-push}
 use Rattle.common.specs.Lines.{lines_of}
 use Rattle.host.specs.Input.{FileBytes}
 use Rattle.inputs.specs.declared.checking.BufferedInput.{BufferedInput}
+use Rattle.device_commands.specs.declared.run.Told.{Told}
 use Rattle.device_commands.specs.RunEnd.{IsMadeOf, answer_after, came_by, ending, is_refusal, last_answer}
 use Rattle.device_texts.specs.DeviceFile.{setup_of}
-use Rattle.device_commands.specs.Telling.{BreaksEvent, BreaksText, PlaysRun, PlaysText, RepliesTo, RepliesToAll, TellsAll, TellsEvent, TellsFirst, TellsSome, TellsText, is_refused}
+use Rattle.device_commands.specs.Telling.{BreaksEvent, BreaksText, PlaysRun, PlaysText, RepliesTo, RepliesToAll, TellsAll, TellsEvent, TellsFirst, TellsSome, TellsText}
 use Rattle.inputs.specs.Loading.{LoadsAll}
 use Rattle.inputs.proofs.ScriptLaws.{AreTaken, LoadsFirst-none, LoadsFirst-taken}
 
@@ -49,11 +49,6 @@ last_answer-push replies reply =
     let last : length all - 1 ≡ length replies = omega (arith, count) in
     ap answer_after (slice_get-get_or all (length all - 1) reply (omega (arith, count))
     ∙ ap Some (ap (λ k. get_or all k reply) last ∙ get_or-append_seam replies reply [] reply))
-
--- A reply is a refusal exactly if its answer says so.
-is_refused-after : (reply : Reply) → is_refused (answer_after (Some reply)) ≡ is_refusal reply
-is_refused-after (reply.Refused fault) = refl
-is_refused-after _ = refl
 
 -- One more reply may be a refusal.
 any_refusal-push : (replies : List Reply) (reply : Reply)
@@ -98,13 +93,13 @@ TellsAll-none setup here written sound = record {
 
 -- The reply to one more event was written.
 pub TellsAll-more : (setup here : Setup) (old mid new : DeviceView) (came : List (Event (List ℕ)))
-    (one : Event (List ℕ)) (number : ℕ) (answer next : Answer) (refused refuses failed fails : Bool)
+    (one : Event (List ℕ)) (number : ℕ) (answer : Answer) (next : Told) (refused refuses failed fails : Bool)
     (before between after : Option (List ℕ))
     → TellsAll answer refused failed setup old mid came before between → number ≡ length came + 1 → here ≡ setup
     → TellsEvent next number here mid new one between after
-    → refuses ≡ (refused || is_refused next)
+    → refuses ≡ (refused || next.has_refused)
     → (fails ≡ false → (failed ≡ false) × (new.flash.faults ≡ 0))
-    → TellsAll next refuses fails setup old new (came ++ one ∷ []) before after
+    → TellsAll next.answer refuses fails setup old new (came ++ one ∷ []) before after
 unfolding RepliesToAll-more
 TellsAll-more setup here old mid new came one number answer next refused refuses failed fails before between after
     so_far counted same told refusing sound =
@@ -124,9 +119,8 @@ TellsAll-more setup here old mid new came one number answer next refused refuses
                 (cut_by_due mid.flash new.flash step.reply before_it.0 now.1 step.due),
           );
       answered = told.answered ∙ sym (last_answer-push so_far.replies step.reply);
-      is_refused = refusing ∙ ap (λ (b : Bool). b || is_refused next) so_far.is_refused
-          ∙ ap (λ (b : Bool). list_any is_refusal so_far.replies || b)
-          (ap is_refused told.answered ∙ is_refused-after step.reply)
+      is_refused = refusing ∙ ap (λ (b : Bool). b || next.has_refused) so_far.is_refused
+          ∙ ap (λ (b : Bool). list_any is_refusal so_far.replies || b) told.refused
           ∙ sym (any_refusal-push so_far.replies step.reply);
       written = subst (Appends before after) (sym (replies_text-push 1 so_far.replies step.reply))
           (Appends-trans before between after _ _ so_far.written

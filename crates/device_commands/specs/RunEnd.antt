@@ -1,5 +1,5 @@
 -- The result of `run`.
-use Rattle.std.specs.Prelude.{◌≡◌, ◌⊎◌, ◌&&◌, ℕ, ◌-◌, Bool, false, true, List, [], ◌∷◌, if◌then◌else◌, length, Option, None, Some, map, slice_get}
+use Rattle.std.specs.Prelude.{◌≡◌, ◌⊎◌, ◌&&◌, ℕ, ◌-◌, Bool, false, true, List, [], ◌∷◌, if◌then◌else◌, length, Option, None, Some, map, nat_lt, slice_get}
 use Rattle.std.specs.List.{list_any}
 use Rattle.std.specs.Io.KnownBytes.{Appends}
 use Rattle.common.specs.declared.event.Event.{Event}
@@ -59,9 +59,10 @@ answer_after (Some reply.Cut) = Cut
 abbrev pub last_answer : List Reply → Answer
 last_answer replies = answer_after (slice_get replies (length replies - 1))
 
--- Whether a reply is a refusal.
+-- Whether a reply refuses something: it is a refusal, or a boot's report that refuses a request.
 abbrev pub is_refusal : Reply → Bool
 is_refusal (reply.Refused fault) = true
+is_refusal (reply.Booted table report permanent) = nat_lt 0 (length report.refusals.items)
 is_refusal other = false
 
 -- The answer that a refused reply makes of this one. A power cut in the last event stays the answer.
@@ -70,8 +71,8 @@ once_refused Done = Refused
 once_refused Refused = Refused
 once_refused Cut = Cut
 
--- The answer of a run: that of its last reply. With `--strict` it is `Refused` if any reply is a
--- refusal, unless the power failed in the last event.
+-- The answer of a run: that of its last reply. With `--strict` it is `Refused` if any reply refuses
+-- something, unless the power failed in the last event.
 abbrev pub ending : Bool → Bool → Answer → Answer
 ending is_strict has_refused last = if is_strict && has_refused then once_refused last else last
 

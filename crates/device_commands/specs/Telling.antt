@@ -1,5 +1,5 @@
 -- The result of writing the replies of a device one by one, for the private contracts of `run`.
-use Rattle.std.specs.Prelude.{◌≡◌, ℕ, ◌+◌, ◌≤◌, Bool, false, true, List, [], ◌++◌, length, Option, Some, Result, IfErr, IfOk, map, take}
+use Rattle.std.specs.Prelude.{◌≡◌, ℕ, ◌+◌, ◌≤◌, Bool, false, List, [], ◌++◌, length, Option, Some, Result, IfErr, IfOk, map, take}
 use Rattle.std.specs.Io.KnownBytes.{Appends}
 use Rattle.std.specs.List.{list_any}
 use Rattle.common.specs.Lines.{lines_of}
@@ -12,7 +12,6 @@ use Rattle.machine.specs.Steps.{DeviceEvent}
 use Rattle.machine.specs.declared.reply.Reply.{Reply}
 use Rattle.boot_core.specs.CutEvents.{CutsEach, IsCutAsDue, StepsEach}
 use Rattle.host.specs.declared.answer.Answer.{Answer}
-use Rattle.host.specs.declared.answer.Answer.TheVariants.{Refused}
 use Rattle.host.specs.declared.error.Refusal.{Refusal}
 use Rattle.host.specs.declared.error.Refusal.TheVariants.{FlashFile}
 use Rattle.host.specs.Input.{FileBytes}
@@ -21,6 +20,7 @@ use Rattle.device_texts.specs.DeviceFile.{setup_of}
 use Rattle.device_texts.specs.ReplyText.{replies_text, reply_text}
 use Rattle.inputs.specs.declared.checking.BufferedInput.{BufferedInput}
 use Rattle.inputs.specs.Loading.{LoadsAll, LoadsFirst}
+use Rattle.device_commands.specs.declared.run.Told.{Told}
 use Rattle.device_commands.specs.RunEnd.{IsMadeOf, Plays, answer_after, came_by, ending, is_refusal, last_answer}
 
 -- A writer took a prefix of a text and no more, or there was no memory for the text. The refusal
@@ -40,13 +40,14 @@ pub record RepliesTo (setup : Setup) (old new : DeviceView) (came : Event (List 
   -- The reply is Cut exactly if the flash took an armed write, or had a fault.
   pub due : IsCutAsDue old.flash reply new.flash
 
--- A device replied to its event of this number, and a writer took the reply. The answer is that of
--- this reply.
-pub record TellsEvent (answer : Answer) (number : ℕ) (setup : Setup) (old new : DeviceView)
+-- A device replied to its event of this number, and a writer took the reply. `told` says what this
+-- reply means for the run.
+pub record TellsEvent (told : Told) (number : ℕ) (setup : Setup) (old new : DeviceView)
     (came : Event (List ℕ)) (before after : Option (List ℕ)) : Type 0 where
   pub step : RepliesTo setup old new came
   pub written : Appends before after (reply_text number step.reply)
-  pub answered : answer ≡ answer_after (Some step.reply)
+  pub answered : told.answer ≡ answer_after (Some step.reply)
+  pub refused : told.has_refused ≡ is_refusal step.reply
 
 -- A device replied to its event, and the reply was written in part or not at all.
 pub record BreaksEvent (refusal : Refusal) (number : ℕ) (setup : Setup) (old new : DeviceView)
@@ -64,14 +65,9 @@ pub record RepliesToAll (setup : Setup) (old new : DeviceView) (came : List (Eve
   -- Event by event, the reply is Cut exactly if the flash took an armed write in it, or had a fault.
   pub due : StepsEach IsCutAsDue setup old events replies new
 
--- Whether this is the answer of a refused reply.
-abbrev pub is_refused : Answer → Bool
-is_refused Refused = true
-is_refused other = false
-
 -- A device replied to all events, and a writer took the replies. `last` is the answer of the last of
--- them, and `refused` says whether one is a refusal. `failed` is false only if no write of the flash
--- file failed.
+-- them, and `refused` says whether one refuses something. `failed` is false only if no write of the
+-- flash file failed.
 pub record TellsAll (last : Answer) (refused failed : Bool) (setup : Setup) (old new : DeviceView)
     (came : List (Event (List ℕ))) (before after : Option (List ℕ)) : Type 0 where
   pub replies : List Reply

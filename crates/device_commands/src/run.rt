@@ -7,8 +7,8 @@ ghost use Rattle.device_texts.specs.DeviceFile.{IsOfFile};
 ghost use Rattle.device_texts.specs.FlashOf.{IsFlashOf, armed_in};
 ghost use Rattle.device_texts.specs.ReplyText.{reply_text};
 ghost use Rattle.inputs.specs.Loading.{came_of};
-ghost use Rattle.device_commands.specs.RunEnd.{AnswersRun, answer_after, ending};
-ghost use Rattle.device_commands.specs.Telling.{BreaksEvent, BreaksOff, BreaksText, PlaysRun, TellsEvent, TellsText, is_refused};
+ghost use Rattle.device_commands.specs.RunEnd.{AnswersRun, answer_after, ending, is_refusal};
+ghost use Rattle.device_commands.specs.Telling.{BreaksEvent, BreaksOff, BreaksText, PlaysRun, TellsEvent, TellsText};
 ghost use Rattle.host.specs.declared.source.Source.TheVariants as source;
 
 use crate::host_file::HostFile;
@@ -51,8 +51,17 @@ struct Run<'d, 't> {
     cuts: Vec<CutWrite>,
     /// The text of the script.
     text: &'t [u8],
-    /// Whether any refused reply makes the answer `Refused`.
+    /// Whether any reply that refuses something makes the answer `Refused`.
     is_strict: bool,
+}
+
+/// What a reply means for the run.
+#[derive(Clone, Copy)]
+struct Told {
+    /// The answer of the run if this is its last reply.
+    answer: Answer,
+    /// Whether the reply is a refusal, or the report of a boot that refuses a request.
+    has_refused: bool,
 }
 
 /// Runs the events of a script on a device, and writes each reply to `out` when its event is done.
@@ -60,7 +69,7 @@ struct Run<'d, 't> {
 /// written to its file immediately. `notes` is called after each reply.
 ///
 /// The answer is that of the last reply. With `is_strict` it is `Refused` if any reply is a refusal,
-/// unless the last one is that the power failed.
+/// or the report of a boot that refuses a request, unless the last reply is that the power failed.
 ///
 /// All files are checked before the first event, and the file of the flash is locked from then on.
 /// The file that a line names is read when its event comes. So memory of `alloc` holds only the
@@ -193,8 +202,9 @@ fn run_events<L: Ledger, M: Ledger, F: FlashFile + Drop, H: Host, O: Write, N: R
         if let Line::Event(event) = lines.next_line()? {
             let event = sources.load_event(&mut used, lines.number, event)?;
             number += 1;
-            last = run_event(alloc, device, number, event, out, notes)?;
-            has_refused |= is_refused(last);
+            let told = run_event(alloc, device, number, event, out, notes)?;
+            last = told.answer;
+            has_refused |= told.has_refused;
             // Checked after each event: while no write has failed, only an armed write is cut.
             has_failed |= device.flash().has_failed();
         }
@@ -205,15 +215,8 @@ fn run_events<L: Ledger, M: Ledger, F: FlashFile + Drop, H: Host, O: Write, N: R
     Ok(ending(is_strict, has_refused, last))
 }
 
-/// Whether this is the answer of a refused reply.
-fn is_refused(answer: Answer) -> bool
-    ensures { result ≡ is_refused answer }
-{
-    matches!(answer, Answer::Refused)
-}
-
-/// The answer of a run whose last reply has the answer `last`. With `is_strict` a refused reply
-/// makes it `Refused`, unless the power failed last.
+/// The answer of a run whose last reply has the answer `last`. With `is_strict` a reply that refuses
+/// something makes it `Refused`, unless the power failed last.
 fn ending(is_strict: bool, has_refused: bool, last: Answer) -> Answer
     ensures { result ≡ ending is_strict has_refused last }
 {
@@ -231,12 +234,12 @@ fn run_event<F: Flash, O: Write, N: RunNotes>(
     event: Event<Vec<u8>>,
     out: &mut O,
     notes: &mut N,
-) -> Result<Answer, Refusal>
+) -> Result<Told, Refusal>
     requires { device.old.here.flash.is_on ≡ true }
     ensures setup { device.new.setup ≡ device.old.setup }
     ensures on { device.new.here.flash.is_on ≡ true }
-    ensures told { IfOk result (λ answer.
-        TellsEvent answer number device.old.setup device.old.here device.new.here
+    ensures told { IfOk result (λ told.
+        TellsEvent told number device.old.setup device.old.here device.new.here
         (came_of event) (O.contents out.old) (O.contents out.new)) }
     ensures begun { IfErr result (λ refusal.
         BreaksEvent refusal number device.old.setup device.old.here device.new.here
@@ -246,7 +249,10 @@ fn run_event<F: Flash, O: Write, N: RunNotes>(
     let reply = step(alloc, device, &borrowed);
     write_reply(alloc, number, &reply, out)?;
     notes.tell(number, &event, &reply);
-    Ok(answer_after(&reply))
+    Ok(Told {
+        answer: answer_after(&reply),
+        has_refused: is_refusal(&reply),
+    })
 }
 
 /// Writes the reply to the event of this number to `out`, and flushes it.
@@ -271,6 +277,17 @@ fn write_reply<O: Write>(
     match out.flush() {
         Ok(()) => Ok(()),
         Err(_) => Err(Refusal::CannotWrite),
+    }
+}
+
+/// Whether a reply is a refusal, or the report of a boot that refuses a request.
+fn is_refusal(reply: &Reply) -> bool
+    ensures { result ≡ is_refusal reply.now }
+{
+    match reply {
+        Reply::Refused(_) => true,
+        Reply::Booted { report, .. } => report.refusals.len() > 0,
+        _ => false,
     }
 }
 

@@ -30,4 +30,5 @@ returns-clause-told g c = record {
   step = replied _ _ _ _ c.as_deref-borrowed.result c.step-reply.result (search rules) (search rules) (search rules);
   written = search rules;
   answered = search rules;
+  refused = search rules;
 }

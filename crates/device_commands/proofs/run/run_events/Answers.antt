@@ -45,12 +45,12 @@ returns-in_err-event-2-clause-some g c =
     (not_of_file _ c.in_err-event-2.ensures.refused))
 
 -- The reply to the next event was written in part or not at all.
-pub returns-in_err-last-clause-some : goal.returns-in_err-last-clause-some
-returns-in_err-last-clause-some g c =
+pub returns-in_err-told-clause-some : goal.returns-in_err-told-clause-some
+returns-in_err-told-clause-some g c =
     let before = c.loop-lines.invariant in
     let next = rw c.in-Event.is at c.in_ok-event.ensures.next in
     let one = came_of c.in_ok-event-2.event in
-    IfErr-passed _ _ _ c.from_residual-in_err-last.ensures.1
+    IfErr-passed _ _ _ c.from_residual-in_err-told.ensures.1
     (BreaksText-some _ c.args.device.now.setup _ _ c.args.text.now c.next_line.new.self.rest.now
     c.next_line.new.self.order (before.taken + 1) c.args.sources.now.buffered.now
     (g.H.Host.file c.args.sources.now.host.now) (before.came ++ one ∷ []) _ _
@@ -59,8 +59,8 @@ returns-in_err-last-clause-some g c =
     c.in_ok-event-2.ensures.loaded before.are)
     (TellsSome-more _ c.args.device.now.setup c.loop-lines.device.setup _ _ _ before.came one (c.loop-lines.number + 1)
     c.loop-lines.last c.loop-lines.has_refused c.loop-lines.has_failed _ _ _ before.told (omega (arith, before.counted)) before.setup
-    c.in_err-last.ensures.begun)
-    c.in_err-last.ensures.begun.broken.output)
+    c.in_err-told.ensures.begun)
+    c.in_err-told.ensures.begun.broken.output)
 
 -- The reply to one more event was written.
 pub loop-lines-preserved-in-Event : goal.loop-lines-preserved-in-Event
@@ -69,8 +69,8 @@ loop-lines-preserved-in-Event g c =
     let next = rw c.in-Event.is at c.in_ok-event.ensures.next in
     let one = came_of c.in_ok-event-2.event in
     record {
-      setup = c.in_ok-last.ensures.setup ∙ before.setup;
-      on = c.in_ok-last.ensures.on;
+      setup = c.in_ok-told.ensures.setup ∙ before.setup;
+      on = c.in_ok-told.ensures.on;
       few = omega (arith, before.few, c.in_ok-event.ensures.shorter);
       taken = before.taken + 1;
       came = before.came ++ one ∷ [];
@@ -80,8 +80,8 @@ loop-lines-preserved-in-Event g c =
           c.in_ok-event-2.ensures.loaded before.are;
       told = TellsAll-more c.args.device.now.setup c.loop-lines.device.setup _ _ _ before.came one
           (c.loop-lines.number + 1) c.loop-lines.last _ c.loop-lines.has_refused _ c.loop-lines.has_failed _ _ _ _ before.told
-          (omega (arith, before.counted)) before.setup c.in_ok-last.ensures.told
-          (ap (λ (b : Bool). c.loop-lines.has_refused || b) c.is_refused-has_refused.ensures)
+          (omega (arith, before.counted)) before.setup c.in_ok-told.ensures.told
+          refl
           (λ none.
           let parts = or_parts c.loop-lines.has_failed c.has_failed-has_failed.result none in (
             parts.0,
