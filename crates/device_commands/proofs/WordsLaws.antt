@@ -145,23 +145,24 @@ helped words kind helps (misuse order taken asks is_misuse) =
     absurd (misuse_helps_none (writes_to_standard_input (Device order)) _ kind is_misuse helps)
 
 -- Arguments that give the core no order end by the answer to them.
-pub EndsCore-error : (words : List Text) (error : OrderError) (status : ℕ) (input : Option (List ℕ)) (file : FileBytes)
+pub EndsCore-error : (words : List Text) (error : OrderError) (status : ℕ) (Uses : DeviceOrder → Type 0) (input : Option (List ℕ)) (file : FileBytes)
     (old new : Option (List ℕ)) → IsDeviceRefusal words error → EndsWords error status
-    → EndsCore words status input file file old new
-EndsCore-error words error status input file old new refusal ends =
+    → EndsCore words status Uses input file file old new
+EndsCore-error words error status Uses input file old new refusal ends =
     EndsWith-error words _ (IsDeviceFault words) _ _ error status file (helped words) refusal ends
 
 -- An order that the core doesn't have changes nothing.
-pub EndsCore-other : (words : List Text) (status : ℕ) (input : Option (List ℕ)) (file : FileBytes)
-    (old new : Option (List ℕ)) → Ends (Err no.NotOfCore) status → EndsCore words status input file file old new
-EndsCore-other words status input file old new ends =
+pub EndsCore-other : (words : List Text) (status : ℕ) (Uses : DeviceOrder → Type 0) (input : Option (List ℕ)) (file : FileBytes)
+    (old new : Option (List ℕ)) → Ends (Err no.NotOfCore) status → EndsCore words status Uses input file file old new
+EndsCore-other words status Uses input file old new ends =
     ends_with_1 words _ _ _ _ status file (elim ends [ inl same ↦ same | inr same ↦ same ])
 
 -- An order of the core is answered.
-pub EndsCore-order : (words : List Text) (order : DeviceOrder) (status : ℕ) (input : Option (List ℕ))
+pub EndsCore-order : (words : List Text) (order : DeviceOrder) (status : ℕ) (Uses : DeviceOrder → Type 0) (input : Option (List ℕ))
     (file after : FileBytes) (old new : Option (List ℕ)) → GiveOrder words (Device order) → IsPlain words
     → (status ≡ 0 → AnswersCore Done order input file after old new) → status ≢ 2
-    → (status ≡ 3 → EndsByCut order input file after old new)
-    → EndsCore words status input file after old new
-EndsCore-order words order status input file after old new given plain answered other ends =
-    EndsWith-order words _ _ _ _ order status file after given (λ zero. (plain, answered zero)) other (λ three. (plain, ends three))
+    → (status ≡ 3 → EndsByCut order input file after old new) → (status ≡ 0 → Uses order)
+    → EndsCore words status Uses input file after old new
+EndsCore-order words order status Uses input file after old new given plain answered other ends used =
+    EndsWith-order words _ _ _ _ order status file after given (λ zero. (plain, answered zero, used zero)) other
+    (λ three. (plain, ends three))

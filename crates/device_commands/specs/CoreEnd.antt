@@ -1,14 +1,29 @@
 -- The answers to the orders to a device.
-use Rattle.std.specs.Prelude.{ℕ, List, Option}
+use Rattle.std.specs.Prelude.{ℕ, Bool, IsTrue, List, Option, false, true}
 use Rattle.command_line.specs.declared.device_orders.DeviceOrder.{DeviceOrder}
 use Rattle.command_line.specs.declared.device_orders.DeviceOrder.TheVariants.{Provision, Run}
 use Rattle.host.specs.declared.answer.Answer.{Answer}
+use Rattle.host.specs.declared.host.Access.{Access}
+use Rattle.host.specs.declared.host.Access.TheVariants.{Write, WriteDurably}
+use Rattle.host.specs.Doings.{IsOpenedFor, Openings}
 use Rattle.host.specs.declared.source.Source.{Source}
 use Rattle.host.specs.declared.source.Source.TheVariants as source
 use Rattle.host.specs.Input.{AreNamed, FileBytes, IsNamed}
 use Rattle.host.specs.Inputs.{names_of}
 use Rattle.device_commands.specs.ProvisionEnd.{AnswersProvision}
 use Rattle.device_commands.specs.RunEnd.{AnswersRun}
+
+-- What a run opens its flash for, with `--durable` and without it.
+abbrev pub access_for : Bool → Access
+access_for true = WriteDurably
+access_for false = Write
+
+-- How an order that is done used its flash. A run opened it to be written, durably if `--durable` is
+-- given, and all that it wrote is on the medium.
+abbrev pub UsesFlash : DeviceOrder → Openings → Openings → Bool → Type 0
+UsesFlash (Provision device flash images) old new synced = Unit {0}
+UsesFlash (Run device flash script durable strict) old new synced =
+    IsOpenedFor (access_for durable) old new × IsTrue synced
 
 -- The answer to an order of this command, and what the files hold after it.
 abbrev pub AnswersCore : Answer → DeviceOrder → Option (List ℕ) → FileBytes → FileBytes

@@ -66,11 +66,11 @@ abbrev pub IsPlain : List Text → Type 0
 IsPlain words = (is_explained words ≡ false) × (is_json words ≡ false)
 
 -- What the exit status of the core says about the arguments. Their order is one to a device that
--- isn't to be explained, and whose answer isn't to be JSON.
-abbrev pub EndsCore : List Text → ℕ → Option (List ℕ) → FileBytes → FileBytes
-    → Option (List ℕ) → Option (List ℕ) → Type 0
-EndsCore words status input file then old new =
+-- isn't to be explained, and whose answer isn't to be JSON. If it is done, it used its flash so.
+abbrev pub EndsCore : List Text → ℕ → (DeviceOrder → Type 0) → Option (List ℕ) → FileBytes
+    → FileBytes → Option (List ℕ) → Option (List ℕ) → Type 0
+EndsCore words status Uses input file then old new =
     EndsWith words (λ order. GiveOrder words (Device order)) (IsDeviceFault words)
-    (λ order. IsPlain words × AnswersCore Done order input file then old new)
+    (λ order. IsPlain words × AnswersCore Done order input file then old new × Uses order)
     (λ order. IsPlain words × EndsByCut order input file then old new)
     status file then

@@ -1,6 +1,6 @@
 //! Runs the command that the arguments ask for: `provision` or `run`.
 ghost use Rattle.std.specs.Prelude.{◌≡◌, ◌≢◌, IfOk, map};
-ghost use Rattle.device_commands.specs.CoreEnd.{AnswersCore};
+ghost use Rattle.device_commands.specs.CoreEnd.{AnswersCore, UsesFlash, access_for};
 ghost use Rattle.device_commands.specs.WordsEnd.{EndsByCut, EndsCore};
 
 use crate::answering::answer_words;
@@ -27,8 +27,10 @@ pub fn core_cli<S: AsStr, H: Host, O: Write, E: Write>(
     out: &mut O,
     err: &mut E,
 ) -> u8
-    ensures { EndsCore (map S.text words.entry.now) result (H.input host.old) (H.file host.old)
-        (H.file host.new) (O.contents out.old) (O.contents out.new) }
+    ensures { EndsCore (map S.text words.entry.now) result
+        (λ order. UsesFlash order (H.opened host.old) (H.opened host.new) (H.synced host.new))
+        (H.input host.old) (H.file host.old) (H.file host.new)
+        (O.contents out.old) (O.contents out.new) }
 {
     match device_request(alloc, words) {
         Ok(Some(request)) if !request.is_explained && !request.is_json => {
@@ -52,6 +54,8 @@ pub fn run_core_order<H: Host, O: Write, E: Write>(
         (H.file host.old) (H.file host.new) (O.contents out.old) (O.contents out.new) }
     ensures cut { result ≡ 3 → EndsByCut order.now (H.input host.old) (H.file host.old)
         (H.file host.new) (O.contents out.old) (O.contents out.new) }
+    ensures used { result ≡ 0 → UsesFlash order.now (H.opened host.old) (H.opened host.new)
+        (H.synced host.new) }
     ensures other { result ≢ 2 }
 {
     let outcome = run_device_order(alloc, order, host, out, &mut NoNotes);
@@ -70,9 +74,11 @@ pub fn run_device_order<H: Host, O: Write, N: RunNotes>(
     out: &mut O,
     notes: &mut N,
 ) -> Result<Answer, Refusal>
-    ensures { IfOk result (λ answer. AnswersCore answer order.now
+    ensures answers { IfOk result (λ answer. AnswersCore answer order.now
         (H.input host.old) (H.file host.old) (H.file host.new)
         (O.contents out.old) (O.contents out.new)) }
+    ensures used { IfOk result (λ answer. answer ≡ Answer.Done
+        → UsesFlash order.now (H.opened host.old) (H.opened host.new) (H.synced host.new)) }
 {
     match *order {
         DeviceOrder::Provision {
@@ -99,7 +105,9 @@ pub fn run_device_order<H: Host, O: Write, N: RunNotes>(
 }
 
 /// How a run opens its flash: for durable writes if `durable` is set.
-fn access_of(durable: bool) -> Access {
+fn access_of(durable: bool) -> Access
+    ensures { result ≡ access_for durable }
+{
     if durable {
         Access::WriteDurably
     } else {

@@ -1,3 +1,4 @@
+use Rattle.std.proofs.Common.{refl}
 use Rattle.device_commands.proofs.program.run_core_order.Goals as goal
 use Rattle.device_commands.proofs.KeptLaws.{AnswersCore-kept}
 use Rattle.device_commands.proofs.WordsLaws.{never_usage, only_cut}
@@ -6,11 +7,16 @@ use Rattle.device_commands.proofs.WordsLaws.{never_usage, only_cut}
 pub returns-clause-done : goal.returns-clause-done
 returns-clause-done g c = λ zero.
     let done = c.finish.ensures.status zero in
-    let answered = rw done at c.run_device_order-outcome.ensures in
+    let answered = rw done at c.run_device_order-outcome.ensures.answers in
     AnswersCore-kept c.args.order.now (g.H.Host.input c.args.host.now) (g.H.Host.file c.args.host.now)
     (g.H.Host.file c.run_device_order-outcome.new.host)
     (g.O.Write.contents c.args.out.now) (g.O.Write.contents c.run_device_order-outcome.new.out) (g.O.Write.contents c.finish.new.out)
     answered c.finish.ensures.kept
+
+-- The status is 0 only after `Done`, and the flush uses no flash.
+pub returns-clause-used : goal.returns-clause-used
+returns-clause-used g c = λ zero.
+    let used = rw (c.finish.ensures.status zero) at c.run_device_order-outcome.ensures.used in used refl
 
 -- The status is 3 only after `Cut`.
 pub returns-clause-cut : goal.returns-clause-cut
@@ -18,7 +24,7 @@ returns-clause-cut g c = λ three.
     let is_cut = only_cut c.run_device_order-outcome.result c.finish.result c.finish.ensures.ends three in
     record {
       written = g.O.Write.contents c.run_device_order-outcome.new.out;
-      answered = rw is_cut at c.run_device_order-outcome.ensures;
+      answered = rw is_cut at c.run_device_order-outcome.ensures.answers;
       kept = c.finish.ensures.kept;
     }
 
