@@ -16,6 +16,7 @@ from support.dask import DaskTest
 from support.files import EXAMPLES, ROOT, names_in, read, report, table
 from support.fleet import BAD, FLEET, MOST, Device, device_at_random, planned, summary_of, tool
 from support.libraries import shared_library
+from support.printed import note_lines
 from support.program import CaseTest, ProgramTest, short
 from support.tables import text_of
 from test_random_tables import (
@@ -91,6 +92,13 @@ DATABASE_FLEET = text_of(
     "device truck-1, image 0 1.0.0+0 0 0, image 1 1.0.0+0 0 0, device truck-2, image 0 1.0.0+0 0 0, "
     "device truck-3, image 0 2.1.0+0 0 0, needs 1 1.0.0+0, image 1 1.0.0+0 0 0, "
     "device truck-4, image 0 1.0.0+0 0 0, image 1 1.0.0+0 3 3"
+)
+
+
+# The note on a file that is no summary that can be added.
+SUMMARY_LINES = (
+    b"a summary has lines `COUNT FIRST KEY` as `plan --summary` prints them, sorted by the bytes of KEY; the counts of a"
+    b" KEY add up to less than 2^64"
 )
 
 
@@ -183,6 +191,18 @@ class FleetTest(ProgramTest):
         self.expect("merge: large counts", ["plan", "--merge", *names], 0, wanted)
         wanted = b"8589934590 b device\n1 a take\n3 b take 0 2.0.0+0\n"
         self.expect("merge: the other order", ["plan", "--merge", *names[::-1]], 0, wanted)
+
+    def test_largest_counts(self):
+        """A sum may be 2^64 - 1. The line whose count would make it 2^64 is named."""
+        self.file("first", b"18446744073709551614 a device\n1 a take\n")
+        self.file("one", b"1 b device\n")
+        self.file("two", b"5 b bad\n2 b device\n")
+        wanted = b"18446744073709551615 a device\n1 a take\n"
+        self.expect("merge: the largest count", ["plan", "--merge", "first", "one"], 0, wanted)
+        arguments, err = ["plan", "--merge", "first", "two"], b"error: cannot merge two line 2\n"
+        self.expect("merge: a count too large", arguments, 1, err=err)
+        notes = note_lines(b"line 2 is `2 b device`", SUMMARY_LINES)
+        self.expect("merge: a count too large, explained", [*arguments, "--explain"], 1, err=err + notes)
 
     def test_requests(self):
         """The image of a file replaces the request of each table that has this image, and of no other."""

@@ -17,7 +17,7 @@ pub fn explain_summary(notes: &mut String, text: &[u8], number: usize) -> Result
     add_line(notes, text, number)?;
     notes.push_str(
         "note: a summary has lines `COUNT FIRST KEY` as `plan --summary` prints them, sorted by the \
-         bytes of KEY\n",
+         bytes of KEY; the counts of a KEY add up to less than 2^64\n",
     )
 }
 

@@ -22,8 +22,8 @@ use std::io::Write;
 pub enum MergeFault {
     /// This line of a text, counted from 1, isn't the next one of a summary.
     BadLine(usize),
-    /// A count would be 2^64 or more.
-    TooMany,
+    /// With the count in this line of a text, counted from 1, a sum would be 2^64 or more.
+    TooMany(usize),
     /// Memory ran out.
     NoMemory,
 }
@@ -107,21 +107,21 @@ fn add_text(summary: &mut Summary, text: &[u8]) -> Result<(), MergeFault>
         let Some((row, after)) = next_row(last, rest) else {
             return Err(MergeFault::BadLine(line));
         };
-        add_read(summary, &row)?;
+        add_read(summary, &row, line)?;
         last = row.key.as_bytes();
         rest = after;
     }
     Ok(())
 }
 
-/// Adds a row that was read.
-fn add_read(summary: &mut Summary, row: &ReadRow<'_, '_>) -> Result<(), MergeFault>
+/// Adds a row that was read from this line, counted from 1.
+fn add_read(summary: &mut Summary, row: &ReadRow<'_, '_>, line: usize) -> Result<(), MergeFault>
     ensures { OnOk result (AddsRows (read_row_of row.now ∷ []) summary.old.rows summary.new.rows) }
 {
     match summary.add_row(row.count, row.first, row.key) {
         Ok(()) => Ok(()),
         Err(RowFault::NoMemory) => Err(MergeFault::NoMemory),
-        Err(RowFault::TooMany) => Err(MergeFault::TooMany),
+        Err(RowFault::TooMany) => Err(MergeFault::TooMany(line)),
     }
 }
 

@@ -23,9 +23,10 @@ use std::io::Write;
 /// What was written before an error is flushed, unless a write failed.
 ///
 /// - `RequestedTwice` and `NoImage` if the requests name no release.
-/// - `OfSource` if a source can't be read, or holds no image or no summary.
+/// - `OfSource` if a source can't be read, holds no image or no summary, or has a count whose sum
+///   with those before it would be 2^64 or more.
 /// - `FleetLine` if a fleet doesn't begin with a device.
-/// - `NoMemory` if memory runs out or a count would be 2^64, and `CannotWrite` if a write fails.
+/// - `NoMemory` if memory runs out, and `CannotWrite` if a write fails.
 pub fn run_plan<H: Host, O: Write>(
     alloc: Global,
     order: &PlanOrder<'_>,
@@ -131,12 +132,13 @@ fn read_each<H: Host>(alloc: Global, names: &[&str], host: &mut H) -> Result<Vec
 /// Returns the refusal to add the summaries of these names.
 fn merge_refusal(alloc: Global, names: &[&str], refusal: MergeRefusal) -> Refusal {
     match refusal {
-        MergeRefusal::Part(part, MergeFault::BadLine(line)) => match names.get(part) {
-            Some(name) => Source::named(name).refused(alloc, SourceFault::CannotMerge(line)),
-            None => Refusal::NoMemory,
-        },
+        MergeRefusal::Part(part, MergeFault::BadLine(line) | MergeFault::TooMany(line)) => {
+            match names.get(part) {
+                Some(name) => Source::named(name).refused(alloc, SourceFault::CannotMerge(line)),
+                None => Refusal::NoMemory,
+            }
+        }
         MergeRefusal::CannotWrite => Refusal::CannotWrite,
-        MergeRefusal::Part(_, MergeFault::TooMany | MergeFault::NoMemory)
-        | MergeRefusal::NoMemory => Refusal::NoMemory,
+        MergeRefusal::Part(_, MergeFault::NoMemory) | MergeRefusal::NoMemory => Refusal::NoMemory,
     }
 }
