@@ -371,6 +371,15 @@ class ExplainStateTest(ProgramTest):
         why = [b"at byte 0 stands 0xffffffff, and an image begins with 0x96f3b83d"]
         expect_notes(self, "extract: a slot is erased but for a byte", arguments, b"refused 2 BadMagic\n", why)
 
+    def test_no_files(self):
+        """`--explain` says that a flash is a directory, or no file that holds bytes."""
+        self.file("boot", b"boot\n")
+        for name, why in [(".", b"is a directory"), ("/dev/null", b"neither a plain file nor a block device")]:
+            err = b"error: cannot read %s\n" % name.encode()
+            for arguments in (["run", PAIR, name, "boot"], ["show", PAIR, name]):
+                why_not = [b"%s: %s" % (name.encode(), why)]
+                expect_notes(self, f"{arguments[0]}: {name}", arguments, b"", why_not, err=err)
+
     def test_unwritable_flash(self):
         """`--explain` says that the permissions of a flash forbid to open it for writing."""
         flash_of(self)

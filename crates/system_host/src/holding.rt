@@ -169,7 +169,10 @@ fn refuse_others(found: &Metadata) -> io::Result<()> {
     if found.is_file() || found.file_type().is_block_device() {
         return Ok(());
     }
-    Err(io::Error::from(ErrorKind::InvalidInput))
+    if found.is_dir() {
+        return Err(io::Error::from(ErrorKind::IsADirectory));
+    }
+    Err(io::Error::other("neither a plain file nor a block device"))
 }
 
 /// Opens a file to be read, and to be written too if `access` asks for it and that is possible.
