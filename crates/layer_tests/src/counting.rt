@@ -2,22 +2,25 @@
 
 use flash_model::{Flash, Result};
 
-/// A flash over another one that counts the bytes that are read below an address: of all calls, and
+/// A flash over another one that counts the bytes that are read in a part of it: of all calls, and
 /// of the longest call.
 #[derive(Drop)]
 pub(crate) struct Counting<F> {
     flash: F,
-    below: u32,
+    from: u32,
+    to: u32,
     pub(crate) read: u64,
     pub(crate) most: usize,
 }
 
 impl<F: Flash> Counting<F> {
-    /// A flash over another one. It counts reads below the address `below`, and has counted none.
-    pub(crate) fn new(flash: F, below: u32) -> Self {
+    /// A flash over another one. It counts the reads that touch the bytes from the address `from` to
+    /// before `to`, and has counted none.
+    pub(crate) fn new(flash: F, from: u32, to: u32) -> Self {
         Counting {
             flash,
-            below,
+            from,
+            to,
             read: 0,
             most: 0,
         }
@@ -46,7 +49,7 @@ impl<F: Flash> Flash for Counting<F> {
     }
 
     fn read(&mut self, at: u32, out: &mut [u8]) -> Result<()> {
-        if at < self.below {
+        if at < self.to && at as usize + out.len() > self.from as usize {
             self.read = self.read.saturating_add(out.len() as u64);
             self.most = self.most.max(out.len());
         }

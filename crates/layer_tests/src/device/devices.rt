@@ -47,14 +47,15 @@ pub(super) fn put(rt: &impl Abort, bytes: &mut Vec<u8>, at: usize, part: &[u8]) 
     bytes[at..at + part.len()].copy_from_slice(part);
 }
 
-/// The contents of a new log, by address: the record of a steady state with sequence number 0 and
+/// Writes a new log from index `start` on: the record of a steady state with sequence number 0 and
 /// no floor, its gate, and the closing unit of the third sector.
-const LOG: [(usize, &[u8]); 4] = [
-    (6656, &[0x00; 56]),
-    (6656, &[0x01]),
-    (6712, &[0x01]),
-    (8184, &[0x01]),
-];
+pub(super) fn put_log(rt: &impl Abort, bytes: &mut Vec<u8>, start: usize) {
+    assert!(rt; start < 65536);
+    put(rt, bytes, start, &[0x00; 56]);
+    put(rt, bytes, start, &[0x01]);
+    put(rt, bytes, start + 56, &[0x01]);
+    put(rt, bytes, start + 1528, &[0x01]);
+}
 
 /// The bytes of a provisioned flash on which these images run.
 pub(super) fn provisioned(
@@ -65,9 +66,7 @@ pub(super) fn provisioned(
     let mut bytes = vec![in rt.alloc(); 0xff; 8192]?;
     put(rt, &mut bytes, 0, first);
     put(rt, &mut bytes, 1536, second);
-    for (at, part) in LOG {
-        put(rt, &mut bytes, at, part);
-    }
+    put_log(rt, &mut bytes, 6656);
     Ok(bytes)
 }
 

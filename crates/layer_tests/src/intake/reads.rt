@@ -35,7 +35,7 @@ fn counted<L: Ledger>(
 {
     let mut bytes = Vec::from_slice(rt.alloc(), image)?;
     bytes.resize(7168, 0xff)?;
-    let mut flash = Counting::new(in_memory::<L>(rt, blank, bytes), 7168);
+    let mut flash = Counting::new(in_memory::<L>(rt, blank, bytes), 0, 7168);
     describe_first(rt, &mut flash)?;
     Ok((flash.read, flash.most))
 }
