@@ -20,7 +20,7 @@ enum { IMAGES = 8, SECTOR = 512, SLOT = 2, SECTORS = IMAGES * 2 * (SLOT + 1) + 4
 static const struct bootswap_setup setup = {.sector_size = SECTOR,
                                             .images = IMAGES,
                                             .sectors = {SLOT, SLOT, SLOT, SLOT, SLOT, SLOT, SLOT, SLOT},
-                                            .trial_boots = 1};
+                                            .trial_boots = 2};
 static uint8_t flash[SECTORS * SECTOR], journal[1 << 16], running[SLOT * SECTOR], new[SLOT * SECTOR];
 static size_t running_length, new_length;
 static struct bootswap_kept kept;
@@ -95,34 +95,32 @@ static size_t bytes_of(void (*call)(void)) {
 struct row {
     const char *name;
     void (*call)(void);
-    uint32_t wanted;
     size_t most;
 };
 
 static struct row rows[] = {
-    {"provision", provision, BOOTSWAP_DONE, 0}, {"boot", boot, BOOTSWAP_BOOTED, 0},
-    {"accept", accept, BOOTSWAP_DONE, 0},       {"piece", piece, BOOTSWAP_DONE, 0},
-    {"finish", finish, BOOTSWAP_DONE, 0},       {"withdraw", withdraw, BOOTSWAP_DONE, 0},
-    {"confirm", confirm, BOOTSWAP_DONE, 0},     {"slot", slot, BOOTSWAP_DONE, 0},
-    {"state", state, BOOTSWAP_DONE, 0},         {"describe", describe, BOOTSWAP_DONE, 0},
-    {"digest", digest_of, BOOTSWAP_DONE, 0},    {"choose", choose, BOOTSWAP_DONE, 0},
-    {"check", check, BOOTSWAP_DONE, 0},
+    {"provision", provision, 0}, {"boot", boot, 0},         {"accept", accept, 0},   {"piece", piece, 0},
+    {"finish", finish, 0},       {"withdraw", withdraw, 0}, {"confirm", confirm, 0}, {"slot", slot, 0},
+    {"state", state, 0},         {"describe", describe, 0}, {"digest", digest_of, 0}, {"choose", choose, 0},
+    {"check", check, 0},
 };
 
 /* Makes a call, which has to return what is wanted, and keeps the most bytes that it took. */
-static void run(const char *name) {
+static void run_for(const char *name, uint32_t wanted) {
     size_t frame = bytes_of(nothing);
     for (size_t i = 0; i < sizeof rows / sizeof *rows; i++) {
         struct row *row = &rows[i];
         if (strcmp(row->name, name)) continue;
         size_t bytes = bytes_of(row->call) - frame;
-        if (returned != row->wanted) {
+        if (returned != wanted) {
             fprintf(stderr, "%s of image %u: %u (fault %u, detail %u)\n", name, image, returned, told.fault, told.detail);
             exit(1);
         }
         if (bytes > row->most) row->most = bytes;
     }
 }
+
+static void run(const char *name) { run_for(name, BOOTSWAP_DONE); }
 
 static size_t load(const char *name, uint8_t *bytes) {
     FILE *file = fopen(name, "rb");
@@ -163,15 +161,19 @@ int main(int count, char **words) {
     }
 
     run("provision");
-    run("boot");
+    run_for("boot", BOOTSWAP_BOOTED);
     upload(1);
     for (image = 0; image < IMAGES; image++) run("withdraw");
     upload(2);
-    run("boot");
+    run_for("boot", BOOTSWAP_BOOTED);
     run("choose");
     run("check");
     for (image = 0; image < IMAGES; image++) run("confirm");
-    run("boot");
+    run_for("boot", BOOTSWAP_BOOTED);
+    upload(3);
+    run_for("boot", BOOTSWAP_BOOTED);
+    run_for("boot", BOOTSWAP_TRIAL_AGAIN);
+    run_for("boot", BOOTSWAP_REVERTED);
     image = 0;
     run("slot");
     run("state");
