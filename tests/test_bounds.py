@@ -68,7 +68,8 @@ class StackTest(ProgramInC):
         faults, output = ran([program, *(f"{EXAMPLES}/images/{name}.img" for name in ("one", "patched"))])
         self.case("stack.c runs", faults)
         taken = {name: int(most) for name, most in map(str.split, output.decode().splitlines())}
-        self.case("each call has a limit", [] if taken.keys() == limits.keys() else [f"{[*taken]}, and not {[*limits]}"])
+        without = sorted(taken.keys() ^ limits.keys())
+        self.case("each call has a limit", [f"measured, or in the table, alone: {it}" for it in without])
         for name, bytes in taken.items():
             limit = limits.get(name, 0)
             is_right = limit * 0.8 <= bytes <= limit
