@@ -301,8 +301,9 @@ class FailuresTest(DriverTest):
         self.assertEqual(device.boot(), 1)
         device.flash.bytes[3 * 512 + 40] ^= 1
         self.assertEqual(device.open(), 0)
-        got = device.boot(), reply_of(device, 4), device.device.reverted, device.is_booted, list(device.versions())
-        wanted = 4, "refused boot 5 RunningDamaged 1", 1, False, ["1.0.0+0", None]
+        reply = reply_of(device, device.boot())
+        got = reply, device.device.reverted, device.is_booted, list(device.versions())
+        wanted = "refused boot 5 RunningDamaged 1", 1, False, ["1.0.0+0", None]
         self.case("an image outside the set is damaged", [got] * (got != wanted) + device.flash.wrong)
         got = device.boot(), device.device.reverted
         self.case("the next boot", [got] * (got != (4, 0)))
@@ -320,6 +321,28 @@ class FailuresTest(DriverTest):
         device.flash.restart()
         got = device.open(), device.device.reverted, device.boot(), device.device.reverted, list(device.versions())
         self.case("the boot after it", [got] * (got != (0, 0, 1, 0, ["1.0.0+0", "2.0.0+0"])) + device.flash.wrong)
+
+    def test_written_again(self):
+        """What docs/PORTING.md says of a device whose boot is refused: at rest a damaged image is written again. During a swap all
+        images are, and the device is provisioned."""
+        device = self.new_device()
+        self.request(device, (NEEDING, PARTNER))
+        whole, before = bytes(device.flash.bytes), device.state()
+        device.flash.bytes[3 * 512 : 5 * 512] = bytes(2 * 512)
+        got = [device.open(), device.boot(), device.device.told.detail]
+        device.flash.bytes[3 * 512 : 5 * 512] = whole[3 * 512 : 5 * 512]
+        got += [device.open(), device.boot(), *device.versions()]
+        self.case("at rest", [got] * (got != [0, 4, 1, 0, 1, *NEW]))
+        device.put(before)
+        device.flash.cuts = {device.flash.writes + 20: "keep"}
+        number = device.boot()
+        device.flash.restart()
+        device.flash.bytes[: 13 * 512] = bytes(13 * 512)
+        got = [number, device.open(), device.boot()]
+        for at in (0, 3 * 512):
+            device.flash.bytes[at : at + 2 * 512] = whole[:1024]
+        got += [device.open(), device.boot(), device.provision(), device.boot(), *device.versions()]
+        self.case("during a swap", [got] * (got != [DRIVER_FAILED, 0, 4, 0, 4, 0, 1, *OLD]) + device.flash.wrong)
 
     def test_failing_provisioning(self):
         """Provisioning that failed anywhere is made again."""
