@@ -132,14 +132,14 @@ taken_stands map old new s table mask floors keeps recorded was settled =
 
 trial_record : (map : SectorMap) (w : Chip) (state : State) (mask left : ℕ) (s : DeviceState)
     → (view map w).log ≡ Some state → (view map w).log ≡ Some (logged log.Settle mask false 0 s)
-    → record state { kind = log.Trial; left = left } ≡ logged log.Trial mask false left s
+    → record state { kind = log.Trial; permanent = false; left = left } ≡ logged log.Trial mask false left s
 trial_record map w state mask left s read is = ap
-    (λ (st : State). record st { kind = log.Trial; left = left })
+    (λ (st : State). record st { kind = log.Trial; permanent = false; left = left })
     (same_state map w state (logged log.Settle mask false 0 s) read is)
 
 pub trial_ok : (map : SectorMap) (old new : Chip) (state : State) (left : ℕ)
     → (view map old).log ≡ Some state → Keeps map (only Log) old new
-    → (view map new).log ≡ Some (record state { kind = log.Trial; left = left })
+    → (view map new).log ≡ Some (record state { kind = log.Trial; permanent = false; left = left })
     → (s : DeviceState) (table : Table) (mask : ℕ) → IsSwapped (view map old) s table log.Settle mask false
     → AreSettled (view map old) mask false
     → IsTrialAt (view map new) (with_taken s mask s.floors (Some (new_trial s mask left))) (new_trial s mask left)
@@ -150,7 +150,7 @@ trial_ok map old new state left read keeps recorded s table mask was settled =
 pub trial_either : (map : SectorMap) (old new : Chip) (state : State) (left : ℕ)
     → (view map old).log ≡ Some state → Keeps map (only Log) old new
     → ((view map new).log ≡ (view map old).log)
-    ⊎ ((view map new).log ≡ Some (record state { kind = log.Trial; left = left }))
+    ⊎ ((view map new).log ≡ Some (record state { kind = log.Trial; permanent = false; left = left }))
     → (s : DeviceState) (table : Table) (mask : ℕ) → IsSwapped (view map old) s table log.Settle mask false
     → AreSettled (view map old) mask false
     → IsSwapped (view map new) s table log.Settle mask false

@@ -14,6 +14,7 @@ pub mod Confirming
 pub mod Steadying
 pub mod Standing
 pub mod Returning
+pub mod Starting
 pub mod Trying
 pub mod Runs
 pub mod Answered

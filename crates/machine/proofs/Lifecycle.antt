@@ -1,5 +1,5 @@
 -- What a state that a device holds means for its flash.
-use Rattle.std.proofs.Common.{◌≡◌, ℕ, ◌<◌, true, false, subst, sym, ⊎_elim}
+use Rattle.std.proofs.Common.{◌≡◌, true, false, subst, sym, ⊎_elim}
 use Rattle.flash_model.specs.Chip.{Chip}
 use Rattle.sector_map.specs.Map.{IsLaidOut}
 use Rattle.sector_map.specs.Part.{is_member}

@@ -10,13 +10,15 @@ use Rattle.sector_map.specs.Map.{IsLaidOut, Keeps}
 use Rattle.set_log.specs.declared.state.State.{State}
 use Rattle.set_log.specs.declared.state.RecordKind.{RecordKind}
 use Rattle.set_log.specs.declared.state.RecordKind.TheVariants as log
-use Rattle.upload.specs.View.{KeepsView, view}
+use Rattle.upload.specs.View.{KeepsView, View, view}
 use Rattle.upload.proofs.Views.{view_kept}
 use Rattle.upload.specs.Device.{DeviceState, Trial, Wanted}
 use Rattle.upload.specs.Steady.{IsFront, IsImageAt, IsRequested, IsSteadyAt, logged}
 use Rattle.machine.specs.States.{reverted}
 use Rattle.machine.specs.Holding.{AreSettled, IsSwappedBack}
 use Rattle.machine.specs.Passing.{IsGoingBack, IsSwappingBackSome}
+use Rattle.machine.specs.Starting.{IsLost}
+use Rattle.machine.proofs.Starting.{held_lost}
 use Rattle.machine.proofs.Frames.{image_same, rests_with, same_state}
 use Rattle.machine.proofs.Swapping.{others_logged, swap_off_log}
 use Rattle.machine.proofs.Ending.{image_outside, none_asked, member_or, if_true, if_false}
@@ -118,11 +120,19 @@ returning_kept map old new mask s trial kind is keeps was =
           (kept.trailers i Secondary other) (was.others i lt other);
     }
 
+-- The old images of a set that is swapped back are intact.
+pub returned_intact : (w : View) (s : DeviceState) (trial : Trial) (kind : RecordKind) (mask i : ℕ)
+    → mask ≡ trial.set → IsSwappedBack w s trial kind → IsLost w mask Primary i → ⊥
+returned_intact w s trial kind mask i is was lost =
+    let member : is_member trial.set i ≡ true = sym (ap (λ m. is_member m i) is) ∙ lost.member in
+    held_lost _ (trial.old i, was.old i member) lost.lost
+
 kind_record : (map : SectorMap) (w : Chip) (state : State) (s : DeviceState) (trial : Trial) (a b : RecordKind)
     (permanent : Bool) → (view map w).log ≡ Some state
     → (view map w).log ≡ Some (logged a trial.set permanent 0 s)
-    → record state { kind = b } ≡ logged b trial.set permanent 0 s
-kind_record map w state s trial a b permanent read is = ap (λ (st : State). record st { kind = b })
+    → record state { kind = b; permanent = false } ≡ logged b trial.set false 0 s
+kind_record map w state s trial a b permanent read is = ap
+    (λ (st : State). record st { kind = b; permanent = false })
     (same_state map w state (logged a trial.set permanent 0 s) read is)
 
 steady_record : (map : SectorMap) (w : Chip) (state : State) (s : DeviceState) (trial : Trial) (permanent : Bool)
@@ -133,22 +143,22 @@ steady_record map w state s trial permanent read is = ap (λ (st : State). rests
 
 module _ (map : SectorMap) (old new : Chip) (state : State) (read : (view map old).log ≡ Some state)
     (keeps : Keeps map (only Log) old new) where
-  pub back_settle_ok : (view map new).log ≡ Some (record state { kind = log.BackSettle })
+  pub back_settle_ok : (view map new).log ≡ Some (record state { kind = log.BackSettle; permanent = false })
       → (s : DeviceState) (trial : Trial) → IsSwappedBack (view map old) s trial log.Back
       → IsSwappedBack (view map new) s trial log.BackSettle
-  back_settle_ok recorded s trial was = swapped_logged map old new s trial keeps log.Back log.BackSettle was.permanent
+  back_settle_ok recorded s trial was = swapped_logged map old new s trial keeps log.Back log.BackSettle false
       (recorded ∙ ap (λ st. Some st) (kind_record map old state s trial log.Back log.BackSettle was.permanent read
       was.log)) was
 
   pub back_settle_either : (laid : IsLaidOut map old)
       → ((view map new).log ≡ (view map old).log)
-      ⊎ ((view map new).log ≡ Some (record state { kind = log.BackSettle }))
+      ⊎ ((view map new).log ≡ Some (record state { kind = log.BackSettle; permanent = false }))
       → (s : DeviceState) (trial : Trial) → IsSwappingBackSome map old s trial
       → IsSwappedBack (view map old) s trial log.Back → IsGoingBack map new s trial
   back_settle_either laid either s trial swapping was = ⊎_elim
       (λ (same : (view map new).log ≡ (view map old).log). inl
       (back_logged map old new s trial keeps laid same swapping))
-      (λ (recorded : (view map new).log ≡ Some (record state { kind = log.BackSettle })). inr
+      (λ (recorded : (view map new).log ≡ Some (record state { kind = log.BackSettle; permanent = false })). inr
       (back_settle_ok recorded s trial was))
       either
 

@@ -121,8 +121,9 @@ back_begins map old new laid s trial permanent goes was prepared keeps recorded 
 
 back_record : (map : SectorMap) (w : Chip) (state : State) (s : DeviceState) (trial : Trial) (permanent : Bool)
     → (view map w).log ≡ Some state → (view map w).log ≡ Some (logged log.Trial trial.set permanent trial.left s)
-    → record state { kind = log.Back; left = 0 } ≡ logged log.Back trial.set permanent 0 s
-back_record map w state s trial permanent read is = ap (λ (st : State). record st { kind = log.Back; left = 0 })
+    → record state { kind = log.Back; permanent = false; left = 0 } ≡ logged log.Back trial.set false 0 s
+back_record map w state s trial permanent read is = ap
+    (λ (st : State). record st { kind = log.Back; permanent = false; left = 0 })
     (same_state map w state (logged log.Trial trial.set permanent trial.left s) read is)
 
 same_mask : (map : SectorMap) (w : Chip) (state : State) (s : DeviceState) (trial : Trial) (permanent : Bool)
@@ -142,12 +143,12 @@ pub back_ok : (map : SectorMap) (old mid new : Chip) (laid : IsLaidOut map old) 
     → (view map old).log ≡ Some state → Keeps map (trailers_on state.mask Secondary) old mid
     → ((i : ℕ) → i < (view map old).images → is_member state.mask i ≡ true
     → IsPrepared (view map mid) Secondary i) → Keeps map (only Log) mid new
-    → (view map new).log ≡ Some (record state { kind = log.Back; left = 0 })
+    → (view map new).log ≡ Some (record state { kind = log.Back; permanent = false; left = 0 })
     → (s : DeviceState) (trial : Trial) → GoesBack s trial → IsTrialOpen (view map old) s trial
     → IsSwappingBackSome map new s trial
 back_ok map old mid new laid state read first prepared keeps recorded s trial goes was =
     let mask = same_mask map old state s trial was.permanent read was.log in
-    back_begins map mid new (laid_out_kept map _ _ _ laid first) s trial was.permanent goes
+    back_begins map mid new (laid_out_kept map _ _ _ laid first) s trial false goes
     (back_kept map old mid state read first s trial was)
     (λ i lt member. prepared i (subst (λ n. i < n) (view_kept map _ _ _ first).images lt)
     (ap (λ m. is_member m i) mask ∙ member)) keeps
@@ -158,7 +159,7 @@ pub back_either : (map : SectorMap) (old mid new : Chip) (laid : IsLaidOut map o
     → ((i : ℕ) → i < (view map old).images → is_member state.mask i ≡ true
     → IsPrepared (view map mid) Secondary i) → Keeps map (only Log) mid new
     → ((view map new).log ≡ (view map mid).log)
-    ⊎ ((view map new).log ≡ Some (record state { kind = log.Back; left = 0 }))
+    ⊎ ((view map new).log ≡ Some (record state { kind = log.Back; permanent = false; left = 0 }))
     → (s : DeviceState) (trial : Trial) → GoesBack s trial → IsTrialOpen (view map old) s trial
     → IsTrialOpen (view map new) s trial ⊎ IsSwappingBackSome map new s trial
 back_either map old mid new laid state read first prepared keeps either s trial goes was = ⊎_elim

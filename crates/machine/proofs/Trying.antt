@@ -16,13 +16,15 @@ use Rattle.set_log.specs.declared.state.RecordKind.TheVariants as log
 use Rattle.upload.specs.View.{KeepsView, view}
 use Rattle.upload.proofs.Views.{view_kept}
 use Rattle.upload.specs.Device.{DeviceState, Trial}
-use Rattle.upload.specs.Steady.{IsImageAt, IsSteadyAt, logged}
+use Rattle.upload.specs.Steady.{IsFront, IsImageAt, IsSteadyAt, logged}
 use Rattle.certificate.specs.declared.table.Entry.{Entry}
 use Rattle.machine.specs.States.{IsConfirmed, IsRaised, settled, tried_again}
 use Rattle.machine.specs.Boots.{Boots, GoesBack, GoesOn, HasDamaged, IsBootCut, IsEntryOf, IsReadAs}
 use Rattle.machine.specs.Holding.{IsTriedAt, IsTrialAt, IsTrialOpen, Stands, Rests, Tries, Opens, SwapsBack}
 use Rattle.machine.specs.Passing.{IsOpenOrAt, IsSwappingBackSome, EndsBoot, CutsBoot}
-use Rattle.machine.specs.Reading.{RunsAt, IsDamagedOr, IsAnyDamaged, AreSetOk, IsFloorOf, IsReadOf}
+use Rattle.machine.specs.Reading.{RunsAt, AreSetOk, IsFloorOf, IsReadOf}
+use Rattle.machine.specs.Starting.{AreIntact, IsLost}
+use Rattle.machine.proofs.Starting.{front_none, held_lost, held_running}
 use Rattle.machine.specs.declared.reply.Reply.{Reply}
 use Rattle.machine.specs.declared.reply.Reply.TheVariants.{Booted, Reverted, TrialAgain, Refused}
 use Rattle.machine.specs.declared.error.Fault.TheVariants as no
@@ -37,9 +39,6 @@ use Rattle.machine.proofs.Raising.{entry_counter}
 entry_held : (held : Option (List ℕ)) (entry : Entry) → IsEntryOf held entry → held ≡ None → ⊥
 entry_held None entry is e = is
 entry_held (Some bytes) entry is e = none-some bytes (sym e)
-
-pub slot_whole : (held : Option (List ℕ)) (entry : Entry) → IsReadOf held (Some entry) → IsDamagedOr held false
-slot_whole held entry is = entry_held held entry is
 
 pub floor_stays : (held : Option (List ℕ)) (floor : ℕ) → IsReadOf held None → IsFloorOf held floor floor
 floor_stays held floor is = record {
@@ -141,15 +140,6 @@ confirmed_not map w s trial mask false is was (i, lt, member, unset) e confirmed
     true≢false (sym (confirmed.each i (subst (λ n. i < n) was.images lt) here)
     ∙ sym (was.tried i here).confirmed ∙ unset)
 
-damaged_if : (s : DeviceState) (b : Bool) → IsAnyDamaged s b → b ≡ true → HasDamaged s
-damaged_if s true damaged e = damaged
-damaged_if s false damaged e = absurd (true≢false (sym e))
-
-damaged_not : (s : DeviceState) (b : Bool) → IsAnyDamaged s b → b ≡ false → (i : ℕ) → i < s.images
-    → s.running i ≡ None → ⊥
-damaged_not s true damaged e = absurd (true≢false e)
-damaged_not s false damaged e = damaged
-
 module _ (map : SectorMap) (old : Chip) (state : State) (b : Bool) (read : (view map old).log ≡ Some state)
     (ok : AreSetOk (view map old) state.mask b) where
   not_over : b ≡ false → (s : DeviceState) (trial : Trial) → IsTrialOpen (view map old) s trial
@@ -157,28 +147,40 @@ module _ (map : SectorMap) (old : Chip) (state : State) (b : Bool) (read : (view
   not_over e s trial was =
       confirmed_not map old s trial state.mask b (trial_mask map old s trial state read was) was ok e
 
-  -- The running images were read, and nothing was written.
-  found_of : (mid : Chip) (d : Bool) → mid ≡ old
-      → ((s : DeviceState) → RunsAt (view map mid) s → IsAnyDamaged s d)
-      → (s : DeviceState) (trial : Trial) → IsTrialOpen (view map old) s trial → IsAnyDamaged s d
-  found_of mid d same finds s trial was =
-      finds s (subst (λ w. RunsAt (view map w) s) (sym same) (runs_open map old s trial was))
-
-  pub passage_damaged : (mid : Chip) (d : Bool) → b ≡ false → mid ≡ old
-      → ((s : DeviceState) → RunsAt (view map mid) s → IsAnyDamaged s d) → d ≡ true
+  -- No boot is left, or a running image isn't intact.
+  pub passage_back : b ≡ false → (state.left ≡ 0) ⊎ ((i : ℕ) × (i < map.images)
+      × IsFront ((view map old).slot i Primary) None)
       → (s : DeviceState) (trial : Trial) → IsTrialOpen (view map old) s trial → GoesBack s trial
-  passage_damaged mid d e same finds is s trial was =
-      (was.trial, not_over e s trial was, inr (damaged_if s d (found_of mid d same finds s trial was) is))
-
-  pub passage_again : (mid : Chip) (d : Bool) → b ≡ false → (state.left ≡ 0 → ⊥) → mid ≡ old
-      → ((s : DeviceState) → RunsAt (view map mid) s → IsAnyDamaged s d) → d ≡ false
-      → (s : DeviceState) (trial : Trial) → IsTrialOpen (view map old) s trial → GoesOn s trial
-  passage_again mid d e more same finds is s trial was = (
+  passage_back e why s trial was = (
     was.trial,
     not_over e s trial was,
-    λ none. more (trial_left map old s trial state read was ∙ none),
-    damaged_not s d (found_of mid d same finds s trial was) is,
+    ⊎_elim
+        (λ (none : state.left ≡ 0). inl (sym (trial_left map old s trial state read was) ∙ none))
+        (λ (lost : (i : ℕ) × (i < map.images) × IsFront ((view map old).slot i Primary) None).
+        let lt : lost.0 < s.images = subst (λ n. lost.0 < n) was.images lost.1 in
+        inr (lost.0, lt, front_none _ (s.running lost.0) ((runs_open map old s trial was).each lost.0 lt) lost.2))
+        why,
   )
+
+  -- A boot is left, and each running image is intact.
+  pub passage_again : b ≡ false → 0 < state.left → AreIntact (view map old)
+      → (s : DeviceState) (trial : Trial) → IsTrialOpen (view map old) s trial → GoesOn s trial
+  passage_again e more intact s trial was =
+      let some : 0 < trial.left = subst (λ n. 0 < n) (trial_left map old s trial state read was) more in (
+        was.trial,
+        not_over e s trial was,
+        λ none. omega (arith, some, none),
+        λ i lt none. held_running _ (s.running i) ((runs_open map old s trial was).each i lt)
+            (intact i (subst (λ n. i < n) (sym was.images) lt)) none,
+      )
+
+  -- The old images of a state are intact.
+  pub passage_never : (i : ℕ) → IsLost (view map old) state.mask Secondary i
+      → (s : DeviceState) (trial : Trial) → IsTrialOpen (view map old) s trial → ⊥
+  passage_never i lost s trial was =
+      let member : is_member trial.set i ≡ true =
+      sym (ap (λ m. is_member m i) (trial_mask map old s trial state read was)) ∙ lost.member in
+      held_lost _ (trial.old i, (was.tried i member).old) lost.lost
 
 -- A trial whose set is confirmed isn't reverted, so it is at rest.
 pub rest_over : (map : SectorMap) (w : Chip) (s : DeviceState) (trial : Trial) → IsConfirmed s trial
@@ -288,14 +290,14 @@ module _ (map : SectorMap) (old new : Chip) (s : DeviceState) (trial : Trial)
 
 module _ (map : SectorMap) (old new : Chip) (state : State) (left : ℕ) (read : (view map old).log ≡ Some state)
     (keeps : Keeps map (only Log) old new) where
-  again_ok : (view map new).log ≡ Some (record state { left = left }) → (s : DeviceState) (trial : Trial)
+  again_ok : (view map new).log ≡ Some (record state { left = left; permanent = false }) → (s : DeviceState) (trial : Trial)
       → IsTrialAt (view map old) s trial
       → IsTrialAt (view map new) (tried_again s trial left) (record trial { left = left })
-  again_ok recorded s trial was = again_at map old new s trial keeps left was.opened.permanent
-      (recorded ∙ ap (λ (st : State). Some (record st { left = left }))
+  again_ok recorded s trial was = again_at map old new s trial keeps left false
+      (recorded ∙ ap (λ (st : State). Some (record st { left = left; permanent = false }))
       (trial_record map old s trial state read was.opened)) was
 
-  again_reply : left + 1 ≡ state.left → (view map new).log ≡ Some (record state { left = left })
+  again_reply : left + 1 ≡ state.left → (view map new).log ≡ Some (record state { left = left; permanent = false })
       → (boots : ℕ) (s : DeviceState) (trial : Trial) → GoesOn s trial → IsTrialAt (view map old) s trial
       → EndsBoot map boots new s (TrialAgain state.mask left)
   again_reply less recorded boots s trial goes was =
@@ -313,13 +315,13 @@ module _ (map : SectorMap) (old new : Chip) (state : State) (left : ℕ) (read :
         λ e. inr (record trial { left = left }, at),
       )
 
-  pub again_ends : left + 1 ≡ state.left → (view map new).log ≡ Some (record state { left = left })
+  pub again_ends : left + 1 ≡ state.left → (view map new).log ≡ Some (record state { left = left; permanent = false })
       → (boots : ℕ) (s : DeviceState) (trial : Trial) → GoesOn s trial → IsOpenOrAt (view map old) s trial
       → EndsBoot map boots new s (TrialAgain state.mask left)
   again_ends less recorded boots s trial goes was =
       again_reply less recorded boots s trial goes (rest_on map old s trial goes was)
 
-  again_done : left + 1 ≡ state.left → (view map new).log ≡ Some (record state { left = left })
+  again_done : left + 1 ≡ state.left → (view map new).log ≡ Some (record state { left = left; permanent = false })
       → (boots : ℕ) (s : DeviceState) (trial : Trial) → GoesOn s trial → IsTrialAt (view map old) s trial
       → CutsBoot map boots new s
   again_done less recorded boots s trial goes was =
@@ -328,7 +330,7 @@ module _ (map : SectorMap) (old new : Chip) (state : State) (left : ℕ) (read :
       (ends.0, inr (inr (TrialAgain state.mask left, ends.1)), ends.2)
 
   pub again_cut : left + 1 ≡ state.left
-      → ((view map new).log ≡ (view map old).log) ⊎ ((view map new).log ≡ Some (record state { left = left }))
+      → ((view map new).log ≡ (view map old).log) ⊎ ((view map new).log ≡ Some (record state { left = left; permanent = false }))
       → (boots : ℕ) (s : DeviceState) (trial : Trial) → GoesOn s trial → IsOpenOrAt (view map old) s trial
       → CutsBoot map boots new s
   again_cut less either boots s trial goes at =
@@ -336,7 +338,7 @@ module _ (map : SectorMap) (old new : Chip) (state : State) (left : ℕ) (read :
       ⊎_elim
       (λ (same : (view map new).log ≡ (view map old).log).
       rest_cut map boots new s trial (again_same map old new s trial keeps same was))
-      (λ (recorded : (view map new).log ≡ Some (record state { left = left })).
+      (λ (recorded : (view map new).log ≡ Some (record state { left = left; permanent = false })).
       again_done less recorded boots s trial goes was)
       either
 

@@ -11,3 +11,4 @@ pub mod Prepared
 pub mod Reading
 pub mod Wear
 pub mod SwapTypes
+pub mod Starting

@@ -14,14 +14,14 @@ use Rattle.upload.specs.View.{View}
 use Rattle.upload.specs.Device.{DeviceState, Trial, Wanted}
 use Rattle.upload.specs.Steady.{IsFront, IsImageAt}
 use Rattle.machine.specs.States.{IsConfirmed, wanted_bytes}
-use Rattle.machine.specs.Boots.{GoesBack, GoesOn, HasDamaged, IsEntryOf, IsLowestDamaged, IsReported, IsRowOf}
+use Rattle.machine.specs.Boots.{GoesBack, GoesOn, IsEntryOf, IsLowestDamaged, IsReported, IsRowOf}
 use Rattle.machine.specs.Boots.{IsTableOf}
 use Rattle.machine.specs.declared.finding.Finding.{Finding}
 use Rattle.machine.specs.declared.finding.Finding.TheVariants.{Decided, Damaged, Invalid}
 use Rattle.machine.specs.declared.finding.Reading.{Reading}
 use Rattle.machine.specs.declared.finding.Reading.TheVariants.{Read, DamagedAt}
 use Rattle.machine.specs.declared.finding.Passage.{Passage}
-use Rattle.machine.specs.declared.finding.Passage.TheVariants.{Over, Back, Again}
+use Rattle.machine.specs.declared.finding.Passage.TheVariants.{Over, Back, Again, Stays, Refused}
 
 -- ---- rows
 
@@ -110,16 +110,6 @@ pub record RunsAt (w : View) (s : DeviceState) : Type 0 where
   pub images : w.images ≡ s.images
   pub each : (i : ℕ) → i < s.images → IsFront (w.slot i Primary) (s.running i)
 
--- Whether no intact image is held.
-abbrev pub IsDamagedOr : Option (List ℕ) → Bool → Type 0
-IsDamagedOr held true = held ≡ None
-IsDamagedOr held false = held ≡ None → ⊥
-
--- Whether some running image is damaged.
-abbrev pub IsAnyDamaged : DeviceState → Bool → Type 0
-IsAnyDamaged s true = HasDamaged s
-IsAnyDamaged s false = (i : ℕ) → i < s.images → s.running i ≡ None → ⊥
-
 -- Whether each image of a set is confirmed on the flash.
 abbrev pub AreSetOk : View → ℕ → Bool → Type 0
 AreSetOk w mask true = (i : ℕ) → i < w.images → is_member mask i ≡ true
@@ -127,17 +117,22 @@ AreSetOk w mask true = (i : ℕ) → i < w.images → is_member mask i ≡ true
 AreSetOk w mask false = (i : ℕ) × (i < w.images) × (is_member mask i ≡ true)
     × ((w.trailer i Primary).image_ok ≡ false)
 
--- How a boot continues a trial.
+-- How a boot continues a trial. The old images of a state are intact, so on a flash that holds a
+-- state a set never stays on trial or is refused because one isn't.
 abbrev pub IsPassage : DeviceState → Trial → Passage → Type 0
 IsPassage s trial Over = IsConfirmed s trial
 IsPassage s trial Back = GoesBack s trial
 IsPassage s trial Again = GoesOn s trial
+IsPassage s trial Stays = ⊥
+IsPassage s trial (Refused i) = ⊥
 
--- A trial that continues has at least one boot left.
+-- A set that is tried again has a boot left. One that only stays on trial has none.
 abbrev pub HasLeft : ℕ → Passage → Type 0
 HasLeft left Over = Unit {0}
 HasLeft left Back = Unit {0}
 HasLeft left Again = 0 < left
+HasLeft left Stays = left ≡ 0
+HasLeft left (Refused i) = Unit {0}
 
 -- A floor is raised to the counter of the held image.
 pub record IsFloorOf (held : Option (List ℕ)) (old new : ℕ) : Type 0 where

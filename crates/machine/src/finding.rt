@@ -36,4 +36,8 @@ pub enum Passage {
     Back,
     /// The set is tried again.
     Again,
+    /// The set can't revert, since an old image isn't intact: it stays on trial, without a boot left.
+    Stays,
+    /// Nor can it run: this is the lowest running image that isn't intact.
+    Refused(u8),
 }
