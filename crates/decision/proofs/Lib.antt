@@ -1,2 +1,3 @@
 pub mod Described
+mod Held
 mod Readable

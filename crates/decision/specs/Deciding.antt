@@ -6,7 +6,7 @@ use Rattle.sector_map.specs.declared.layout.SectorMap.{SectorMap}
 use Rattle.upload.specs.View.{view}
 use Rattle.machine.specs.Reading.{HasImages, IsFinding}
 use Rattle.machine.specs.declared.finding.Finding.{Finding}
-use Rattle.decision.specs.Found.{HasTable, IsFindingAt, IsReadBy}
+use Rattle.decision.specs.Found.{HasTable, IsFindingAt, IsFindingHeld, IsReadBy}
 
 -- A call returns the decision of a device with these floors. The slots of the mask's images are
 -- swapped.
@@ -22,4 +22,6 @@ pub record FindsDecision (map : SectorMap) (mask : ℕ) (floors : List ℕ) (old
   pub rows : IfOk result (HasTable map.images)
   -- On any flash: the result has a table exactly if all rows can be read.
   pub front : IfOk result (IsFindingAt (view map old) mask)
+  -- On any flash, a decision is that of the images on the flash.
+  pub held : IfOk result (IsFindingHeld (view map old) mask)
   pub ends : Ends result old new

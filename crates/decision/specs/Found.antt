@@ -1,15 +1,20 @@
 -- What a boot finds on a flash that may have damaged images.
 use Rattle.std.specs.Prelude.{◌≡◌, ◌⊎◌, ℕ, ◌<◌, Bool, true, false, List, length, Option, Some, None}
+use Rattle.std.specs.Prelude.{slice_get}
 use Rattle.flash_model.specs.Chip.{Chip}
 use Rattle.sector_map.specs.declared.layout.SectorMap.{SectorMap}
 use Rattle.sector_map.specs.declared.layout.Side.TheVariants.{Primary, Secondary}
 use Rattle.sector_map.specs.Part.{is_member}
 use Rattle.certificate.specs.declared.table.Entry.{Entry}
 use Rattle.certificate.specs.declared.table.Image.{Image}
+use Rattle.certificate.specs.declared.table.Request.TheVariants as request
+use Rattle.certificate.specs.Combination.{IsGreatest, entry_in}
+use Rattle.certificate.specs.Rightness.{taken_in}
 use Rattle.upload.specs.Device.{DeviceState}
 use Rattle.upload.specs.View.{View, view}
-use Rattle.upload.specs.Steady.{IsFront}
+use Rattle.upload.specs.Steady.{IsFront, request_in}
 use Rattle.machine.specs.Reading.{CanRead}
+use Rattle.machine.specs.Starting.{HoldsEntry}
 use Rattle.machine.specs.declared.finding.Finding.{Finding}
 use Rattle.machine.specs.declared.finding.Finding.TheVariants.{Decided, Damaged, Invalid}
 use Rattle.machine.specs.declared.finding.Reading.{Reading}
@@ -27,6 +32,46 @@ abbrev pub IsReadBy : {A : Type 0} → (DeviceState → A → Type 0) → Sector
     → A → Type 0
 IsReadBy Is map chip mask floors found =
     (s : DeviceState) → CanRead (view map chip) s mask floors → Is s found
+
+-- ---- what is held on a flash
+
+-- If an entry is read, the slot begins with an intact image, and the entry is that image's.
+abbrev pub IsEntryRead : List ℕ → Option Entry → Type 0
+IsEntryRead slot (Some entry) = HoldsEntry slot entry
+IsEntryRead slot None = Unit {0}
+
+-- If a row is read, the primary slot begins with an intact image of it: the running one, or the
+-- requested one if the slots are swapped.
+abbrev pub IsRowHeld : View → Bool → ℕ → Option Image → Type 0
+IsRowHeld w is_swapped i (Some row) = HoldsEntry (w.slot i Primary) (entry_in row is_swapped)
+IsRowHeld w is_swapped i None = Unit {0}
+
+-- Unless the slots are swapped, a row has a request only if one is pending.
+abbrev pub IsRowAsked : View → Bool → ℕ → Option Image → Type 0
+IsRowAsked w false i (Some row) = request_in w i ≡ None → row.request ≡ request.None
+IsRowAsked w true i (Some row) = Unit {0}
+IsRowAsked w is_swapped i None = Unit {0}
+
+-- The rows of a table are those of the images on the flash. The slots of the mask's images are
+-- swapped.
+pub record AreRowsHeld (w : View) (mask : ℕ) (rows : List Image) : Type 0 where
+  pub held : (i : ℕ) (row : Image) → slice_get rows i ≡ Some row
+      → IsRowHeld w (is_member mask i) i (Some row)
+  pub asked : (i : ℕ) (row : Image) → slice_get rows i ≡ Some row
+      → IsRowAsked w (is_member mask i) i (Some row)
+
+-- If a table is read, its rows are those of the images on the flash.
+abbrev pub IsTableHeld : View → ℕ → Reading → Type 0
+IsTableHeld w mask (Read table) = AreRowsHeld w mask table.images.items
+IsTableHeld w mask (DamagedAt i) = Unit {0}
+
+-- A decision takes the greatest combination of a table whose rows are those of the images on the
+-- flash.
+abbrev pub IsFindingHeld : View → ℕ → Finding → Type 0
+IsFindingHeld w mask (Decided table report) = AreRowsHeld w mask table.images.items
+    × IsGreatest table (taken_in report)
+IsFindingHeld w mask (Damaged i) = Unit {0}
+IsFindingHeld w mask Invalid = Unit {0}
 
 -- ---- what can't be read on a flash
 

@@ -16,7 +16,8 @@ use Rattle.upload.specs.View.{view}
 use Rattle.machine.specs.Boots.{IsRequestOf}
 use Rattle.machine.specs.Reading.{CanReadAt, HasRows, IsReadOf, IsReading, IsRowRead}
 use Rattle.machine.specs.declared.finding.Reading.{Reading}
-use Rattle.decision.specs.Found.{IsEntryAt, IsReadBy, IsReadingAt, IsRowAt}
+use Rattle.decision.specs.Found.{IsEntryAt, IsEntryRead, IsReadBy, IsReadingAt, IsRowAt}
+use Rattle.decision.specs.Found.{IsRowAsked, IsRowHeld, IsTableHeld}
 
 -- A call reads what a decision uses of the image at the start of a slot.
 pub record ReadsSlot (map : SectorMap) (image : ℕ) (side : Side) (old new : Chip)
@@ -28,6 +29,8 @@ pub record ReadsSlot (map : SectorMap) (image : ℕ) (side : Side) (old new : Ch
       → IsFront (slot_bytes map old image side) held → IsReadOf held entry)
   -- The result is some entry exactly if that image is intact.
   pub front : IfOk result (IsEntryAt (slot_bytes map old image side))
+  -- An entry is that of the intact image at the start of the slot.
+  pub held : IfOk result (IsEntryRead (slot_bytes map old image side))
   pub ends : Ends result old new
 
 -- What is requested for an image.
@@ -46,6 +49,9 @@ pub record ReadsRow (map : SectorMap) (image : ℕ) (is_swapped : Bool) (floor :
       → IsRowRead (s.running image) (s.request image) floor row)
   -- The result is a row exactly if the images that it needs are intact.
   pub front : IfOk result (IsRowAt (view map old) is_swapped image)
+  -- On any flash, the row is that of the images on the flash.
+  pub held : IfOk result (IsRowHeld (view map old) is_swapped image)
+  pub asked : IfOk result (IsRowAsked (view map old) is_swapped image)
   pub ends : Ends result old new
 
 -- A call reads the table of a device. The slots of the mask's images are swapped.
@@ -59,4 +65,6 @@ pub record ReadsTable (map : SectorMap) (mask : ℕ) (floors : List ℕ) (old ne
   pub whole : IfOk result (HasRows map.images)
   -- On any flash: the result is a table exactly if all rows can be read.
   pub front : IfOk result (IsReadingAt (view map old) mask)
+  -- On any flash, the rows of a table are those of the images on the flash.
+  pub held : IfOk result (IsTableHeld (view map old) mask)
   pub ends : Ends result old new

@@ -63,10 +63,53 @@ fn read_request<F: Flash>(flash: &mut F, map: &SectorMap, image: u8) -> Result<R
     }
 }
 
+/// Returns the row of an image whose slots aren't swapped, or none if the image that runs, which is
+/// in the primary slot, isn't intact.
+fn read_row_at_rest<F: Flash>(
+    flash: &mut F,
+    map: &SectorMap,
+    image: u8,
+    floor: u32,
+) -> Result<Option<Image>>
+    requires { HasImage map.now image (F.chip flash.old) }
+    ensures { ReadsRow map.now image false floor (F.chip flash.old) (F.chip flash.new) result }
+{
+    let Some(running) = read_slot(flash, map, image, Side::Primary)? else {
+        return Ok(None);
+    };
+    let request = read_request(flash, map, image)?;
+    Ok(Some(Image {
+        running,
+        request,
+        floor,
+    }))
+}
+
+/// Returns the row of an image whose slots are swapped, or none if the image that ran, which is in
+/// the secondary slot, or the requested one, in the primary slot, isn't intact.
+fn read_swapped_row<F: Flash>(
+    flash: &mut F,
+    map: &SectorMap,
+    image: u8,
+    floor: u32,
+) -> Result<Option<Image>>
+    requires { HasImage map.now image (F.chip flash.old) }
+    ensures { ReadsRow map.now image true floor (F.chip flash.old) (F.chip flash.new) result }
+{
+    let Some(running) = read_slot(flash, map, image, Side::Secondary)? else {
+        return Ok(None);
+    };
+    let Some(requested) = read_slot(flash, map, image, Side::Primary)? else {
+        return Ok(None);
+    };
+    Ok(Some(Image {
+        running,
+        request: Request::Entry(requested),
+        floor,
+    }))
+}
+
 /// Returns the row of an image, or none if an image that it needs isn't intact.
-///
-/// At rest the primary slot has the running image. If the slots are swapped, the secondary slot has
-/// what ran, and the primary slot what was requested.
 #[inline(never)]
 fn read_row<F: Flash>(
     flash: &mut F,
@@ -78,27 +121,11 @@ fn read_row<F: Flash>(
     requires { HasImage map.now image (F.chip flash.old) }
     ensures { ReadsRow map.now image is_swapped floor (F.chip flash.old) (F.chip flash.new) result }
 {
-    let side = if is_swapped {
-        Side::Secondary
+    if is_swapped {
+        read_swapped_row(flash, map, image, floor)
     } else {
-        Side::Primary
-    };
-    let Some(running) = read_slot(flash, map, image, side)? else {
-        return Ok(None);
-    };
-    let request = if is_swapped {
-        match read_slot(flash, map, image, Side::Primary)? {
-            None => return Ok(None),
-            Some(entry) => Request::Entry(entry),
-        }
-    } else {
-        read_request(flash, map, image)?
-    };
-    Ok(Some(Image {
-        running,
-        request,
-        floor,
-    }))
+        read_row_at_rest(flash, map, image, floor)
+    }
 }
 
 /// Reads the table of a device: what runs, and what is requested.

@@ -3,7 +3,7 @@ use Rattle.certificate.specs.Combination.{IsValid, running_set}
 use Rattle.upload.specs.View.{view}
 use Rattle.machine.specs.Reading.{HasRows, IsReading}
 use Rattle.machine.proofs.Steadying.{taken_below}
-use Rattle.decision.specs.Found.{IsReadingAt}
+use Rattle.decision.specs.Found.{IsReadingAt, IsTableHeld}
 use Rattle.decision.proofs.Readable.{read_here}
 use Rattle.decision.proofs.deciding.find.Goals as goal
 
@@ -16,6 +16,7 @@ returns-then-not-is_valid g c = record {
   whole = search rules;
   rows = search rules;
   front = read_here c.args.map.now _ c.args.mask _ _ c.in_ok-image.ensures.front c.in-Read.is;
+  held = tt;
   ends = search rules;
 }
 
@@ -29,6 +30,7 @@ returns-in-DamagedAt g c = record {
   front = subst
       (λ reading. IsReadingAt (view c.args.map.now (g.F.Flash.chip c.args.flash.now)) c.args.mask reading)
       c.in-DamagedAt.is c.in_ok-image.ensures.front;
+  held = tt;
   ends = search rules;
 }
 
@@ -48,5 +50,10 @@ returns-else-not-is_valid g c =
           taken_below c.choose-report.result c.args.map.now.images i (c.choose-report.ensures.right.images ∙ rows) taken;
       rows = rows;
       front = read_here c.args.map.now _ c.args.mask _ _ c.in_ok-image.ensures.front c.in-Read.is;
+      held = (
+        subst (λ reading. IsTableHeld (view c.args.map.now (g.F.Flash.chip c.args.flash.now)) c.args.mask reading)
+            c.in-Read.is c.in_ok-image.ensures.held,
+        c.choose-report.ensures.greatest,
+      );
       ends = search rules;
     }

@@ -3,7 +3,7 @@ use Rattle.certificate.specs.Combination.{IsValid, running_set}
 use Rattle.upload.specs.View.{view}
 use Rattle.machine.specs.Reading.{HasRows, IsReading}
 use Rattle.machine.proofs.Steadying.{taken_below}
-use Rattle.decision.specs.Found.{IsReadingAt}
+use Rattle.decision.specs.Found.{IsReadingAt, IsTableHeld}
 use Rattle.decision.specs.Places.{reading_in}
 use Rattle.decision.proofs.deciding.find_into.Goals as goal
 
@@ -17,6 +17,7 @@ returns-in-Some g c = record {
   front = subst
       (λ r. IsReadingAt (view c.args.map.now (g.F.Flash.chip c.args.flash.now)) c.args.mask
       (reading_in c.read_table_into.new.table r)) c.in-Some.is c.in_ok-image.ensures.front;
+  held = tt;
   ends = search rules;
 }
 
@@ -34,6 +35,7 @@ returns-then-not-is_valid g c = record {
   front = subst
       (λ r. IsReadingAt (view c.args.map.now (g.F.Flash.chip c.args.flash.now)) c.args.mask
       (reading_in c.read_table_into.new.table r)) c.in-None.is c.in_ok-image.ensures.front;
+  held = tt;
   ends = search rules;
 }
 
@@ -56,5 +58,11 @@ returns-else-not-is_valid g c =
       front = subst
           (λ r. IsReadingAt (view c.args.map.now (g.F.Flash.chip c.args.flash.now)) c.args.mask
           (reading_in c.read_table_into.new.table r)) c.in-None.is c.in_ok-image.ensures.front;
+      held = (
+        subst
+            (λ r. IsTableHeld (view c.args.map.now (g.F.Flash.chip c.args.flash.now)) c.args.mask
+            (reading_in c.read_table_into.new.table r)) c.in-None.is c.in_ok-image.ensures.held,
+        c.put_report.ensures.greatest,
+      );
       ends = search rules;
     }

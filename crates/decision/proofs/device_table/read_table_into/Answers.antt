@@ -2,7 +2,8 @@ use Rattle.std.proofs.Common.{rules, ◌≡◌, sym, subst, ap, ◌<◌, arith, 
 use Rattle.sector_map.specs.Map.{IsLaidOut}
 use Rattle.upload.specs.View.{view}
 use Rattle.machine.specs.Reading.{AreRowsOf}
-use Rattle.decision.specs.Found.{AreReadable}
+use Rattle.decision.specs.Found.{AreReadable, AreRowsHeld}
+use Rattle.decision.proofs.Held.{held_more, held_none}
 use Rattle.machine.proofs.Rows.{lowest_damaged, row_none, row_some, rows_more, rows_none, whole_table}
 use Rattle.decision.proofs.Readable.{lowest_at, readable_more, readable_none}
 use Rattle.decision.proofs.device_table.read_table_into.Goals as goal
@@ -16,6 +17,8 @@ loop-image-init g c = record {
   rows = λ s can. subst (λ l. AreRowsOf s c.args.floors.now 0 l) (sym c.clear.ensures)
       (rows_none s c.args.floors.now);
   front = readable_none c.args.map.now _ c.args.mask;
+  held = subst (λ l. AreRowsHeld (view c.args.map.now (g.F.Flash.chip c.args.flash.now)) c.args.mask l)
+      (sym c.clear.ensures) (held_none _ c.args.mask);
 }
 
 pub returns-in-None : goal.returns-in-None
@@ -31,6 +34,7 @@ returns-in-None g c = record {
       let lt : c.loop-image.image < c.args.map.now.images = omega arith in
       lowest_at c.args.map.now _ _ c.args.mask c.loop-image.image _ _ c.loop-image.invariant.same
       c.is_member-is_swapped.ensures lt c.in_ok-read_row.ensures.front c.in-None.is c.loop-image.invariant.front;
+  held = tt;
   ends = search rules;
 }
 
@@ -50,6 +54,11 @@ loop-image-preserved g c =
           (ap (λ k. slice_index c.args.floors.now k) c.from.ensures)));
       front = readable_more c.args.map.now _ _ c.args.mask c.loop-image.image _ _ _ c.loop-image.invariant.same
           c.is_member-is_swapped.ensures c.in_ok-read_row.ensures.front c.in-Some.is c.loop-image.invariant.front;
+      held = subst (λ l. AreRowsHeld (view c.args.map.now (g.F.Flash.chip c.args.flash.now)) c.args.mask l)
+          (sym c.push.ensures.items)
+          (held_more c.args.map.now _ _ c.args.mask c.loop-image.image _ _ _ _ c.loop-image.invariant.same
+          c.loop-image.invariant.count c.is_member-is_swapped.ensures c.in_ok-read_row.ensures.held
+          c.in_ok-read_row.ensures.asked c.in-Some.is c.loop-image.invariant.held);
     }
 
 pub returns : goal.returns
@@ -62,5 +71,6 @@ returns g c = record {
       let all : c.loop-image.image ≡ c.args.map.now.images = omega arith in
       subst (λ n. AreReadable (view c.args.map.now (g.F.Flash.chip c.args.flash.now)) c.args.mask n) all
       c.loop-image.invariant.front;
+  held = c.loop-image.invariant.held;
   ends = search rules;
 }

@@ -3,7 +3,7 @@ use Rattle.sector_map.specs.Map.{IsLaidOut}
 use Rattle.upload.specs.Device.{DeviceState}
 use Rattle.upload.specs.View.{view}
 use Rattle.machine.specs.Reading.{AreRowsOf, CanRead}
-use Rattle.decision.specs.Found.{AreReadable}
+use Rattle.decision.specs.Found.{AreReadable, AreRowsHeld}
 use Rattle.decision.proofs.device_table.read_table_into.Given as goal
 
 abbrev pub invariant-loop-image : goal.invariant-loop-image
@@ -15,4 +15,5 @@ invariant-loop-image g l = record {
   rows : (s : DeviceState) → CanRead (view l.map (g.F.Flash.chip l.initial.flash)) s l.mask l.floors
       → AreRowsOf s l.floors l.image l.table.images.items;
   front : AreReadable (view l.map (g.F.Flash.chip l.initial.flash)) l.mask l.image;
+  held : AreRowsHeld (view l.map (g.F.Flash.chip l.initial.flash)) l.mask l.table.images.items;
 }

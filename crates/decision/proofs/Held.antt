@@ -1,0 +1,33 @@
+-- The rows of a table are those of the images on the flash, row by row.
+use Rattle.std.proofs.Common.{◌≡◌, ℕ, Bool, List, [], ◌∷◌, ◌++◌, length, Option, Some, None, sym, subst}
+use Rattle.flash_model.specs.Chip.{Chip}
+use Rattle.sector_map.specs.declared.layout.SectorMap.{SectorMap}
+use Rattle.sector_map.specs.Part.{is_member}
+use Rattle.certificate.specs.declared.table.Image.{Image}
+use Rattle.upload.specs.View.{View, view}
+use Rattle.machine.proofs.Rows.{each_pushed}
+use Rattle.decision.specs.Found.{AreRowsHeld, IsRowAsked, IsRowHeld}
+
+nothing : {A : Type 0} {x : A} → {B : Type 0} → None ≡ Some x → B
+nothing e = cc
+
+pub held_none : (w : View) (mask : ℕ) → AreRowsHeld w mask []
+held_none w mask = record { held = λ i row e. nothing e; asked = λ i row e. nothing e }
+
+module _ (map : SectorMap) (old mid : Chip) (mask n : ℕ) (b : Bool) (read : Option Image) (rows : List Image)
+    (row : Image) (same : mid ≡ old) (count : length rows ≡ n) (is : b ≡ is_member mask n) where
+  -- What a row says of its image.
+  here : (P : View → Bool → ℕ → Option Image → Type 0) → P (view map mid) b n read → read ≡ Some row
+      → P (view map old) (is_member mask (length rows)) (length rows) (Some row)
+  here P at some = subst (λ k. P (view map old) (is_member mask k) k (Some row)) (sym count)
+      (subst (λ m. P (view map old) m n (Some row)) is
+      (subst (λ chip. P (view map chip) b n (Some row)) same (subst (λ r. P (view map mid) b n r) some at)))
+
+  pub held_more : IsRowHeld (view map mid) b n read → IsRowAsked (view map mid) b n read → read ≡ Some row
+      → AreRowsHeld (view map old) mask rows → AreRowsHeld (view map old) mask (rows ++ row ∷ [])
+  held_more held asked some before = record {
+    held = each_pushed (λ k found. IsRowHeld (view map old) (is_member mask k) k (Some found)) rows row before.held
+        (here (λ w m k r. IsRowHeld w m k r) held some);
+    asked = each_pushed (λ k found. IsRowAsked (view map old) (is_member mask k) k (Some found)) rows row
+        before.asked (here (λ w m k r. IsRowAsked w m k r) asked some);
+  }
