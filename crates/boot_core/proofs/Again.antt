@@ -22,11 +22,12 @@ le_of_yes a b told = ⊎_elim (λ (h : (nat_le a b ≡ true) × (a ≤ b)). h.1)
       never e = cc
 
 pub fits_again : (map : SectorMap) (chip : Chip) (s : State) (left : ℕ) → state_of map chip ≡ Some s
-    → s.kind ≡ Trial → left ≤ s.left → fits map.images (record s { left = left }) ≡ true
+    → s.kind ≡ Trial → left ≤ s.left
+    → fits map.images (record s { left = left; permanent = false }) ≡ true
 fits_again map chip s left read is less =
     let asked = kind_of_read map chip s Trial read is in
     let parts = and_parts (not (s.mask == 0)) (nat_le s.left 6) asked in
     let few : s.left ≤ 6 = le_of_yes s.left 6 parts.1 in
     let small : left ≤ 6 = omega (arith, less, few) in
-    subst (λ (k : RecordKind). fits map.images (record s { kind = k; left = left }) ≡ true) (sym is)
-    (fits_next map chip s Trial left read (and_from (not (s.mask == 0)) _ parts.0 (le_yes left 6 small)))
+    subst (λ (k : RecordKind). fits map.images (record s { kind = k; permanent = false; left = left }) ≡ true) (sym is)
+    (fits_next map chip s Trial false left read (and_from (not (s.mask == 0)) _ parts.0 (le_yes left 6 small)))

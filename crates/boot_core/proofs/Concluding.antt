@@ -15,7 +15,7 @@ use Rattle.machine.specs.Holding.{AreSettled, IsSwapped}
 use Rattle.machine.specs.Wear.{members}
 use Rattle.machine.proofs.Swapping.{settling_kept}
 use Rattle.boot_core.specs.FromSettle.{RecordsTaken, SettlesAndRecords}
-use Rattle.boot_core.proofs.OnMap.{layout_kept, layout_more}
+use Rattle.boot_core.proofs.OnMap.{layout_kept, layout_more, log_settled, trailers_settled}
 use Rattle.boot_core.proofs.Passed.{ok_both, then_ends}
 
 -- The set is settled as what its trailers were asked for.
@@ -35,7 +35,7 @@ settles_taken {value} map old mid new state left floors result laid keeps settle
     (was : IsSwapped (view map old) s table log.Settle state.mask state.permanent).
     settling_kept map old mid state.mask keeps s table log.Settle state.permanent was in
     record {
-      layout = layout_more (layout_kept laid keeps) records.outside;
+      layout = layout_more (log_settled state.mask) (layout_kept (trailers_settled state.mask) laid keeps) records.outside;
       stands = λ s table was. records.stands s table state.mask (kept s table was) settled;
       done = IfOk-weaker result _ _ (λ done taken. record {
         ok = λ s table was. taken.0 s table state.mask (kept s table was) settled;

@@ -19,14 +19,18 @@ mod Afresh
 mod FirstHeld
 mod Resting
 mod Trials
+mod Trying
 mod Keeping
 mod OnMap
+mod Looked
+mod Moves
 mod Passed
 mod Booted
 mod Undecided
 mod Upgrades
 pub mod Measured
 mod Begun
+mod Reverts
 pub mod Wears
 mod Taken
 mod Pieces

@@ -1,5 +1,5 @@
 -- Lemmas for a manifest that is accepted or declined: what the calls below left, of the device.
-use Rattle.std.proofs.Common.{◌≡◌, ℕ, Bool, false, true, List, Option, Result, Ok, Err, ap, arith, refl, subst, sym}
+use Rattle.std.proofs.Common.{◌≡◌, ◌<◌, length, ℕ, Bool, false, true, List, Option, Result, Ok, Err, ap, arith, refl, subst, sym}
 use Rattle.std.specs.Borrow.{Bor}
 use Rattle.std.specs.Prelude.{IsErrAnd}
 use Rattle.common.specs.declared.event.Event.TheVariants as event
@@ -12,7 +12,7 @@ use Rattle.sector_map.proofs.Parts.{keeps_refl, laid_out_kept}
 use Rattle.manifest.specs.Fault.{IsManifest}
 use Rattle.manifest.specs.Manifest.{NamesEachOnce, NamesImages}
 use Rattle.manifest.specs.declared.error.ManifestError.{ManifestError}
-use Rattle.manifest.specs.declared.error.ManifestError.TheVariants.{NoComponent, RepeatedComponent}
+use Rattle.manifest.specs.declared.error.ManifestError.TheVariants.{BadValue, NoComponent, RepeatedComponent}
 use Rattle.manifest.specs.declared.identity.Identity.{Identity}
 use Rattle.manifest.specs.declared.manifest.Manifest as given
 use Rattle.upload.specs.Accepted.{Accepts, accepted_parts}
@@ -31,7 +31,7 @@ use Rattle.machine.specs.declared.reply.Reply.TheVariants.{Done, Refused}
 use Rattle.machine.proofs.Uploading.{steps_accept, upload_refused}
 use Rattle.boot_core.specs.Answers.{IsOff, is_stop}
 use Rattle.boot_core.specs.Device.{made, seen}
-use Rattle.boot_core.specs.Ready.{RefusesManifest, RefusesText}
+use Rattle.boot_core.specs.Ready.{HasNoComponent, RefusesManifest, RefusesText}
 use Rattle.boot_core.specs.Taking.{AcceptsHere, AsksReady, CanOpen, Named, OpensUploads, PassesOn, TakesManifestHere, Untouched}
 use Rattle.boot_core.proofs.Given.{held_down, held_failed, held_up, not_ready_told, ready_not}
 use Rattle.boot_core.proofs.Keeping.{all_stays, own_error}
@@ -75,6 +75,7 @@ module _ (map : SectorMap) (identity : Identity) (old new : DeviceView) (fault :
         down = declined.down;
         lacks = λ on up rests more. absurd (ready_not _ _ _ fault asks.asked.ready on up rests);
         repeats = λ on up rests names twice. absurd (ready_not _ _ _ fault asks.asked.ready on up rests);
+        empty = λ on up rests none. absurd (ready_not _ _ _ fault asks.asked.ready on up rests);
         off = declined.off;
       }
 
@@ -147,6 +148,7 @@ module _ (map : SectorMap) (identity : Identity) (before after : DeviceView)
         down = not_down (Err (no.Manifest NoComponent)) before before asks.asked.ready.0;
         lacks = λ on up rests more. (refl, refl);
         repeats = λ on up rests names twice. absurd (lacks names);
+        empty = λ on up rests none. absurd (lacks (λ k e within. absurd (omega (arith, within, none))));
         off = never_off (Err (no.Manifest NoComponent)) before;
       })
 
@@ -162,7 +164,25 @@ module _ (map : SectorMap) (identity : Identity) (before after : DeviceView)
         down = not_down (Err (no.Manifest RepeatedComponent)) before before asks.asked.ready.0;
         lacks = λ on up rests more. absurd (more names);
         repeats = λ on up rests present again. (refl, refl);
+        empty = λ on up rests none. absurd (twice (λ i j e before within. absurd (omega (arith, within, none))));
         off = never_off (Err (no.Manifest RepeatedComponent)) before;
+      })
+
+  -- The manifest has no component.
+  pub manifest_empty : (manifest : given.Manifest) → NamesImages identity manifest → NamesEachOnce manifest
+      → HasNoComponent manifest → IsLaidOut map before.flash → AllOpenAt (view map before.flash) before.sessions
+      → TakesManifestHere map identity manifest before after (Err (no.Manifest BadValue))
+  manifest_empty manifest names once none laid opens =
+      subst (λ at. TakesManifestHere map identity manifest before at (Err (no.Manifest BadValue)))
+      (sym asks.taken) (record {
+        taken = refused_untouched manifest BadValue none
+            (λ text means. let some : 0 < length manifest.components.items = means.meaning.spelled.some in
+            omega (arith, some, none)) laid opens;
+        down = not_down (Err (no.Manifest BadValue)) before before asks.asked.ready.0;
+        lacks = λ on up rests more. absurd (more names);
+        repeats = λ on up rests present twice. absurd (twice once);
+        empty = λ on up rests no_one. (refl, refl);
+        off = never_off (Err (no.Manifest BadValue)) before;
       })
 
   pub can_open : (manifest : given.Manifest) → IsLaidOut map before.flash → identity.images ≡ map.images
@@ -185,13 +205,15 @@ module _ (map : SectorMap) (identity : Identity) (before after : DeviceView)
       subst (λ at. OpensUploads map identity manifest at new result) asks.taken opened
 
   pub manifest_opened : (manifest : given.Manifest) (new : DeviceView) (result : Result Unit Fault)
-      → NamesImages identity manifest → NamesEachOnce manifest → OpensUploads map identity manifest after new result
+      → NamesImages identity manifest → NamesEachOnce manifest → (HasNoComponent manifest → ⊥)
+      → OpensUploads map identity manifest after new result
       → TakesManifestHere map identity manifest before new result
-  manifest_opened manifest new result names once opens = record {
+  manifest_opened manifest new result names once some opens = record {
     taken = opened_before manifest new result opens;
     down = not_down result before new asks.asked.ready.0;
     lacks = λ on up rests more. absurd (more names);
     repeats = λ on up rests present twice. absurd (twice once);
+    empty = λ on up rests none. absurd (some none);
     off = never_off result new;
   }
 

@@ -1,7 +1,8 @@
 -- How a call ends that passes on an error of another call, or comes after other calls.
-use Rattle.std.proofs.Common.{◌≡◌, Result, Ok, Err, IfOk, IsErrOf, OnOk, ap, refl}
+use Rattle.std.proofs.Common.{◌≡◌, Bool, Result, Ok, Err, IfOk, IsErrOf, OnOk, ap, refl}
 use Rattle.flash_model.specs.declared.error.FlashError.{FlashError}
 use Rattle.flash_model.specs.Chip.{Chip, Ends}
+use Rattle.sector_map.specs.Part.{Part}
 use Rattle.sector_map.specs.declared.layout.SectorMap.{SectorMap}
 use Rattle.boot_core.specs.BootEnds.{KeepsLayout, Passes}
 use Rattle.flash_model.proofs.Ending.{ends_after, no_error, uncut_refl}
@@ -54,9 +55,9 @@ pub then_ok : {S T U : Type 0} {value : S} {next : T} {other : U} {old mid new :
 then_ok first last = ok_ends (then_ends first last)
 
 -- The flash stops a passage.
-pub passes_err : {S T : Type 0} {map : SectorMap} {old new : Chip} {whatever : Type 0} {at_end : T → Type 0}
-    {error : FlashError} → KeepsLayout map old new → whatever → Ends {T = S} (Err error) old new
-    → Passes map old new whatever at_end (Err error)
+pub passes_err : {S T : Type 0} {map : SectorMap} {touched : Part → Bool} {old new : Chip} {whatever : Type 0}
+    {at_end : T → Type 0} {error : FlashError} → KeepsLayout map touched old new → whatever
+    → Ends {T = S} (Err error) old new → Passes map touched old new whatever at_end (Err error)
 passes_err layout stands ends = record { layout = layout; stands = stands; done = tt; ends = err_ends ends }
 
 -- What holds of the value if both facts hold of a call that succeeds.
@@ -64,3 +65,8 @@ pub ok_both : {T : Type 0} (A B : Type 0) (result : Result T FlashError) → OnO
     → IfOk result (λ value. A × B)
 ok_both A B (Ok value) a b = (a, b)
 ok_both A B (Err error) a b = tt
+
+pub on_ok_both : {T : Type 0} (A B C : Type 0) (result : Result T FlashError) → (A → B → C) → OnOk result A
+    → OnOk result B → OnOk result C
+on_ok_both A B C (Ok value) both a b = both a b
+on_ok_both A B C (Err error) both a b = tt

@@ -11,7 +11,7 @@ use Rattle.sector_map.specs.Part.{Part, Log}
 use Rattle.sector_map.proofs.Masks.{below_shift}
 use Rattle.set_log.specs.declared.state.State.{State}
 use Rattle.set_log.specs.declared.state.RecordKind.{RecordKind}
-use Rattle.set_log.specs.declared.state.RecordKind.TheVariants.{Steady, Swap, Settle, Trial, Back}
+use Rattle.set_log.specs.declared.state.RecordKind.TheVariants.{Steady, Swap, Settle, Trial, Back, BackSettle}
 use Rattle.set_log.specs.Record.{fits, kind_fits}
 use Rattle.set_log.specs.Log.{record_of, state_of, state_said}
 use Rattle.set_log.proofs.Spelled.{spells_of}
@@ -50,14 +50,14 @@ pub state_kept : (map : SectorMap) (touched : Part → Bool) (old new : Chip) (s
 state_kept map touched old new s keeps off read = has_state map new s (read_kept map touched old new s keeps off read)
 
 -- The same set and floors, of another kind.
-pub fits_next : (map : SectorMap) (chip : Chip) (s : State) (kind : RecordKind) (left : ℕ)
-    → state_of map chip ≡ Some s → kind_fits kind s.mask s.permanent left ≡ true
-    → fits map.images (record s { kind = kind; left = left }) ≡ true
-fits_next map chip s kind left read asked =
+pub fits_next : (map : SectorMap) (chip : Chip) (s : State) (kind : RecordKind) (permanent : Bool) (left : ℕ)
+    → state_of map chip ≡ Some s → kind_fits kind s.mask permanent left ≡ true
+    → fits map.images (record s { kind = kind; permanent = permanent; left = left }) ≡ true
+fits_next map chip s kind permanent left read asked =
     let was = and_parts (nat_lt s.mask (2 ^ map.images)) _ (stands_fits map chip s read) in
     let floors = (and_parts (kind_fits s.kind s.mask s.permanent s.left) _ was.1).1 in
     and_from (nat_lt s.mask (2 ^ map.images)) _ was.0
-    (and_from (kind_fits kind s.mask s.permanent left) _ asked floors)
+    (and_from (kind_fits kind s.mask permanent left) _ asked floors)
 
 -- What the kind of the record asks for.
 pub kind_of_read : (map : SectorMap) (chip : Chip) (s : State) (kind : RecordKind) → state_of map chip ≡ Some s
@@ -97,21 +97,28 @@ nat_le_of a b le = ⊎_elim (λ (h : (nat_le a b ≡ true) × (a ≤ b)). h.0)
 
 -- The record Trial with at most 6 more boots, after Settle.
 pub fits_trial : (map : SectorMap) (chip : Chip) (s : State) (left : ℕ) → state_of map chip ≡ Some s
-    → s.kind ≡ Settle → left ≤ 6 → fits map.images (record s { kind = Trial; left = left }) ≡ true
+    → s.kind ≡ Settle → left ≤ 6
+    → fits map.images (record s { kind = Trial; permanent = false; left = left }) ≡ true
 fits_trial map chip s left read is few =
     let asked = kind_of_read map chip s Settle read is in
-    fits_next map chip s Trial left read
+    fits_next map chip s Trial false left read
     (and_from (not (s.mask == 0)) _ (and_parts (not (s.mask == 0)) (s.left == 0) asked).0 (nat_le_of left 6 few))
 
 -- The record Back, after Trial.
 pub fits_back : (map : SectorMap) (chip : Chip) (s : State) → state_of map chip ≡ Some s → s.kind ≡ Trial
-    → fits map.images (record s { kind = Back; left = 0 }) ≡ true
+    → fits map.images (record s { kind = Back; permanent = false; left = 0 }) ≡ true
 fits_back map chip s read is =
     let asked = kind_of_read map chip s Trial read is in
-    fits_next map chip s Back 0 read
+    fits_next map chip s Back false 0 read
     (and_from (not (s.mask == 0)) _ (and_parts (not (s.mask == 0)) (nat_le s.left 6) asked).0 refl)
 
 -- At most one sector is erased, if no place is free.
 pub one_erase : (free : Bool) (old new : ℕ) → new ≡ old + (if free then 0 else 1) → new ≤ old + 1
 one_erase true old new erased = omega (arith, erased)
 one_erase false old new erased = omega (arith, erased)
+
+-- The record BackSettle, after Back.
+pub fits_back_settle : (map : SectorMap) (chip : Chip) (s : State) → state_of map chip ≡ Some s → s.kind ≡ Back
+    → fits map.images (record s { kind = BackSettle; permanent = false }) ≡ true
+fits_back_settle map chip s read is =
+    fits_next map chip s BackSettle false s.left read (kind_of_read map chip s Back read is)

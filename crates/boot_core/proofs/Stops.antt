@@ -11,18 +11,19 @@ use Rattle.certificate.specs.declared.report.Report.{Report}
 use Rattle.set_log.specs.Log.{state_of}
 use Rattle.set_log.specs.declared.state.State.{State}
 use Rattle.set_log.specs.declared.state.RecordKind.TheVariants as log
-use Rattle.upload.specs.View.{view}
+use Rattle.upload.specs.View.{View, view}
 use Rattle.machine.specs.Boots.{is_answer}
 use Rattle.machine.specs.Passing.{reply_of}
 use Rattle.machine.specs.declared.finding.Finding.{Finding}
 use Rattle.machine.specs.declared.finding.Finding.TheVariants.{Decided, Damaged, Invalid}
 use Rattle.machine.specs.declared.error.Fault.{Fault}
 use Rattle.machine.specs.declared.error.Fault.TheVariants as no
-use Rattle.machine.specs.declared.reply.Reply.TheVariants.{Refused}
+use Rattle.machine.specs.declared.reply.Reply.TheVariants.{Refused, TrialAgain}
+use Rattle.machine.specs.Starting.{StartsBy}
 use Rattle.machine.specs.declared.reply.Reply.{Reply}
 use Rattle.boot_core.specs.Answers.{IsOff, fault_reply, is_stopped}
 use Rattle.boot_core.specs.Found.{IsKeptFor, IsStopped, IsSwapAloneFor, IsToldAgain}
-use Rattle.boot_core.specs.Over.{IsOverAlone}
+use Rattle.boot_core.specs.Over.{IsIdleTrial, IsTriedAgain}
 use Rattle.boot_core.specs.Wear.{DoesNothing}
 
 -- A reply comes from one finding, unless that is a decision.
@@ -116,12 +117,12 @@ flash_unanswered flash.Off = refl
 
 pub read_over : (map : SectorMap) (old new : Chip) (read : State) (result : Result Reply FlashError)
     → state_of map old ≡ Some read
-    → (read.kind ≡ log.Trial → IfOk result (λ reply. DoesNothing reply → IsOverAlone map read old new))
+    → (read.kind ≡ log.Trial → IfOk result (λ reply. DoesNothing reply → IsIdleTrial map read old new reply))
     → IfOk result (λ reply. (state : State) → state_of map old ≡ Some state → state.kind ≡ log.Trial
-    → DoesNothing reply → IsOverAlone map state old new)
+    → DoesNothing reply → IsIdleTrial map state old new reply)
 read_over map old new read (Ok reply) is over = λ state stood kind nothing.
     let one : read ≡ state = some_same read state (sym is ∙ stood) in
-    subst (λ (s : State). IsOverAlone map s old new) one (over (ap (λ (s : State). s.kind) one ∙ kind) nothing)
+    subst (λ (s : State). IsIdleTrial map s old new reply) one (over (ap (λ (s : State). s.kind) one ∙ kind) nothing)
 read_over map old new read (Err error) is over = tt
 
 -- Its reply says that the flash stopped it.
@@ -138,9 +139,32 @@ flash_idle flash.Off old new ends nothing = ends.asleep (ends.off refl)
 -- So it doesn't end a trial.
 pub flash_over : (error : FlashError) (map : SectorMap) (state : State) (old new : Chip)
     → Ends {T = Reply} (Err error) old new → old.is_on ≡ true
-    → DoesNothing (fault_reply (no.Flash error)) → IsOverAlone map state old new
+    → DoesNothing (fault_reply (no.Flash error))
+    → IsIdleTrial map state old new (fault_reply (no.Flash error))
 flash_over flash.Cut map state old new ends on nothing = absurd nothing
 flash_over flash.Off map state old new ends on nothing = absurd (true≢false (sym on ∙ ends.off refl))
+
+pub read_again : (map : SectorMap) (old new : Chip) (read : State) (result : Result Reply FlashError)
+    → state_of map old ≡ Some read
+    → (read.kind ≡ log.Trial → IfOk result (λ reply. (set more : ℕ) → reply ≡ TrialAgain set more
+    → IsTriedAgain map read old new set more))
+    → IfOk result (λ reply. (state : State) (set more : ℕ) → state_of map old ≡ Some state → state.kind ≡ log.Trial
+    → reply ≡ TrialAgain set more → IsTriedAgain map state old new set more)
+read_again map old new read (Ok reply) is again = λ state set more stood kind told.
+    let one : read ≡ state = some_same read state (sym is ∙ stood) in
+    subst (λ (s : State). IsTriedAgain map s old new set more) one
+    (again (ap (λ (s : State). s.kind) one ∙ kind) set more told)
+read_again map old new read (Err error) is again = tt
+
+-- If the flash stops a boot, no set is tried again, and nothing is said of what starts.
+pub flash_again : {A : Type 0} (error : FlashError) (set more : ℕ)
+    → fault_reply (no.Flash error) ≡ TrialAgain set more → A
+flash_again flash.Cut set more is = cc
+flash_again flash.Off set more is = cc
+
+pub flash_starts : (error : FlashError) (w : View) → StartsBy w (fault_reply (no.Flash error))
+flash_starts flash.Cut w = tt
+flash_starts flash.Off w = tt
 
 -- If the flash is off, that is the result.
 pub flash_off : {S T : Type 0} (error : FlashError) (given : Fault) (old new : Chip) → given ≡ no.Flash error

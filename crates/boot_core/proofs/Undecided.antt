@@ -9,7 +9,7 @@ use Rattle.certificate.specs.declared.table.Table.{Table}
 use Rattle.certificate.specs.declared.report.Report.{Report}
 use Rattle.set_log.specs.declared.state.State.{State}
 use Rattle.upload.specs.Device.{DeviceState}
-use Rattle.upload.specs.View.{View}
+use Rattle.upload.specs.View.{View, view}
 use Rattle.machine.specs.Boots.{IsDecision, IsReported}
 use Rattle.machine.specs.Reading.{CanRead, IsFinding, IsFoundAgain}
 use Rattle.machine.specs.Wear.{IsSetFound}
@@ -21,7 +21,10 @@ use Rattle.decision.specs.Found.{IsFindingAt}
 use Rattle.decision.specs.Places.{finding_in}
 use Rattle.decision.specs.declared.places.Verdict.{Verdict}
 use Rattle.decision.specs.declared.places.Verdict.TheVariants as verdicts
-use Rattle.boot_core.specs.Found.{IsKeptFor, IsSwapAloneFor, IsToldAgain}
+use Rattle.boot_core.specs.Found.{IsKeptFor, IsSwapAloneFor, IsToldAgain, StartsFound}
+use Rattle.boot_core.specs.Moving.{settled_parts}
+use Rattle.machine.proofs.Starting.{set_kept}
+use Rattle.certificate.specs.Rightness.{taken_in}
 use Rattle.boot_core.specs.FromSwap.{IsSettleRecorded}
 
 -- A finding is no decision.
@@ -74,6 +77,21 @@ pub set_for : (mask : ℕ) (finding : Finding) → IsUndecided finding → IsSet
 set_for mask (Decided table report) none = absurd (none table report refl)
 set_for mask (Damaged i) none = tt
 set_for mask Invalid none = tt
+
+-- If no decision is found, nothing is said of what the primary slots begin with.
+pub starts_none : (w : View) (finding : Finding) → IsUndecided finding → StartsFound w finding
+starts_none w (Decided table report) none = absurd (none table report refl)
+starts_none w (Damaged i) none = tt
+starts_none w Invalid none = tt
+
+-- What the primary slots begin with stays if only trailers and the log are written.
+pub starts_settled : (map : SectorMap) (mask : ℕ) (old new : Chip) (finding : Finding)
+    → Keeps map (settled_parts mask) old new → StartsFound (view map old) finding
+    → StartsFound (view map new) finding
+starts_settled map mask old new (Decided table report) keeps starts =
+    set_kept map (settled_parts mask) old new keeps (λ i. refl) table (taken_in report) starts
+starts_settled map mask old new (Damaged i) keeps starts = tt
+starts_settled map mask old new Invalid keeps starts = tt
 
 -- What a finding says of why no decision is found.
 pub told_undecided : (w : View) (mask : ℕ) (floors : List ℕ) (finding : Finding) → IsFindingAt w mask finding

@@ -1,5 +1,5 @@
 -- Lemmas for a boot from a record Steady: it writes nothing, or takes a chosen set.
-use Rattle.std.proofs.Common.{◌≡◌, ◌⊎◌, ℕ, ◌+◌, Bool, Ok, refl}
+use Rattle.std.proofs.Common.{◌≡◌, ◌⊎◌, ℕ, ◌+◌, Bool, Ok, refl, subst, sym}
 use Rattle.flash_model.specs.Chip.{Chip, Ends}
 use Rattle.sector_map.specs.declared.layout.SectorMap.{SectorMap}
 use Rattle.sector_map.specs.Map.{IsLaidOut}
@@ -10,13 +10,15 @@ use Rattle.upload.specs.View.{view}
 use Rattle.machine.specs.Boots.{IsDecision}
 use Rattle.machine.specs.Passing.{CutsBoot, EndsBoot, IsSwappingSome, IsUpgraded, IsUpgrading, reply_of}
 use Rattle.machine.specs.Reading.{IsFoundAgain}
+use Rattle.machine.specs.Starting.{StartsBy}
 use Rattle.machine.specs.declared.finding.Finding.{Finding}
+use Rattle.machine.specs.declared.finding.Finding.TheVariants.{Decided, Damaged, Invalid}
 use Rattle.machine.specs.declared.reply.Reply.{Reply}
 use Rattle.machine.proofs.Upgrading.{begun_cut, chosen_decision, ended_cut, found_boots, steady_cut}
 use Rattle.boot_core.specs.Answers.{IsBootReply}
 use Rattle.boot_core.specs.Deciding.{AreForGoodIn}
 use Rattle.boot_core.specs.FromSteady.{BootsFromSteady, HasChosen}
-use Rattle.boot_core.specs.Wear.{IsSetMoved}
+use Rattle.boot_core.specs.Wear.{IsSetMoved, TriesNone}
 use Rattle.boot_core.proofs.Booted.{boot_gives}
 use Rattle.boot_core.proofs.Measured.{fresh_none}
 use Rattle.boot_core.proofs.OnMap.{layout_same}
@@ -25,13 +27,22 @@ use Rattle.boot_core.proofs.OnMap.{layout_same}
 pub steady_gives : {T : Type 0} {value : T} {reply : Reply} (map : SectorMap) (left : ℕ) (old new : Chip) (mask : ℕ)
     → IsLaidOut map old → new ≡ old
     → ((s : DeviceState) → IsSteadyAt (view map old) s → EndsBoot map (left + 1) new s reply)
-    → IsSetMoved mask reply → IsBootReply reply → Ends (Ok value) old new
+    → IsSetMoved mask reply → IsBootReply reply → TriesNone reply → StartsBy (view map old) reply
+    → Ends (Ok value) old new
     → BootsFromSteady map left old new (Ok reply)
-steady_gives {T} {value} {reply} map left old new mask laid same comes is told ends = record {
+steady_gives {T} {value} {reply} map left old new mask laid same comes is told fresh starts ends = record {
   boot = boot_gives (layout_same laid same) (λ s was. steady_cut map (left + 1) old new s same was) comes
-      (λ s was. fresh_none map old new mask reply same is) told ends;
+      (λ s was. fresh_none map old new mask reply same is) told
+      (subst (λ chip. StartsBy (view map chip) reply) (sym same) starts) ends;
   idle = λ state stood kind nothing. same;
+  fresh = fresh;
 }
+
+-- What is found of a decision isn't that a set is tried again.
+pub found_fresh : (finding : Finding) (permanent : Bool) → TriesNone (reply_of finding permanent)
+found_fresh (Decided table report) permanent = tt
+found_fresh (Damaged i) permanent = tt
+found_fresh Invalid permanent = tt
 
 -- The swap of a chosen set is begun, and finished.
 module _ (map : SectorMap) (old : Chip) (mask left : ℕ) (permanent : Bool) (asks : AreForGoodIn map mask old permanent) where

@@ -1,26 +1,28 @@
 -- How each passage of a boot ends. A passage is a part of a boot that goes on from a record.
-use Rattle.std.specs.Prelude.{ℕ, Result, IfOk}
+use Rattle.std.specs.Prelude.{ℕ, Bool, Result, IfOk}
 use Rattle.flash_model.specs.Chip.{Chip, Ends}
 use Rattle.flash_model.specs.declared.error.FlashError.{FlashError}
 use Rattle.sector_map.specs.Map.{IsLaidOut, Keeps}
-use Rattle.sector_map.specs.Part.{any_part}
+use Rattle.sector_map.specs.Part.{Part}
 use Rattle.sector_map.specs.declared.layout.SectorMap.{SectorMap}
 use Rattle.upload.specs.Device.{DeviceState}
+use Rattle.upload.specs.View.{view}
 use Rattle.machine.specs.Passing.{CutsBoot, EndsBoot}
+use Rattle.machine.specs.Starting.{StartsBy}
 use Rattle.machine.specs.declared.reply.Reply.{Reply}
 use Rattle.boot_core.specs.Answers.{IsBootReply}
-use Rattle.boot_core.specs.Wear.{DoesNothing}
+use Rattle.boot_core.specs.Moving.{moved_parts}
 
--- The map stays laid out on the flash. What lies after the map isn't changed.
-pub record KeepsLayout (map : SectorMap) (old new : Chip) : Type 0 where
+-- The map stays laid out on the flash. Only these parts of it are changed.
+pub record KeepsLayout (map : SectorMap) (touched : Part → Bool) (old new : Chip) : Type 0 where
   pub laid : IsLaidOut map new
-  pub on_map : (start : Chip) → Keeps map any_part start old → Keeps map any_part start new
+  pub on_map : (start : Chip) → Keeps map touched start old → Keeps map touched start new
 
--- A passage of a boot promises `whatever` however it ends, and `at_end` of its value if it
--- succeeds.
-pub record Passes (map : SectorMap) (old new : Chip) (whatever : Type 0) {T : Type 0}
-    (at_end : T → Type 0) (result : Result T FlashError) : Type 0 where
-  pub layout : KeepsLayout map old new
+-- A passage of a boot writes only these parts. It promises `whatever` however it ends, and `at_end`
+-- of its value if it succeeds.
+pub record Passes (map : SectorMap) (touched : Part → Bool) (old new : Chip) (whatever : Type 0)
+    {T : Type 0} (at_end : T → Type 0) (result : Result T FlashError) : Type 0 where
+  pub layout : KeepsLayout map touched old new
   pub open layout use *
   pub stands : whatever
   pub done : IfOk result at_end
@@ -33,12 +35,14 @@ pub record GivesReply (map : SectorMap) (boots : ℕ) (was : DeviceState → Typ
   pub ok : (s : DeviceState) → was s → EndsBoot map boots new s reply
   pub erases : worn reply
   pub told : IsBootReply reply
+  -- The primary slots begin with what the reply says, whatever state the device was in.
+  pub starts : StartsBy (view map new) reply
 
--- How a passage of a boot ends, for each state that the device was in. A trial that begins lasts
--- `boots` boots. This boot is the first of them.
-pub record BootEnds (map : SectorMap) (boots : ℕ) (was : DeviceState → Type 0)
+-- How a passage of a boot ends that may move these images, for each state that the device was in. A
+-- trial that begins lasts `boots` boots. This boot is the first of them.
+pub record BootEnds (map : SectorMap) (moves : ℕ → Bool) (boots : ℕ) (was : DeviceState → Type 0)
     (worn : Reply → Type 0) (old new : Chip) (result : Result Reply FlashError) : Type 0 where
-  pub layout : KeepsLayout map old new
+  pub layout : KeepsLayout map (moved_parts moves) old new
   pub open layout use *
   -- However the passage ends, the flash holds a state that a boot which is cut can leave.
   pub stands : (s : DeviceState) → was s → CutsBoot map boots new s
@@ -46,9 +50,7 @@ pub record BootEnds (map : SectorMap) (boots : ℕ) (was : DeviceState → Type 
   pub done : IfOk result (GivesReply map boots was worn new)
   pub ends : Ends result old new
 
--- A passage in which no trial begins ends so for any number of boots. If it succeeds, a set was
--- reverted or is tried again.
-pub record BootEndsForAny (map : SectorMap) (was : DeviceState → Type 0) (worn : Reply → Type 0)
-    (old new : Chip) (result : Result Reply FlashError) : Type 0 where
-  pub boot : (boots : ℕ) → BootEnds map boots was worn old new result
-  pub acts : IfOk result (λ reply. DoesNothing reply → ⊥)
+-- A passage in which no trial begins ends so for any number of boots.
+pub record BootEndsForAny (map : SectorMap) (moves : ℕ → Bool) (was : DeviceState → Type 0)
+    (worn : Reply → Type 0) (old new : Chip) (result : Result Reply FlashError) : Type 0 where
+  pub boot : (boots : ℕ) → BootEnds map moves boots was worn old new result

@@ -16,23 +16,25 @@ use Rattle.upload.specs.View.{view}
 use Rattle.machine.specs.Boots.{IsReadSound, is_answer}
 use Rattle.machine.specs.Holding.{DeviceView, Stands}
 use Rattle.machine.specs.Passing.{CutsBoot, EndsBoot, StepsTo, reply_of}
+use Rattle.machine.specs.Starting.{StartsBy}
 use Rattle.machine.specs.Steps.{cut_of}
 use Rattle.machine.specs.declared.error.Fault.{Fault}
 use Rattle.machine.specs.declared.error.Fault.TheVariants.{NotProvisioned}
 use Rattle.machine.specs.declared.finding.Finding.{Finding}
 use Rattle.machine.specs.declared.reply.Reply.{Reply}
-use Rattle.machine.specs.declared.reply.Reply.TheVariants.{Refused}
+use Rattle.machine.specs.declared.reply.Reply.TheVariants.{Refused, TrialAgain}
 use Rattle.boot_core.specs.Answers.{EndsCall, IsBootReply, IsOff, is_stopped, reply_of_boot}
 use Rattle.boot_core.specs.BootEnds.{BootEnds, KeepsLayout}
 use Rattle.boot_core.specs.Device.{made}
 use Rattle.boot_core.specs.Found.{IsStopped}
-use Rattle.boot_core.specs.Over.{IsOverAlone}
+use Rattle.boot_core.specs.Moving.{may_move, moved_parts}
+use Rattle.boot_core.specs.Over.{IsIdleTrial, IsTriedAgain}
 use Rattle.boot_core.specs.Wear.{DoesNothing, IsWorn}
 
 -- A boot from this record of the log, with the wear of its kind.
 pub record BootsFrom (map : SectorMap) (state : State) (left : ℕ) (old new : Chip)
     (result : Result Reply FlashError) : Type 0 where
-  pub boot : BootEnds map (left + 1) (Stands map old)
+  pub boot : BootEnds map (may_move map old) (left + 1) (Stands map old)
       (λ reply. (s : DeviceState) → Stands map old s
       → IsWorn map state.kind state.mask old new reply) old new result
   pub stops : IfOk result (λ reply. (finding : Finding) (permanent : Bool)
@@ -40,12 +42,14 @@ pub record BootsFrom (map : SectorMap) (state : State) (left : ℕ) (old new : C
   pub idle : state.kind ≡ log.Steady
       → IfOk result (λ reply. DoesNothing reply → new ≡ old)
   pub over : state.kind ≡ log.Trial
-      → IfOk result (λ reply. DoesNothing reply → IsOverAlone map state old new)
+      → IfOk result (λ reply. DoesNothing reply → IsIdleTrial map state old new reply)
+  pub again : state.kind ≡ log.Trial → IfOk result (λ reply. (set more : ℕ)
+      → reply ≡ TrialAgain set more → IsTriedAgain map state old new set more)
 
 -- A boot from any record, or from none.
 pub record BootsFromAny (map : SectorMap) (left : ℕ) (old new : Chip)
     (result : Result Reply FlashError) : Type 0 where
-  pub layout : KeepsLayout map old new
+  pub layout : KeepsLayout map (moved_parts (may_move map old)) old new
   pub open layout use *
   -- However the boot ends, the flash holds a state that a boot which is cut can leave.
   pub stands : (s : DeviceState) → Stands map old s → CutsBoot map (left + 1) new s
@@ -63,7 +67,7 @@ pub record BootsFromAny (map : SectorMap) (left : ℕ) (old new : Chip)
   pub erases : IfOk result (λ reply. (state : State) (s : DeviceState)
       → state_of map old ≡ Some state → Stands map old s
       → IsWorn map state.kind state.mask old new reply)
-  -- A refusal says why the upgrade of the record stops.
+  -- A refusal says why the upgrade or the revert of the record stops.
   pub stops : IfOk result (λ reply. (state : State) (finding : Finding) (permanent : Bool)
       → state_of map old ≡ Some state → reply ≡ reply_of finding permanent
       → IsStopped map state old new finding)
@@ -71,11 +75,17 @@ pub record BootsFromAny (map : SectorMap) (left : ℕ) (old new : Chip)
   pub idle : IfOk result (λ reply. (state : State)
       → state_of map old ≡ Some state → state.kind ≡ log.Steady
       → DoesNothing reply → new ≡ old)
-  -- If the record is Trial, such a boot found each image of the set confirmed. It writes only the
-  -- record that the trial is over.
+  -- If the record is Trial, such a boot found each image of the set confirmed, and writes only the
+  -- record that the trial is over. Or the set can neither revert nor run, and nothing is written.
   pub over : IfOk result (λ reply. (state : State)
       → state_of map old ≡ Some state → state.kind ≡ log.Trial
-      → DoesNothing reply → IsOverAlone map state old new)
+      → DoesNothing reply → IsIdleTrial map state old new reply)
+  -- If a set on trial is tried again, at most the record of the boots that are left is written.
+  pub again : IfOk result (λ reply. (state : State) (set more : ℕ)
+      → state_of map old ≡ Some state → state.kind ≡ log.Trial
+      → reply ≡ TrialAgain set more → IsTriedAgain map state old new set more)
+  -- Whatever the flash holds, the primary slots begin with what the reply says.
+  pub starts : IfOk result (StartsBy (view map new))
   pub told : IfOk result IsBootReply
   -- If the flash is off, that is the result.
   pub off : old.is_on ≡ false → IsErrOf result Off
@@ -84,7 +94,7 @@ pub record BootsFromAny (map : SectorMap) (left : ℕ) (old new : Chip)
 -- A device boots, and its uploads end. A trial that begins has `left` more boots.
 pub record EndsUploadsAndBoots (map : SectorMap) (left : ℕ) (old new : DeviceView)
     (result : Result Reply Fault) : Type 0 where
-  pub layout : KeepsLayout map old.flash new.flash
+  pub layout : KeepsLayout map (moved_parts (may_move map old.flash)) old.flash new.flash
   pub open layout use *
   -- No upload is open.
   pub opens : AllOpenAt (view map new.flash) new.sessions
@@ -110,7 +120,7 @@ pub record EndsUploadsAndBoots (map : SectorMap) (left : ℕ) (old new : DeviceV
       → (state : State) (s : DeviceState)
       → state_of map old.flash ≡ Some state → Stands map old.flash s
       → IsWorn map state.kind state.mask old.flash new.flash (reply_of_boot result)
-  -- A refusal says why the upgrade of the record stops.
+  -- A refusal says why the upgrade or the revert of the record stops.
   pub stops : (state : State) (finding : Finding) (permanent : Bool)
       → state_of map old.flash ≡ Some state
       → reply_of_boot result ≡ reply_of finding permanent
@@ -119,11 +129,18 @@ pub record EndsUploadsAndBoots (map : SectorMap) (left : ℕ) (old new : DeviceV
   pub idle : (state : State) → state_of map old.flash ≡ Some state
       → state.kind ≡ log.Steady → DoesNothing (reply_of_boot result)
       → new.flash ≡ old.flash
-  -- If the record is Trial, such a boot found each image of the set confirmed. It writes only the
-  -- record that the trial is over.
+  -- If the record is Trial, such a boot found each image of the set confirmed, and writes only the
+  -- record that the trial is over. Or the set can neither revert nor run, and nothing is written.
   pub over : old.flash.is_on ≡ true → (state : State)
       → state_of map old.flash ≡ Some state → state.kind ≡ log.Trial
-      → DoesNothing (reply_of_boot result) → IsOverAlone map state old.flash new.flash
+      → DoesNothing (reply_of_boot result)
+      → IsIdleTrial map state old.flash new.flash (reply_of_boot result)
+  -- If a set on trial is tried again, at most the record of the boots that are left is written.
+  pub again : (state : State) (set more : ℕ) → state_of map old.flash ≡ Some state
+      → state.kind ≡ log.Trial → reply_of_boot result ≡ TrialAgain set more
+      → IsTriedAgain map state old.flash new.flash set more
+  -- Whatever the flash holds, the primary slots begin with what the reply says.
+  pub starts : StartsBy (view map new.flash) (reply_of_boot result)
   -- If the flash is off, that is the result.
   pub off : old.flash.is_on ≡ false → IsOff result old.flash new.flash
   pub ends : EndsCall (reply_of_boot result) old new

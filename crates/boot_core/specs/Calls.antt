@@ -6,9 +6,9 @@ use Rattle.common.specs.declared.event.Event.TheVariants as event
 use Rattle.flash_model.specs.Chip.{Chip}
 use Rattle.sector_map.specs.declared.layout.SectorMap.{SectorMap}
 use Rattle.sector_map.specs.Map.{Keeps}
-use Rattle.sector_map.specs.Part.{Part, Slot, TrailerOf, any_part, incoming_of, only}
+use Rattle.sector_map.specs.Part.{Part, Slot, TrailerOf, incoming_of, only}
 use Rattle.sector_map.specs.declared.layout.Side.TheVariants.{Primary, Secondary}
-use Rattle.manifest.specs.declared.error.ManifestError.TheVariants.{NoComponent, RepeatedComponent}
+use Rattle.manifest.specs.declared.error.ManifestError.TheVariants.{BadValue, NoComponent, RepeatedComponent}
 use Rattle.manifest.specs.declared.identity.Identity.{Identity}
 use Rattle.manifest.specs.declared.manifest.Manifest as given
 use Rattle.manifest.specs.Fault.{IsManifest}
@@ -18,10 +18,12 @@ use Rattle.set_log.specs.declared.state.RecordKind.{RecordKind}
 use Rattle.set_log.specs.declared.state.State.{State}
 use Rattle.upload.specs.Device.{DeviceState, Machine}
 use Rattle.upload.specs.Accepted.{accepted_parts}
+use Rattle.upload.specs.View.{view}
 use Rattle.upload.specs.Sessions.{AllClosed, upload_at}
 use Rattle.machine.specs.Boots.{IsReadSound, is_answer}
 use Rattle.machine.specs.Holding.{Holds, Stands}
 use Rattle.machine.specs.Passing.{RunsTo, StepsTo, reply_of}
+use Rattle.machine.specs.Starting.{StartsBy}
 use Rattle.machine.specs.States.{asleep}
 use Rattle.machine.specs.Steps.{DeviceEvent, cut_of, cuts_in}
 use Rattle.machine.specs.declared.error.Fault.{Fault}
@@ -29,6 +31,7 @@ use Rattle.machine.specs.declared.error.Fault.TheVariants as no
 use Rattle.machine.specs.declared.error.Fault.TheVariants.{NotProvisioned}
 use Rattle.machine.specs.declared.finding.Finding.{Finding}
 use Rattle.machine.specs.declared.reply.Reply.{Reply}
+use Rattle.machine.specs.declared.reply.Reply.TheVariants.{TrialAgain}
 use Rattle.boot_core.specs.Answers.{EndsCall, IsBootReply, IsNotBooted, IsOff, is_stop, is_stopped}
 use Rattle.boot_core.specs.Answers.{keeps_all, may_close}
 use Rattle.upload.specs.declared.error.UploadError.TheVariants.{SizeWrong}
@@ -38,9 +41,10 @@ use Rattle.boot_core.specs.Answers.{reply_of_boot, reply_of_result}
 use Rattle.boot_core.specs.CutEvents.{IsCutAsDue, StepsEach}
 use Rattle.boot_core.specs.Device.{StaysHeld, Whole, made}
 use Rattle.boot_core.specs.Found.{IsStopped}
-use Rattle.boot_core.specs.Ready.{LogsNoTrial, LogsTrialOf, RefusesManifest}
+use Rattle.boot_core.specs.Ready.{HasNoComponent, LogsNoTrial, LogsTrialOf, RefusesManifest}
 use Rattle.boot_core.specs.Confirming.{IsOkSet}
-use Rattle.boot_core.specs.Over.{IsOverAlone}
+use Rattle.boot_core.specs.Moving.{may_move, moved_parts}
+use Rattle.boot_core.specs.Over.{IsIdleTrial, IsTriedAgain}
 use Rattle.boot_core.specs.Wear.{DoesNothing, IsWorn}
 
 -- A device is new: made over this flash, with this map, identity and number of boots per trial.
@@ -81,21 +85,34 @@ pub record BootsDevice (old new : Whole) (result : Result Reply Fault) : Type 0 
       → Stands old.setup.map old.here.flash s
       → IsWorn old.setup.map state.kind state.mask old.here.flash new.here.flash
       (reply_of_boot result)
-  -- Nothing after the map's last sector is changed.
-  pub outside : Keeps old.setup.map any_part old.here.flash new.here.flash
+  -- Only the log, scratch, and the slots and trailers of images in the record's set or requested are
+  -- changed, and nothing after the map's last sector.
+  pub outside : Keeps old.setup.map (moved_parts (may_move old.setup.map old.here.flash))
+      old.here.flash new.here.flash
+  -- Whatever the flash holds, the primary slots begin with what the reply says: after a report with
+  -- an intact image for each image, which together are a valid set, and after TrialAgain with
+  -- intact images.
+  pub starts : StartsBy (view old.setup.map new.here.flash) (reply_of_boot result)
   -- From a Steady record, a boot that takes nothing or is refused writes nothing.
   pub idle : (state : State) → state_of old.setup.map old.here.flash ≡ Some state
       → state.kind ≡ RecordKind.Steady → DoesNothing (reply_of_boot result)
       → new.here.flash ≡ old.here.flash
   -- With power and from a Trial record, a boot that takes nothing or is refused found each image of
-  -- the set confirmed, and writes only the record that the trial is over.
+  -- the set confirmed, and writes only the record that the trial is over. Or the set can neither
+  -- revert nor run, and nothing is written.
   pub over : old.here.flash.is_on ≡ true → (state : State)
       → state_of old.setup.map old.here.flash ≡ Some state → state.kind ≡ RecordKind.Trial
       → DoesNothing (reply_of_boot result)
-      → IsOverAlone old.setup.map state old.here.flash new.here.flash
+      → IsIdleTrial old.setup.map state old.here.flash new.here.flash (reply_of_boot result)
+  -- From a Trial record, a boot that tries the set again writes at most the record of the boots that
+  -- are left.
+  pub again : (state : State) (set left : ℕ)
+      → state_of old.setup.map old.here.flash ≡ Some state → state.kind ≡ RecordKind.Trial
+      → reply_of_boot result ≡ TrialAgain set left
+      → IsTriedAgain old.setup.map state old.here.flash new.here.flash set left
   -- If the flash is off, the result says so and the flash is unchanged.
   pub off : old.here.flash.is_on ≡ false → IsOff result old.here.flash new.here.flash
-  -- A refusal during an upgrade reports what was found of it, and wrote at most the upgrade's swap.
+  -- A refusal during an upgrade or a revert reports what was found of it, and wrote at most the swap.
   pub stops : (state : State) (finding : Finding) (permanent : Bool)
       → state_of old.setup.map old.here.flash ≡ Some state
       → reply_of_boot result ≡ reply_of finding permanent
@@ -169,13 +186,18 @@ pub record TakesManifest (manifest : given.Manifest) (old new : Whole) (result :
       → LogsNoTrial (state_of old.setup.map old.here.flash)
       → NamesImages old.setup.identity manifest → (NamesEachOnce manifest → ⊥)
       → (result ≡ Err (no.Manifest RepeatedComponent)) × (new.here ≡ old.here)
+  -- With power, a device that takes uploads reports BadValue if the manifest has no component, and
+  -- nothing is changed.
+  pub empty : old.here.flash.is_on ≡ true → old.here.up ≡ true
+      → LogsNoTrial (state_of old.setup.map old.here.flash) → HasNoComponent manifest
+      → (result ≡ Err (no.Manifest BadValue)) × (new.here ≡ old.here)
   -- Unless the flash stopped the call, a refusal leaves the flash unchanged.
   pub refused : IfErr result (λ fault. is_stop fault ≡ false
       → new.here.flash ≡ old.here.flash)
   -- Unless the flash stopped the call, a refusal leaves the complete device unchanged.
   pub kept : IfErr result (λ fault. is_stop fault ≡ false → new.here ≡ old.here)
-  -- The manifest itself is refused only for an image that the device lacks, or that is named twice;
-  -- memory never runs out.
+  -- The manifest itself is refused only for an image that the device lacks, or that is named twice,
+  -- or because it has no component; memory never runs out.
   pub told : IfErr result (RefusesManifest old.setup.identity manifest)
   -- If a booted device's flash is off, the result says so and the flash is unchanged.
   pub off : old.here.up ≡ true → old.here.flash.is_on ≡ false

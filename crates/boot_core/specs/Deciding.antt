@@ -7,16 +7,17 @@ use Rattle.certificate.specs.declared.table.Table.{Table}
 use Rattle.trailer.specs.Standing.{standing_of}
 use Rattle.trailer.specs.declared.kinds.Kind.TheVariants.{Permanent}
 use Rattle.upload.specs.Device.{DeviceState}
-use Rattle.upload.specs.View.{view}
+use Rattle.upload.specs.View.{View, view}
 use Rattle.machine.specs.Boots.{IsDecision, AsksForGood}
 use Rattle.machine.specs.Passing.{reply_of}
 use Rattle.machine.specs.Reading.{CanRead, IsFoundAgain, HasImages, IsAsking}
+use Rattle.machine.specs.Starting.{StartsBy}
 use Rattle.machine.specs.Wear.{IsSetFound, IsSetOf}
 use Rattle.machine.specs.declared.finding.Finding.{Finding}
 use Rattle.machine.specs.declared.reply.Reply.{Reply}
 use Rattle.boot_core.specs.Answers.{IsBootReply}
 use Rattle.decision.specs.Found.{HasTable}
-use Rattle.boot_core.specs.Found.{IsToldAgain}
+use Rattle.boot_core.specs.Found.{IsToldAgain, StartsFound}
 use Rattle.boot_core.specs.Wear.{DoesNothing, IsSetMoved}
 
 -- A call finds the decision of a record again after the slots of its set were swapped.
@@ -34,6 +35,8 @@ pub record FindsAgain (map : SectorMap) (mask : ℕ) (floors : List ℕ) (old ne
   pub whole : IfOk result (HasImages map.images)
   -- The table has a row for each image.
   pub rows : IfOk result (HasTable map.images)
+  -- On any flash, the primary slots begin with what a decision says.
+  pub starts : IfOk result (StartsFound (view map old))
   -- On any flash, if no decision is found, the finding says why.
   pub told : IfOk result (IsToldAgain (view map old) mask floors)
   pub ends : Ends result old new
@@ -56,3 +59,4 @@ pub record AnswersFinding (finding : Finding) (permanent : Bool) (result : Reply
   pub some : (s : DeviceState) (mask : ℕ) → IsFoundAgain s mask finding
       → IsSetFound mask finding → (mask ≡ 0 → ⊥) → DoesNothing result → ⊥
   pub told : IsBootReply result
+  pub starts : (w : View) → StartsFound w finding → StartsBy w result

@@ -1,18 +1,21 @@
--- What is found if the decision of a record isn't found again, and what is written then.
+-- What is found if the decision of a record isn't found again, or its set isn't intact after it was
+-- swapped back, and what is written then.
 use Rattle.std.specs.Prelude.{◌≡◌, ℕ, List}
 use Rattle.flash_model.specs.Chip.{Chip}
 use Rattle.sector_map.specs.declared.layout.SectorMap.{SectorMap}
-use Rattle.sector_map.specs.declared.layout.Side.TheVariants.{Primary}
+use Rattle.sector_map.specs.declared.layout.Side.TheVariants.{Primary, Secondary}
 use Rattle.sector_map.specs.Map.{Keeps}
 use Rattle.sector_map.specs.Part.{is_member, swap_of}
 use Rattle.certificate.specs.declared.table.Table.{Table}
 use Rattle.certificate.specs.Combination.{IsGreatest, IsValid, running_set}
+use Rattle.certificate.specs.Rightness.{taken_in}
 use Rattle.set_log.specs.declared.state.State.{State}
 use Rattle.set_log.specs.declared.state.RecordKind.TheVariants as log
 use Rattle.upload.specs.View.{View, view}
 use Rattle.upload.specs.Device.{DeviceState}
 use Rattle.machine.specs.Boots.{IsTableOf}
 use Rattle.machine.specs.Reading.{CanRead}
+use Rattle.machine.specs.Starting.{IsLost, StartsSet}
 use Rattle.machine.specs.declared.finding.Finding.{Finding}
 use Rattle.machine.specs.declared.finding.Finding.TheVariants.{Decided, Damaged, Invalid}
 use Rattle.decision.specs.Found.{AreReadable, IsLowestAt}
@@ -30,6 +33,12 @@ IsToldAgain w mask floors (Damaged i) = IsLowestAt w mask i
 IsToldAgain w mask floors Invalid = AreReadable w mask w.images
     × ((s : DeviceState) → CanRead w s mask floors → IsMistaken s mask)
 
+-- If a decision is found, the primary slots begin with what its report says.
+abbrev pub StartsFound : View → Finding → Type 0
+StartsFound w (Decided table report) = StartsSet w table (taken_in report)
+StartsFound w (Damaged i) = Unit {0}
+StartsFound w Invalid = Unit {0}
+
 -- If no decision is found, nothing is written.
 abbrev pub IsKeptFor : Chip → Chip → Finding → Type 0
 IsKeptFor old new (Decided table report) = Unit {0}
@@ -42,12 +51,25 @@ IsSwapAloneFor map mask old new (Decided table report) = Unit {0}
 IsSwapAloneFor map mask old new (Damaged i) = Keeps map (swap_of mask Primary) old new
 IsSwapAloneFor map mask old new Invalid = Keeps map (swap_of mask Primary) old new
 
--- ---- how a boot stops in an upgrade that was begun
+-- After the set of a record was swapped back, only a damaged image of it is found: the lowest one
+-- whose primary slot begins with no intact image.
+abbrev pub IsLostFor : View → ℕ → Finding → Type 0
+IsLostFor w mask (Decided table report) = ⊥
+IsLostFor w mask (Damaged i) = IsLost w mask Primary i
+IsLostFor w mask Invalid = ⊥
 
--- What a boot reports and writes if it continues an upgrade and finds no decision.
+-- ---- how a boot stops that continues an upgrade or a revert
+
+-- What a boot reports and writes if it continues an upgrade and finds no decision, or a revert and
+-- finds a damaged image.
 pub record IsStopped (map : SectorMap) (state : State) (old new : Chip) (finding : Finding)
     : Type 0 where
   pub swap : state.kind ≡ log.Swap → IsToldAgain (view map new) state.mask state.floors finding
       × IsSwapAloneFor map state.mask old new finding
   pub settle : state.kind ≡ log.Settle → IsToldAgain (view map new) state.mask state.floors finding
       × IsKeptFor old new finding
+  -- A revert finishes its swap, and writes nothing more.
+  pub back : state.kind ≡ log.Back → IsLostFor (view map new) state.mask finding
+      × Keeps map (swap_of state.mask Secondary) old new
+  pub back_settle : state.kind ≡ log.BackSettle → IsLostFor (view map new) state.mask finding
+      × (new ≡ old)

@@ -1,9 +1,9 @@
 -- Contracts of a boot from a record Back or BackSettle: one record for each function.
-use Rattle.std.specs.Prelude.{◌≡◌, ◌⊎◌, ◌+◌, ◌≤◌, true, Some, Result, OnOk}
+use Rattle.std.specs.Prelude.{◌≡◌, ◌⊎◌, ◌+◌, ◌*◌, ◌≤◌, Bool, true, false, Some, Result, IfOk, OnOk}
 use Rattle.flash_model.specs.Chip.{Chip, Ends}
 use Rattle.flash_model.specs.declared.error.FlashError.{FlashError}
 use Rattle.sector_map.specs.Map.{Keeps}
-use Rattle.sector_map.specs.Part.{Log, only}
+use Rattle.sector_map.specs.Part.{Log, is_member, only, swap_of}
 use Rattle.sector_map.specs.declared.layout.SectorMap.{SectorMap}
 use Rattle.sector_map.specs.declared.layout.Side.TheVariants.{Secondary}
 use Rattle.set_log.specs.Log.{state_of}
@@ -14,34 +14,61 @@ use Rattle.upload.specs.Device.{DeviceState, Trial}
 use Rattle.upload.specs.Steady.{IsSteadyAt}
 use Rattle.upload.specs.View.{view}
 use Rattle.machine.specs.Holding.{AreSettled, IsSwappedBack, Stands}
-use Rattle.machine.specs.Passing.{IsGoingBack, IsSwappingBackSome}
+use Rattle.machine.specs.Passing.{IsGoingBack, IsSwappingBackSome, reply_of}
 use Rattle.machine.specs.States.{reverted}
-use Rattle.machine.specs.Wear.{IsSettling, IsResumed}
+use Rattle.machine.specs.Wear.{IsSettling, IsResumed, members}
+use Rattle.machine.specs.declared.finding.Finding.{Finding}
 use Rattle.machine.specs.declared.reply.Reply.{Reply}
+use Rattle.machine.specs.declared.reply.Reply.TheVariants.{Reverted}
 use Rattle.boot_core.specs.BootEnds.{BootEndsForAny, Passes}
+use Rattle.boot_core.specs.Found.{IsLostFor}
+use Rattle.boot_core.specs.Moving.{settled_parts}
 use Rattle.boot_core.specs.Wear.{IsSetMoved}
 
--- The set of a record is swapped back, and the log says so in the record `now`.
-pub record IsSwapBackDone (map : SectorMap) (state : State) (old new : Chip) (now : State)
-    : Type 0 where
+-- The swap back of the set of a record is finished. The record is unchanged.
+pub record IsSwapBackDone (map : SectorMap) (state : State) (old new : Chip) : Type 0 where
   pub ok : (s : DeviceState) (trial : Trial) → state.mask ≡ trial.set
-      → IsSwappingBackSome map old s trial
-      → IsSwappedBack (view map new) s trial log.BackSettle
-  pub recorded : state_of map new ≡ Some now
-  pub is : now ≡ record state { kind = log.BackSettle }
-  -- At most, a sector is erased for each step that was left, and one more.
+      → IsSwappingBackSome map old s trial → IsSwappedBack (view map new) s trial log.Back
+  -- A sector is erased for each step that was left.
   pub erases : (s : DeviceState) (trial : Trial) → state.mask ≡ trial.set
       → IsSwappingBackSome map old s trial
       → new.erases + steps_done map old Secondary state.mask
-      ≤ old.erases + steps_in_all map old Secondary state.mask + 1
+      ≤ old.erases + steps_in_all map old Secondary state.mask
 
--- From Back to BackSettle: a call swaps the set of a record back, and records that. However it
--- ends, the device is on its way back.
-abbrev pub SwapsBack : SectorMap → State → Chip → Chip → Result State FlashError → Type 0
-SwapsBack map state old new result = Passes map old new
-    ((s : DeviceState) (trial : Trial) → state.mask ≡ trial.set
-    → IsSwappingBackSome map old s trial → IsGoingBack map new s trial)
-    (IsSwapBackDone map state old new) result
+-- A call finishes the swap back of the set of a record, from wherever it is. However it ends, the
+-- revert is at some step of the swap.
+pub record SwapsBack (map : SectorMap) (state : State) (old new : Chip)
+    (result : Result Unit FlashError) : Type 0 where
+  -- Only the slots of the set, their trailers that count the swap, and scratch are written.
+  pub outside : Keeps map (swap_of state.mask Secondary) old new
+  pub read : state_of map new ≡ Some state
+  pub stands : (s : DeviceState) (trial : Trial) → state.mask ≡ trial.set
+      → IsSwappingBackSome map old s trial → IsSwappingBackSome map new s trial
+  pub done : OnOk result (IsSwapBackDone map state old new)
+  pub ends : Ends result old new
+
+-- The set of a trial is swapped back by a swap that counts as at its last step.
+abbrev pub IsBackDone : SectorMap → State → Chip → DeviceState → Trial → Type 0
+IsBackDone map state chip s trial = (state.mask ≡ trial.set)
+    × IsSwappingBackSome map chip s trial × IsSwappedBack (view map chip) s trial log.Back
+
+-- The log says in the record `now` that the set of a record is swapped back.
+pub record IsBackRecorded (map : SectorMap) (state : State) (old new : Chip) (now : State)
+    : Type 0 where
+  pub ok : (s : DeviceState) (trial : Trial) → IsBackDone map state old s trial
+      → IsSwappedBack (view map new) s trial log.BackSettle
+  pub recorded : state_of map new ≡ Some now
+  pub is : now ≡ record state { kind = log.BackSettle; permanent = false }
+  -- At most one sector is erased.
+  pub erases : new.erases ≤ old.erases + 1
+
+-- From Back to BackSettle: a call records that the set of a record is swapped back. However it ends,
+-- the device is on its way back.
+abbrev pub RecordsBack : SectorMap → State → Chip → Chip → Result State FlashError → Type 0
+RecordsBack map state old new result = Passes map (settled_parts state.mask) old new
+    ((s : DeviceState) (trial : Trial) → IsBackDone map state old s trial
+    → IsGoingBack map new s trial)
+    (IsBackRecorded map state old new) result
 
 -- After BackSettle has settled the set, a call records that the old images run.
 pub record RecordsReturned (map : SectorMap) (old new : Chip) (result : Result Unit FlashError)
@@ -72,35 +99,62 @@ pub record IsReturned (map : SectorMap) (state : State) (old new : Chip) : Type 
 -- From BackSettle to Steady: a call settles the set of a record, and records that the old images
 -- run. However it ends, the set is swapped back as before, or the device is at rest.
 abbrev pub SettlesAndReturns : SectorMap → State → Chip → Chip → Result Unit FlashError → Type 0
-SettlesAndReturns map state old new result = Passes map old new
+SettlesAndReturns map state old new result = Passes map (settled_parts state.mask) old new
     ((s : DeviceState) (trial : Trial) → state.mask ≡ trial.set
     → IsSwappedBack (view map old) s trial log.BackSettle
     → IsSwappedBack (view map new) s trial log.BackSettle
     ⊎ IsSteadyAt (view map new) (reverted s trial))
     (λ done. IsReturned map state old new) result
 
--- The set of a record is swapped back, and the device is at rest.
+-- The set of a record, which was swapped back, is settled after a record, and the device is at rest.
 pub record IsBackFinished (map : SectorMap) (state : State) (old new : Chip) : Type 0 where
-  pub ok : (s : DeviceState) (trial : Trial) → state.mask ≡ trial.set
-      → IsSwappingBackSome map old s trial → IsSteadyAt (view map new) (reverted s trial)
-  pub erases : (s : DeviceState) (trial : Trial) → state.mask ≡ trial.set
-      → IsSwappingBackSome map old s trial → IsResumed map old new Secondary state.mask
+  pub ok : (s : DeviceState) (trial : Trial) → IsBackDone map state old s trial
+      → IsSteadyAt (view map new) (reverted s trial)
+  pub erases : new.erases ≤ old.erases + 2 * members map state.mask + 2
 
--- From Back to Steady: a call finishes the swap back of the set of a record, and records that the
--- old images run. However it ends, the device is on its way back, or at rest.
+-- From Back to Steady, once the set of a record is swapped back: a call records that, settles the
+-- set, and records that the old images run. However it ends, the device is on its way back, or at
+-- rest.
 abbrev pub FinishesBack : SectorMap → State → Chip → Chip → Result Unit FlashError → Type 0
-FinishesBack map state old new result = Passes map old new
-    ((s : DeviceState) (trial : Trial) → state.mask ≡ trial.set → IsSwappingBackSome map old s trial
+FinishesBack map state old new result = Passes map (settled_parts state.mask) old new
+    ((s : DeviceState) (trial : Trial) → IsBackDone map state old s trial
     → IsGoingBack map new s trial ⊎ IsSteadyAt (view map new) (reverted s trial))
     (λ done. IsBackFinished map state old new) result
 
--- A boot from a record Back swaps its set back.
-abbrev pub BootsFromBack : SectorMap → State → Chip → Chip → Result Reply FlashError → Type 0
-BootsFromBack map state old new result = BootEndsForAny map (Stands map old)
+-- A boot that carries a revert out from a record Back, wherever its swap is.
+abbrev pub CarriesBack : SectorMap → State → Chip → Chip → Result Reply FlashError → Type 0
+CarriesBack map state old new result = BootEndsForAny map (is_member state.mask) (Stands map old)
     (λ reply. (s : DeviceState) → Stands map old s
     → IsResumed map old new Secondary state.mask × IsSetMoved state.mask reply) old new result
 
--- A boot from a record BackSettle settles its set.
-abbrev pub BootsFromBackSettle : SectorMap → State → Chip → Chip → Result Reply FlashError → Type 0
-BootsFromBackSettle map state old new result = BootEndsForAny map (Stands map old)
-    (λ reply. IsSettling map old new state.mask × IsSetMoved state.mask reply) old new result
+-- A boot that begins the swap back of a set reverts it.
+pub record Reverts (map : SectorMap) (state : State) (old new : Chip)
+    (result : Result Reply FlashError) : Type 0 where
+  pub boot : CarriesBack map state old new result
+  -- If it succeeds, it replies that the set reverted.
+  pub is : IfOk result (λ reply. reply ≡ Reverted state.mask)
+
+-- A boot from a record Back finishes its swap, and reverts its set if that is intact then.
+-- Otherwise it writes nothing more, and is refused for the lowest image of the set that isn't.
+pub record BootsFromBack (map : SectorMap) (state : State) (old new : Chip)
+    (result : Result Reply FlashError) : Type 0 where
+  pub boot : CarriesBack map state old new result
+  pub stops : IfOk result (λ reply. (finding : Finding) (permanent : Bool)
+      → reply ≡ reply_of finding permanent → IsLostFor (view map new) state.mask finding
+      × Keeps map (swap_of state.mask Secondary) old new)
+
+-- A boot that settles the set of a record BackSettle.
+abbrev pub SettlesBackFor : SectorMap → State → Chip → Chip → Result Reply FlashError → Type 0
+SettlesBackFor map state old new result = BootEndsForAny map (is_member state.mask)
+    (Stands map old)
+    (λ reply. (s : DeviceState) → Stands map old s
+    → IsSettling map old new state.mask × IsSetMoved state.mask reply) old new result
+
+-- A boot from a record BackSettle settles its set if that is intact. Otherwise it writes nothing,
+-- and is refused for the lowest image of the set that isn't.
+pub record BootsFromBackSettle (map : SectorMap) (state : State) (old new : Chip)
+    (result : Result Reply FlashError) : Type 0 where
+  pub boot : SettlesBackFor map state old new result
+  pub stops : IfOk result (λ reply. (finding : Finding) (permanent : Bool)
+      → reply ≡ reply_of finding permanent
+      → IsLostFor (view map new) state.mask finding × (new ≡ old))

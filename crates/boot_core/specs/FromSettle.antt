@@ -1,5 +1,5 @@
 -- Contracts of a boot from a record Settle: one record for each function.
-use Rattle.std.specs.Prelude.{◌≡◌, ◌≢◌, ◌⊎◌, ◌+◌, ◌*◌, ◌≤◌, ℕ, Bool, true, List, Some}
+use Rattle.std.specs.Prelude.{◌≡◌, ◌≢◌, ◌⊎◌, ◌+◌, ◌*◌, ◌≤◌, ℕ, Bool, true, false, List, Option, Some, None}
 use Rattle.std.specs.Prelude.{Result, OnOk, IfOk}
 use Rattle.common.specs.Limits.{MOST_BOOTS_LEFT}
 use Rattle.flash_model.specs.Chip.{Chip, Ends}
@@ -25,7 +25,8 @@ use Rattle.machine.specs.declared.finding.Finding.{Finding}
 use Rattle.machine.specs.declared.reply.Reply.{Reply}
 use Rattle.boot_core.specs.BootEnds.{BootEnds, Passes}
 use Rattle.decision.specs.Found.{HasTable}
-use Rattle.boot_core.specs.Found.{IsKeptFor, IsToldAgain}
+use Rattle.boot_core.specs.Found.{IsKeptFor, IsToldAgain, StartsFound}
+use Rattle.boot_core.specs.Moving.{settled_parts}
 
 -- In Settle or BackSettle: a call settles the trailers of an image if the image is in the mask.
 pub record SettlesMember (map : SectorMap) (mask image : ℕ) (settling : Settling)
@@ -53,6 +54,11 @@ pub record SettlesSet (map : SectorMap) (mask : ℕ) (settling : Settling) (old 
   pub erases : OnOk result (new.erases ≤ old.erases + 2 * members map mask)
   pub ends : Ends result old new
 
+-- The log says that a set is on trial, and nothing of permanence.
+abbrev pub IsTrialLogged : Option State → Type 0
+IsTrialLogged None = ⊥
+IsTrialLogged (Some state) = (state.kind ≡ log.Trial) × (state.permanent ≡ false)
+
 -- From Settle to Trial or Steady: a call records that a set is on trial, with `left` more boots, or
 -- permanent, with these floors.
 pub record RecordsTaken (map : SectorMap) (permanent : Bool) (left : ℕ) (floors : List ℕ)
@@ -65,7 +71,8 @@ pub record RecordsTaken (map : SectorMap) (permanent : Bool) (left : ℕ) (floor
       → AreSettled (view map old) mask permanent
       → IsSwapped (view map new) s table log.Settle mask permanent
       ⊎ IsTakenAt (view map new) s mask permanent left floors
-  -- If the call succeeds, the set is taken.
+  -- If the call succeeds, the set is taken. The record of a trial isn't permanent.
+  pub says : OnOk result (permanent ≡ false → IsTrialLogged (state_of map new))
   pub ok : OnOk result ((s : DeviceState) (table : Table) (mask : ℕ)
       → IsSwapped (view map old) s table log.Settle mask permanent
       → AreSettled (view map old) mask permanent
@@ -85,7 +92,7 @@ pub record IsSetTaken (map : SectorMap) (state : State) (left : ℕ) (floors : L
 -- permanent. However it ends, the set is swapped as before, or it is taken.
 abbrev pub SettlesAndRecords : SectorMap → State → ℕ → List ℕ → Chip → Chip
     → Result Unit FlashError → Type 0
-SettlesAndRecords map state left floors old new result = Passes map old new
+SettlesAndRecords map state left floors old new result = Passes map (settled_parts state.mask) old new
     ((s : DeviceState) (table : Table)
     → IsSwapped (view map old) s table log.Settle state.mask state.permanent
     → IsSwapped (view map new) s table log.Settle state.mask state.permanent
@@ -121,7 +128,7 @@ pub record IsUpgradeSettled (map : SectorMap) (state : State) (left : ℕ) (old 
 -- done.
 abbrev pub SettlesUpgrade : SectorMap → State → ℕ → (Finding → Type 0) → Chip → Chip
     → Result Finding FlashError → Type 0
-SettlesUpgrade map state left tells old new result = Passes map old new
+SettlesUpgrade map state left tells old new result = Passes map (settled_parts state.mask) old new
     ((s : DeviceState) (table : Table)
     → IsSwapped (view map old) s table log.Settle state.mask state.permanent
     → IsSwapped (view map new) s table log.Settle state.mask state.permanent
@@ -136,18 +143,20 @@ SettlesFound map state left finding old new result =
     SettlesUpgrade map state left (λ answer. answer ≡ finding) old new result
 
 -- From Settle on: a call finds the decision again, and takes its set, on trial or permanent. What
--- is found is of the set of the record, or says why no decision is found.
+-- is found is of the set of the record and what the primary slots begin with, or says why no
+-- decision is found.
 abbrev pub FinishesSettle : SectorMap → State → ℕ → Chip → Chip → Result Finding FlashError
     → Type 0
 FinishesSettle map state left old new result = SettlesUpgrade map state left
     (λ finding. IsSetFound state.mask finding
-    × IsToldAgain (view map old) state.mask state.floors finding) old new result
+    × IsToldAgain (view map old) state.mask state.floors finding
+    × StartsFound (view map new) finding) old new result
 
 -- A boot from a record Settle finishes the upgrade. If the decision isn't found again, the reply
 -- says why, and nothing is written.
 pub record BootsFromSettle (map : SectorMap) (state : State) (left : ℕ) (old new : Chip)
     (result : Result Reply FlashError) : Type 0 where
-  pub boot : BootEnds map (left + 1) (Stands map old)
+  pub boot : BootEnds map (is_member state.mask) (left + 1) (Stands map old)
       (λ reply. IsSettling map old new state.mask × IsSetOf state.mask reply) old new result
   pub stops : IfOk result (λ reply. (finding : Finding) (permanent : Bool)
       → reply ≡ reply_of finding permanent

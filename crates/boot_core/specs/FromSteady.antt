@@ -11,12 +11,14 @@ use Rattle.set_log.specs.declared.state.State.{State}
 use Rattle.upload.specs.Device.{DeviceState}
 use Rattle.upload.specs.Steady.{IsSteadyAt}
 use Rattle.upload.specs.View.{view}
+use Rattle.sector_map.specs.Part.{is_member}
 use Rattle.machine.specs.Boots.{IsDecision, IsChosen}
 use Rattle.machine.specs.Passing.{IsSwappingSome}
 use Rattle.machine.specs.Wear.{members}
 use Rattle.machine.specs.declared.reply.Reply.{Reply}
 use Rattle.boot_core.specs.BootEnds.{BootEnds, Passes}
-use Rattle.boot_core.specs.Wear.{AreMeasured, DoesNothing, IsAfresh}
+use Rattle.boot_core.specs.Moving.{may_move, moved_parts}
+use Rattle.boot_core.specs.Wear.{AreMeasured, DoesNothing, IsAfresh, TriesNone}
 
 -- The swap of the decision has begun.
 pub record IsSwapBegun (map : SectorMap) (state : State) (mask : ℕ) (permanent : Bool)
@@ -41,7 +43,7 @@ pub record IsSwapBegun (map : SectorMap) (state : State) (mask : ℕ) (permanent
 -- the swap of the decision has begun.
 abbrev pub BeginsSwap : SectorMap → State → ℕ → Bool → Chip → Chip → Result State FlashError
     → Type 0
-BeginsSwap map state mask permanent old new result = Passes map old new
+BeginsSwap map state mask permanent old new result = Passes map (moved_parts (is_member mask)) old new
     ((s : DeviceState) (table : Table)
     → IsSteadyAt (view map old) s → IsDecision s table mask permanent
     → IsSteadyAt (view map new) s ⊎ IsSwappingSome map new s table mask permanent)
@@ -55,19 +57,22 @@ HasChosen map mask chip s =
 -- A chosen set is taken, and the reply says so.
 pub record Upgrades (map : SectorMap) (mask left : ℕ) (old new : Chip)
     (result : Result Reply FlashError) : Type 0 where
-  pub boot : BootEnds map (left + 1) (HasChosen map mask old)
+  pub boot : BootEnds map (is_member mask) (left + 1) (HasChosen map mask old)
       (λ reply. (s : DeviceState) → HasChosen map mask old s → IsAfresh map old new 3 reply)
       old new result
   pub some : IfOk result (λ reply. (s : DeviceState) → HasChosen map mask old s
       → DoesNothing reply → ⊥)
+  pub fresh : IfOk result TriesNone
 
 -- A boot from a record Steady makes the decision, and takes a chosen set. If none is chosen, or the
 -- boot is refused, nothing is written. That holds on any flash whose log says that the device is at
 -- rest.
 pub record BootsFromSteady (map : SectorMap) (left : ℕ) (old new : Chip)
     (result : Result Reply FlashError) : Type 0 where
-  pub boot : BootEnds map (left + 1) (IsSteadyAt (view map old))
+  pub boot : BootEnds map (may_move map old) (left + 1) (IsSteadyAt (view map old))
       (λ reply. (s : DeviceState) → IsSteadyAt (view map old) s → IsAfresh map old new 3 reply)
       old new result
   pub idle : IfOk result (λ reply. (state : State) → state_of map old ≡ Some state
       → state.kind ≡ log.Steady → DoesNothing reply → new ≡ old)
+  -- No set is tried again.
+  pub fresh : IfOk result TriesNone

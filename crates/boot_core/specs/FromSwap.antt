@@ -8,6 +8,7 @@ use Rattle.certificate.specs.declared.table.Table.{Table}
 use Rattle.set_log.specs.Log.{state_of}
 use Rattle.set_log.specs.declared.state.RecordKind.TheVariants as log
 use Rattle.set_log.specs.declared.state.State.{State}
+use Rattle.sector_map.specs.Part.{is_member}
 use Rattle.swap_scratch.specs.Swap.{steps_done, steps_in_all}
 use Rattle.upload.specs.Device.{DeviceState}
 use Rattle.upload.specs.View.{view}
@@ -21,7 +22,8 @@ use Rattle.machine.specs.declared.finding.Finding.TheVariants.{Damaged, Decided,
 use Rattle.decision.specs.Found.{HasTable}
 use Rattle.machine.specs.declared.reply.Reply.{Reply}
 use Rattle.boot_core.specs.BootEnds.{BootEnds, Passes}
-use Rattle.boot_core.specs.Found.{IsSwapAloneFor, IsToldAgain}
+use Rattle.boot_core.specs.Found.{IsSwapAloneFor, IsToldAgain, StartsFound}
+use Rattle.boot_core.specs.Moving.{moved_parts}
 
 -- If the decision is found again, the log says that its set is swapped.
 abbrev pub IsSettleRecorded : SectorMap → State → Chip → Finding → Type 0
@@ -30,13 +32,14 @@ IsSettleRecorded map state chip (Decided table report) =
 IsSettleRecorded map state chip (Damaged i) = Unit {0}
 IsSettleRecorded map state chip Invalid = Unit {0}
 
--- What is found is of the set of the record, or says why no decision is found. If none is found,
--- only the swap is written.
+-- What is found is of the set of the record and what the primary slots begin with, or says why no
+-- decision is found. If none is found, only the swap is written.
 pub record IsFoundSwapped (map : SectorMap) (state : State) (old new : Chip) (finding : Finding)
     : Type 0 where
   pub set : IsSetFound state.mask finding
   pub told : IsToldAgain (view map new) state.mask state.floors finding
   pub alone : IsSwapAloneFor map state.mask old new finding
+  pub starts : StartsFound (view map new) finding
 
 -- The set of a record is swapped, and this is found.
 pub record IsSwapDone (map : SectorMap) (state : State) (old new : Chip) (finding : Finding)
@@ -62,7 +65,7 @@ pub record IsSwapDone (map : SectorMap) (state : State) (old new : Chip) (findin
 -- From Swap to Settle: a call finishes the swap of the set of a record, finds the decision again,
 -- and records that. However it ends, the upgrade is under way.
 abbrev pub SwapsForth : SectorMap → State → Chip → Chip → Result Finding FlashError → Type 0
-SwapsForth map state old new result = Passes map old new
+SwapsForth map state old new result = Passes map (moved_parts (is_member state.mask)) old new
     ((s : DeviceState) (table : Table) → IsSwappingSome map old s table state.mask state.permanent
     → IsUpgrading map new s table state.mask state.permanent)
     (IsSwapDone map state old new) result
@@ -82,7 +85,7 @@ pub record IsSwapFinished (map : SectorMap) (state : State) (left : ℕ) (old ne
 -- From Swap on: a call finishes the swap, finds the decision again, and takes its set, on trial or
 -- permanent. However it ends, the upgrade is under way, or is done.
 abbrev pub FinishesSwap : SectorMap → State → ℕ → Chip → Chip → Result Finding FlashError → Type 0
-FinishesSwap map state left old new result = Passes map old new
+FinishesSwap map state left old new result = Passes map (moved_parts (is_member state.mask)) old new
     ((s : DeviceState) (table : Table) → IsSwappingSome map old s table state.mask state.permanent
     → IsUpgrading map new s table state.mask state.permanent
     ⊎ IsUpgraded left (view map new) s state.mask state.permanent)
@@ -92,7 +95,7 @@ FinishesSwap map state left old new result = Passes map old new
 -- why, and only the swap is written.
 pub record BootsFromSwap (map : SectorMap) (state : State) (left : ℕ) (old new : Chip)
     (result : Result Reply FlashError) : Type 0 where
-  pub boot : BootEnds map (left + 1) (Stands map old)
+  pub boot : BootEnds map (is_member state.mask) (left + 1) (Stands map old)
       (λ reply. (s : DeviceState) → Stands map old s
       → IsResumed map old new Primary state.mask × IsSetOf state.mask reply) old new result
   pub stops : IfOk result (λ reply. (finding : Finding) (permanent : Bool)

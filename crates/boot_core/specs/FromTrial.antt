@@ -1,10 +1,10 @@
 -- Contracts of a boot from a record Trial: one record for each function.
-use Rattle.std.specs.Prelude.{◌≡◌, ◌⊎◌, ◌+◌, ◌≤◌, ℕ, Bool, true, List, Some, Result, IfOk}
+use Rattle.std.specs.Prelude.{◌≡◌, ◌⊎◌, ◌+◌, ◌<◌, ◌≤◌, ℕ, Bool, true, false, List, Some, None, Result, IfOk}
 use Rattle.std.specs.Prelude.{Option, slice_index}
 use Rattle.flash_model.specs.Chip.{Chip, Ends}
 use Rattle.flash_model.specs.declared.error.FlashError.{FlashError}
 use Rattle.sector_map.specs.Map.{Keeps}
-use Rattle.sector_map.specs.Part.{Log, only}
+use Rattle.sector_map.specs.Part.{Log, is_member, only}
 use Rattle.sector_map.specs.declared.layout.SectorMap.{SectorMap}
 use Rattle.sector_map.specs.declared.layout.Side.TheVariants.{Primary, Secondary}
 use Rattle.trailer.specs.Fields.{fields_at}
@@ -13,21 +13,25 @@ use Rattle.set_log.specs.declared.state.RecordKind.TheVariants as log
 use Rattle.set_log.specs.declared.state.State.{State}
 use Rattle.upload.specs.Device.{DeviceState, Trial}
 use Rattle.upload.specs.Steady.{IsSteadyAt, IsFront}
-use Rattle.upload.specs.View.{view}
+use Rattle.upload.specs.View.{View, view}
 use Rattle.machine.specs.Boots.{GoesBack, GoesOn}
 use Rattle.machine.specs.Holding.{IsTrialAt, IsTrialOpen, Stands}
 use Rattle.machine.specs.Passing.{IsSwappingBackSome, IsOpenOrAt}
-use Rattle.machine.specs.Reading.{AreSetOk, HasLeft, IsAnyDamaged, IsDamagedOr, IsFloorOf}
+use Rattle.machine.specs.Reading.{AreSetOk, HasLeft, IsFloorOf}
 use Rattle.machine.specs.Reading.{IsPassage, RunsAt}
 use Rattle.machine.specs.States.{IsConfirmed, IsRaised, settled}
 use Rattle.machine.specs.Wear.{members}
 use Rattle.machine.specs.declared.finding.Passage.{Passage}
-use Rattle.machine.specs.declared.finding.Passage.TheVariants.{Over}
+use Rattle.machine.specs.declared.finding.Passage.TheVariants.{Over, Back, Again, Stays, Refused}
+use Rattle.machine.specs.Starting.{AreHeld, AreIntact, IsLost}
 use Rattle.machine.specs.declared.reply.Reply.{Reply}
+use Rattle.machine.specs.declared.reply.Reply.TheVariants.{Reverted, TrialAgain}
+use Rattle.decision.specs.Found.{IsLowestAt}
 use Rattle.boot_core.specs.BootEnds.{BootEnds, BootEndsForAny, Passes}
-use Rattle.boot_core.specs.Over.{IsOverAlone, IsRecordedOver, record_over}
+use Rattle.boot_core.specs.Moving.{may_move, moved_parts}
+use Rattle.boot_core.specs.Over.{IsIdleTrial, IsRecordedOver, IsTriedAgain, record_over}
 use Rattle.boot_core.specs.Recorded.{IsStateRecorded}
-use Rattle.boot_core.specs.Wear.{AreMeasured, DoesNothing, IsAfresh}
+use Rattle.boot_core.specs.Wear.{AreMeasured, DoesNothing, IsAfresh, TriesNone}
 
 -- Whether an image is confirmed.
 abbrev pub IsConfirmedIn : SectorMap → ℕ → Chip → Bool → Type 0
@@ -37,15 +41,11 @@ IsConfirmedIn map image chip answer = answer ≡ (fields_at map chip image Prima
 abbrev pub AreConfirmedIn : SectorMap → ℕ → Chip → Bool → Type 0
 AreConfirmedIn map mask chip answer = AreSetOk (view map chip) mask answer
 
--- Whether the running bytes of an image are damaged.
-abbrev pub IsDamagedIn : SectorMap → ℕ → Chip → Bool → Type 0
-IsDamagedIn map image chip answer = (held : Option (List ℕ))
-    → IsFront ((view map chip).slot image Primary) held → IsDamagedOr held answer
-
--- Whether the running bytes of any image are damaged.
-abbrev pub IsAnyDamagedIn : SectorMap → Chip → Bool → Type 0
-IsAnyDamagedIn map chip answer =
-    (s : DeviceState) → RunsAt (view map chip) s → IsAnyDamaged s answer
+-- Whether a set on trial can be tried again: a boot is left, and each running image is intact.
+abbrev pub IsGoingOn : SectorMap → ℕ → Chip → Bool → Type 0
+IsGoingOn map left chip true = (0 < left) × AreIntact (view map chip)
+IsGoingOn map left chip false = (left ≡ 0)
+    ⊎ ((i : ℕ) × (i < map.images) × IsFront ((view map chip).slot i Primary) None)
 
 -- A floor raised to the security counter of a running image.
 abbrev pub IsFloorIn : SectorMap → ℕ → ℕ → Chip → ℕ → Type 0
@@ -65,15 +65,24 @@ pub record RaisesFloors (map : SectorMap) (floors : List ℕ) (old new : Chip)
       → slice_index raised i ≡ slice_index floors i)
   pub ends : Ends result old new
 
+-- What was looked at, on any flash, to continue a trial with this passage.
+abbrev pub IsLooked : View → State → Passage → Type 0
+IsLooked w state Over = AreSetOk w state.mask true
+IsLooked w state Back = AreSetOk w state.mask false × AreHeld w state.mask Secondary w.images
+IsLooked w state Again = AreSetOk w state.mask false × AreIntact w
+IsLooked w state Stays = AreSetOk w state.mask false × AreIntact w
+    × ((i : ℕ) × IsLost w state.mask Secondary i)
+IsLooked w state (Refused i) = AreSetOk w state.mask false × IsLowestAt w 0 i
+    × ((j : ℕ) × IsLost w state.mask Secondary j)
+
 -- A call decides how a boot continues from a trial.
 pub record DecidesTrial (map : SectorMap) (state : State) (old new : Chip)
     (result : Result Passage FlashError) : Type 0 where
   -- The flash is as it was.
   pub same : new ≡ old
-  -- The trial is over only if each image of its set is confirmed.
-  pub confirmed : IfOk result (λ passage. passage ≡ Over
-      → AreSetOk (view map old) state.mask true)
-  -- A set that is tried again has a boot left.
+  -- On any flash, the images that the passage relies on were looked at.
+  pub looks : IfOk result (IsLooked (view map old) state)
+  -- A set that is tried again has a boot left, and one that only stays on trial has none.
   pub left : IfOk result (HasLeft state.left)
   -- The boot continues as the machine says of the trial.
   pub ok : IfOk result (λ passage. (s : DeviceState) (trial : Trial)
@@ -106,7 +115,7 @@ pub record IsBackBegun (map : SectorMap) (state : State) (old new : Chip) (now :
       → IsTrialOpen (view map old) s trial → IsSwappingBackSome map new s trial
   -- The log says so in the record `now`.
   pub recorded : state_of map new ≡ Some now
-  pub is : now ≡ record state { kind = log.Back; left = 0 }
+  pub is : now ≡ record state { kind = log.Back; permanent = false; left = 0 }
   -- The secondary trailers of the set say how many bytes the swap back moves.
   pub moves : AreMeasured (view map old) (view map new) Secondary state.mask
   -- At most, a sector is erased for each image of the set, and one for the record.
@@ -115,7 +124,7 @@ pub record IsBackBegun (map : SectorMap) (state : State) (old new : Chip) (now :
 -- From Trial to Back: a call begins the swap back of a set on trial. However it ends, the trial
 -- goes on, or the set has begun to revert.
 abbrev pub BeginsBack : SectorMap → State → Chip → Chip → Result State FlashError → Type 0
-BeginsBack map state old new result = Passes map old new
+BeginsBack map state old new result = Passes map (moved_parts (is_member state.mask)) old new
     ((s : DeviceState) (trial : Trial) → GoesBack s trial → IsTrialOpen (view map old) s trial
     → IsTrialOpen (view map new) s trial ⊎ IsSwappingBackSome map new s trial)
     (IsBackBegun map state old new) result
@@ -129,25 +138,36 @@ HasTrial such map chip s = (trial : Trial) × such s trial × IsOpenOrAt (view m
 -- holds on any flash.
 pub record BootsConfirmed (map : SectorMap) (state : State) (left : ℕ) (old new : Chip)
     (result : Result Reply FlashError) : Type 0 where
-  pub boot : BootEnds map (left + 1) (HasTrial IsConfirmed map old)
+  pub boot : BootEnds map (may_move map old) (left + 1) (HasTrial IsConfirmed map old)
       (λ reply. (s : DeviceState) → HasTrial IsConfirmed map old s
       → IsAfresh map old new 4 reply) old new result
   pub idle : IfOk result (λ reply. DoesNothing reply → IsRecordedOver map state old new)
+  -- No set is tried again.
+  pub fresh : IfOk result TriesNone
 
 -- A boot from a trial that goes on leaves one boot less.
-abbrev pub BootsAgain : SectorMap → Chip → Chip → Result Reply FlashError → Type 0
-BootsAgain map old new result = BootEndsForAny map (HasTrial GoesOn map old)
-    (IsAfresh map old new 4) old new result
+pub record BootsAgain (map : SectorMap) (state : State) (old new : Chip)
+    (result : Result Reply FlashError) : Type 0 where
+  pub boot : BootEndsForAny map (is_member state.mask) (HasTrial GoesOn map old)
+      (IsAfresh map old new 4) old new result
+  pub acts : IfOk result (λ reply. DoesNothing reply → ⊥)
+  pub again : IfOk result (λ reply. (set left : ℕ) → reply ≡ TrialAgain set left
+      → IsTriedAgain map state old new set left)
 
 -- A boot from a trial that reverts swaps its set back.
-abbrev pub BootsBack : SectorMap → Chip → Chip → Result Reply FlashError → Type 0
-BootsBack map old new result = BootEndsForAny map (HasTrial GoesBack map old)
-    (λ reply. (s : DeviceState) → HasTrial GoesBack map old s → IsAfresh map old new 4 reply)
-    old new result
+pub record BootsBack (map : SectorMap) (state : State) (old new : Chip)
+    (result : Result Reply FlashError) : Type 0 where
+  pub boot : BootEndsForAny map (is_member state.mask) (HasTrial GoesBack map old)
+      (λ reply. (s : DeviceState) → HasTrial GoesBack map old s → IsAfresh map old new 4 reply)
+      old new result
+  -- If it succeeds, it replies that the set reverted.
+  pub is : IfOk result (λ reply. reply ≡ Reverted state.mask)
 
--- A boot from a record Trial does one of these.
+-- A boot from a record Trial does one of these, or writes nothing because an old image isn't intact.
 pub record BootsFromTrial (map : SectorMap) (state : State) (left : ℕ) (old new : Chip)
     (result : Result Reply FlashError) : Type 0 where
-  pub boot : BootEnds map (left + 1) (Stands map old)
+  pub boot : BootEnds map (may_move map old) (left + 1) (Stands map old)
       (λ reply. (s : DeviceState) → Stands map old s → IsAfresh map old new 4 reply) old new result
-  pub idle : IfOk result (λ reply. DoesNothing reply → IsOverAlone map state old new)
+  pub idle : IfOk result (λ reply. DoesNothing reply → IsIdleTrial map state old new reply)
+  pub again : IfOk result (λ reply. (set left : ℕ) → reply ≡ TrialAgain set left
+      → IsTriedAgain map state old new set left)

@@ -14,11 +14,13 @@ pub mod Provisioned
 pub mod FirstState
 pub mod Wear
 pub mod Recorded
+pub mod Moving
 pub mod BootEnds
 pub mod FromSteady
 pub mod FromSwap
 pub mod FromSettle
 pub mod Over
+pub mod Looking
 pub mod FromTrial
 pub mod FromBack
 pub mod Booting

@@ -1,5 +1,5 @@
 -- Whether a device takes uploads, and which refusals come from a manifest.
-use Rattle.std.specs.Prelude.{◌≡◌, ℕ, ◌<◌, Bool, true, false, List, Option, Some, None, Result, Ok, Err}
+use Rattle.std.specs.Prelude.{◌≡◌, ℕ, ◌<◌, Bool, true, false, List, length, Option, Some, None, Result, Ok, Err}
 use Rattle.flash_model.specs.declared.error.FlashError.TheVariants as flash
 use Rattle.manifest.specs.declared.identity.Identity.{Identity}
 use Rattle.manifest.specs.declared.manifest.Manifest.{Manifest}
@@ -57,14 +57,20 @@ RefusesText identity bytes (no.Manifest error) = IsRefusal identity bytes error
 RefusesText identity bytes no.NoMemory = Unit
 RefusesText identity bytes other = ⊥
 
+-- A manifest has no component.
+abbrev pub HasNoComponent : Manifest → Type 0
+HasNoComponent manifest = length manifest.components.items ≡ 0
+
 -- Which refusals a manifest that was parsed before can have. NoComponent comes only if the manifest
 -- names an image that the device lacks. RepeatedComponent comes only if the device has each image
--- and the manifest names one twice. No other refusal of a text comes, nor NoMemory.
+-- and the manifest names one twice. BadValue comes only if the manifest has no component. No other
+-- refusal of a text comes, nor NoMemory.
 abbrev pub RefusesManifest : Identity → Manifest → Fault → Type 0
 RefusesManifest identity manifest (no.Manifest text.NoComponent) =
     NamesImages identity manifest → ⊥
 RefusesManifest identity manifest (no.Manifest text.RepeatedComponent) =
     NamesImages identity manifest × (NamesEachOnce manifest → ⊥)
+RefusesManifest identity manifest (no.Manifest text.BadValue) = HasNoComponent manifest
 RefusesManifest identity manifest (no.Manifest error) = ⊥
 RefusesManifest identity manifest no.NoMemory = ⊥
 RefusesManifest identity manifest other = Unit

@@ -10,7 +10,7 @@ use Rattle.sector_map.specs.declared.layout.SectorMap.{SectorMap}
 use Rattle.sector_map.specs.Map.{IsLaidOut, Keeps}
 use Rattle.sector_map.specs.Part.{Part, Slot, TrailerOf, any_part, incoming_of, only}
 use Rattle.sector_map.specs.declared.layout.Side.TheVariants.{Primary, Secondary}
-use Rattle.manifest.specs.declared.error.ManifestError.TheVariants.{NoComponent, RepeatedComponent}
+use Rattle.manifest.specs.declared.error.ManifestError.TheVariants.{BadValue, NoComponent, RepeatedComponent}
 use Rattle.manifest.specs.declared.identity.Identity.{Identity}
 use Rattle.manifest.specs.declared.manifest.Manifest as given
 use Rattle.manifest.specs.Fault.{IsManifest}
@@ -35,7 +35,7 @@ use Rattle.upload.specs.declared.error.UploadError.TheVariants.{NoSession, SizeW
 use Rattle.upload.specs.Finishing.{WritesLastUnit}
 use Rattle.boot_core.specs.Confirming.{IsOkSet}
 use Rattle.boot_core.specs.Device.{StaysHeld, made}
-use Rattle.boot_core.specs.Ready.{IsReadiness, LogsNoTrial, LogsTrialOf, RefusesManifest}
+use Rattle.boot_core.specs.Ready.{HasNoComponent, IsReadiness, LogsNoTrial, LogsTrialOf, RefusesManifest}
 
 -- A call checks whether uploads are taken.
 pub record ChecksReady (map : SectorMap) (is_booted : Bool) (old new : Chip)
@@ -217,7 +217,7 @@ pub record OpensUploads (map : SectorMap) (identity : Identity) (manifest : give
   pub refused : IfErr result (λ fault. is_stop fault ≡ false → new.flash ≡ old.flash)
   -- Such a refusal leaves the uploads too, and whether the device is booted.
   pub kept : IfErr result (λ fault. is_stop fault ≡ false → new ≡ old)
-  -- Of the refusals of a manifest only NoComponent and RepeatedComponent can come.
+  -- Of the refusals of a manifest only NoComponent, RepeatedComponent and BadValue can come.
   pub told : IfErr result (RefusesManifest identity manifest)
   -- It asks a journal for at most 120 bytes, and those that opening each slot takes.
   pub journal : new.flash.journaled ≤ old.flash.journaled
@@ -242,6 +242,10 @@ pub record TakesManifestHere (map : SectorMap) (identity : Identity) (manifest :
   pub repeats : old.flash.is_on ≡ true → old.up ≡ true → LogsNoTrial (state_of map old.flash)
       → NamesImages identity manifest → (NamesEachOnce manifest → ⊥)
       → (result ≡ Err (no.Manifest RepeatedComponent)) × (new ≡ old)
+  -- If uploads are taken and the manifest has no component, that is the result, and nothing is
+  -- touched.
+  pub empty : old.flash.is_on ≡ true → old.up ≡ true → LogsNoTrial (state_of map old.flash)
+      → HasNoComponent manifest → (result ≡ Err (no.Manifest BadValue)) × (new ≡ old)
   -- If the device is booted and the flash is off, that is the result, and nothing is written.
   pub off : old.up ≡ true → old.flash.is_on ≡ false → IsOff result old.flash new.flash
 

@@ -55,6 +55,11 @@ DoesNothing (Booted table report permanent) = TakesNone report
 DoesNothing (Refused fault) = Unit {0}
 DoesNothing other = ⊥
 
+-- A boot doesn't report that a set is tried again.
+abbrev pub TriesNone : Reply → Type 0
+TriesNone (TrialAgain set left) = ⊥
+TriesNone other = Unit {0}
+
 -- The wear of a boot that isn't cut, by the kind of the record that it found.
 abbrev pub IsWorn : SectorMap → RecordKind → ℕ → Chip → Chip → Reply → Type 0
 IsWorn map log.Steady mask old new reply = IsAfresh map old new 3 reply

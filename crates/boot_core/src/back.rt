@@ -6,28 +6,37 @@ ghost use Rattle.certificate.specs.declared.table.Table.{Table};
 ghost use Rattle.certificate.specs.declared.report.Report.{Report};
 ghost use Rattle.decision.specs.Places.{read_as};
 ghost use Rattle.boot_core.specs.Places.{reply_in};
-ghost use Rattle.boot_core.specs.FromBack.{BootsFromBack, BootsFromBackSettle, FinishesBack, RecordsReturned, SettlesAndReturns, SwapsBack};
+ghost use Rattle.boot_core.specs.FromBack.{BootsFromBack, BootsFromBackSettle, FinishesBack, RecordsBack, RecordsReturned, Reverts, SettlesAndReturns, SwapsBack};
 ghost use Rattle.boot_core.specs.Recorded.{HasRecord, HasRecordOf};
 ghost use Rattle.set_log.specs.declared.state.RecordKind.{RecordKind};
 
+use crate::looking::lowest_damaged;
 use crate::outcome::Outcome;
 use crate::recording::append_state;
 use crate::settle::settle_set;
 use flash_model::{Flash, Result};
+use machine::Fault;
 use sector_map::{SectorMap, Side};
 use set_log::{RecordKind, State, append};
 use swap_scratch::swap_set;
 use trailer::Settling;
 
-/// From `Back` to `BackSettle`: finishes the swap back from wherever it is, and records that.
-fn swap_back<F: Flash>(flash: &mut F, map: &SectorMap, state: &State) -> Result<State>
+/// In `Back`: finishes the swap back from wherever it is.
+fn swap_back<F: Flash>(flash: &mut F, map: &SectorMap, state: &State) -> Result<()>
     requires { HasRecordOf map.now RecordKind.Back state.now (F.chip flash.old) }
     ensures { SwapsBack map.now state.now (F.chip flash.old) (F.chip flash.new) result }
 {
-    let mask = state.mask;
-    swap_set(flash, map, mask, Side::Secondary)?;
+    swap_set(flash, map, state.mask, Side::Secondary)
+}
+
+/// From `Back` to `BackSettle`, once the set is swapped back: records that.
+fn record_back<F: Flash>(flash: &mut F, map: &SectorMap, state: &State) -> Result<State>
+    requires { HasRecordOf map.now RecordKind.Back state.now (F.chip flash.old) }
+    ensures { RecordsBack map.now state.now (F.chip flash.old) (F.chip flash.new) result }
+{
     let settle = State {
         kind: RecordKind::BackSettle,
+        permanent: false,
         ..*state
     };
     append_state(flash, map, settle)
@@ -50,17 +59,31 @@ fn settle_and_return<F: Flash>(flash: &mut F, map: &SectorMap, state: &State) ->
     record_returned(flash, map, state)
 }
 
-/// From `Back` to `Steady`: finishes the swap back from wherever it is, settles the trailers, and
+/// From `Back` to `Steady`, once the set is swapped back: records that, settles the trailers, and
 /// records that the old images run.
 fn finish_back<F: Flash>(flash: &mut F, map: &SectorMap, state: &State) -> Result<()>
     requires { HasRecordOf map.now RecordKind.Back state.now (F.chip flash.old) }
     ensures { FinishesBack map.now state.now (F.chip flash.old) (F.chip flash.new) result }
 {
-    let settle = swap_back(flash, map, state)?;
+    let settle = record_back(flash, map, state)?;
     settle_and_return(flash, map, &settle)
 }
 
-/// From a record `Back`: swaps the set back, and replies that it reverted.
+/// From a record `Back` that this boot has made, after it found the old images intact: swaps the set
+/// back, and replies that it reverted.
+pub(crate) fn revert<F: Flash>(flash: &mut F, map: &SectorMap, state: &State) -> Result<Outcome>
+    requires { HasRecordOf map.now RecordKind.Back state.now (F.chip flash.old) }
+    ensures { (table : Table) (report : Report) → Reverts map.now state.now
+        (F.chip flash.old) (F.chip flash.new) (read_as (reply_in table report) result) }
+{
+    swap_back(flash, map, state)?;
+    finish_back(flash, map, state)?;
+    Ok(Outcome::Reverted(state.mask))
+}
+
+/// From a record `Back`: finishes the swap back, and replies that the set reverted. If an image of
+/// the set isn't intact then, nothing more is written: the record stays, so each later boot is
+/// refused too.
 pub(crate) fn boot_from_back<F: Flash>(
     flash: &mut F,
     map: &SectorMap,
@@ -70,11 +93,18 @@ pub(crate) fn boot_from_back<F: Flash>(
     ensures { (table : Table) (report : Report) → BootsFromBack map.now state.now
         (F.chip flash.old) (F.chip flash.new) (read_as (reply_in table report) result) }
 {
-    finish_back(flash, map, state)?;
-    Ok(Outcome::Reverted(state.mask))
+    swap_back(flash, map, state)?;
+    match lowest_damaged(flash, map, state.mask, Side::Primary)? {
+        Some(image) => Ok(Outcome::Refused(Fault::RunningDamaged(image))),
+        None => {
+            finish_back(flash, map, state)?;
+            Ok(Outcome::Reverted(state.mask))
+        }
+    }
 }
 
 /// From a record `BackSettle`: settles the set that was swapped back, and replies that it reverted.
+/// If an image of the set isn't intact, nothing is written, and the boot is refused.
 pub(crate) fn boot_from_back_settle<F: Flash>(
     flash: &mut F,
     map: &SectorMap,
@@ -84,6 +114,11 @@ pub(crate) fn boot_from_back_settle<F: Flash>(
     ensures { (table : Table) (report : Report) → BootsFromBackSettle map.now state.now
         (F.chip flash.old) (F.chip flash.new) (read_as (reply_in table report) result) }
 {
-    settle_and_return(flash, map, state)?;
-    Ok(Outcome::Reverted(state.mask))
+    match lowest_damaged(flash, map, state.mask, Side::Primary)? {
+        Some(lost) => Ok(Outcome::Refused(Fault::RunningDamaged(lost))),
+        None => {
+            settle_and_return(flash, map, state)?;
+            Ok(Outcome::Reverted(state.mask))
+        }
+    }
 }

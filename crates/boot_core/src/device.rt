@@ -180,6 +180,7 @@ impl<F: Flash> Device<F> {
     /// - `NotProvisioned`: the log has no state.
     /// - `Manifest` with `NoComponent`: it names an image that the device lacks.
     /// - `Manifest` with `RepeatedComponent`: two components name the same image.
+    /// - `Manifest` with `BadValue`: it has no component.
     /// - `Upload` with `OldSequence`, `TooBig` or `WrongPrecursor`.
     /// - `Upload` with `Flash(Cut)`: power failed, as in `accept`.
     ///

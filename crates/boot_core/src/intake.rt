@@ -11,7 +11,7 @@ ghost use Rattle.upload.specs.Sessions.{AllOpenAt};
 ghost use Rattle.upload.specs.View.{view};
 ghost use Rattle.boot_core.specs.Answers.{is_stop};
 ghost use Rattle.boot_core.specs.Device.{seen};
-ghost use Rattle.boot_core.specs.Ready.{RefusesText, text_fault};
+ghost use Rattle.boot_core.specs.Ready.{HasNoComponent, RefusesText, text_fault};
 ghost use Rattle.boot_core.specs.Taking.{AcceptsHere, AsksReady, CanOpen, ChecksReady, FinishesHere};
 ghost use Rattle.boot_core.specs.Taking.{OpensUploads, PassesOn, Stops, TakesHere};
 ghost use Rattle.boot_core.specs.Taking.{TakesManifestHere, TakesPieceHere};
@@ -164,6 +164,13 @@ fn names_each_once(manifest: &Manifest) -> bool
     name_each_once(manifest.components.as_slice())
 }
 
+/// Whether a manifest has no component.
+fn has_no_component(manifest: &Manifest) -> bool
+    ensures { IsTrue result ↔ HasNoComponent manifest.now }
+{
+    manifest.components.as_slice().is_empty()
+}
+
 /// Opens the uploads of a manifest on a device that takes uploads.
 fn open_uploads<F: Flash>(
     flash: &mut F,
@@ -235,6 +242,9 @@ pub fn accept_manifest<F: Flash>(
     }
     if !names_each_once(manifest) {
         return Err(Fault::Manifest(ManifestError::RepeatedComponent));
+    }
+    if has_no_component(manifest) {
+        return Err(Fault::Manifest(ManifestError::BadValue));
     }
     open_uploads(flash, map, identity, uploads, is_booted, manifest)
 }

@@ -19,6 +19,7 @@ mod confirming;
 mod deciding;
 mod device;
 mod intake;
+mod looking;
 mod outcome;
 mod preparing;
 mod provisioning;

@@ -77,6 +77,7 @@ fn record_trial<F: Flash>(flash: &mut F, map: &SectorMap, state: &State, left: u
 {
     let trial = State {
         kind: RecordKind::Trial,
+        permanent: false,
         left,
         ..*state
     };

@@ -3,20 +3,24 @@
 //!
 //! It continues in `steady` or in `back`.
 
-ghost use Rattle.std.specs.Prelude.{◌<◌, ◌≤◌, ◌≡◌, ℕ, slice_index, Some};
+ghost use Rattle.std.specs.Prelude.{◌<◌, ◌≤◌, ◌≡◌, ℕ, false, slice_index, Some};
 ghost use Rattle.common.specs.Limits.{MOST_BOOTS_LEFT};
 ghost use Rattle.decision.specs.Places.{read_as};
 ghost use Rattle.boot_core.specs.Places.{reply_in};
 ghost use Rattle.certificate.specs.declared.table.Table.{Table};
 ghost use Rattle.certificate.specs.declared.report.Report.{Report};
-ghost use Rattle.boot_core.specs.FromTrial.{AreConfirmedIn, BeginsBack, BootsAgain, BootsBack, BootsConfirmed, BootsFromTrial, DecidesTrial, IsAnyDamagedIn, IsConfirmedIn, IsDamagedIn, IsFloorIn, RaisesFloors, RecordsOver};
+ghost use Rattle.boot_core.specs.FromTrial.{AreConfirmedIn, BeginsBack, BootsAgain, BootsBack, BootsConfirmed, BootsFromTrial, DecidesTrial, IsConfirmedIn, IsFloorIn, IsGoingOn, RaisesFloors, RecordsOver};
+ghost use Rattle.machine.specs.Reading.{AreSetOk};
+ghost use Rattle.machine.specs.Starting.{AreIntact};
+ghost use Rattle.upload.specs.View.{view};
 ghost use Rattle.boot_core.specs.Recorded.{HasRecord, HasRecordOf};
 ghost use Rattle.decision.specs.Telling.{Tells};
 ghost use Rattle.sector_map.specs.Map.{HasImage, IsLaidOut};
 ghost use Rattle.set_log.specs.Log.{state_of};
 ghost use Rattle.set_log.specs.declared.state.RecordKind.{RecordKind};
 
-use crate::back::boot_from_back;
+use crate::back::revert;
+use crate::looking::lowest_damaged;
 use crate::outcome::Outcome;
 use crate::preparing::prepare_set;
 use crate::recording::append_state;
@@ -25,7 +29,7 @@ use certificate::{Report, Table};
 use common::limits::MOST_IMAGES;
 use decision::read_slot;
 use flash_model::{Flash, Result};
-use machine::Passage;
+use machine::{Fault, Passage};
 use sector_map::{SectorMap, Side, is_member};
 use set_log::{RecordKind, State, append};
 use trailer::read_trailer;
@@ -53,31 +57,6 @@ fn is_all_confirmed<F: Flash>(flash: &mut F, map: &SectorMap, mask: u8) -> Resul
         }
     }
     Ok(true)
-}
-
-/// Whether the primary slot of an image begins with no intact image.
-fn is_damaged<F: Flash>(flash: &mut F, map: &SectorMap, image: u8) -> Result<bool>
-    requires { HasImage map.now image (F.chip flash.old) }
-    ensures { Tells (IsDamagedIn map.now image) (F.chip flash.old) (F.chip flash.new) result }
-{
-    match read_slot(flash, map, image, Side::Primary)? {
-        None => Ok(true),
-        Some(_) => Ok(false),
-    }
-}
-
-/// Whether a running image is damaged, in the set or not.
-fn is_any_damaged<F: Flash>(flash: &mut F, map: &SectorMap) -> Result<bool>
-    requires { IsLaidOut map.now (F.chip flash.old) }
-    ensures { Tells (IsAnyDamagedIn map.now) (F.chip flash.old) (F.chip flash.new) result }
-{
-    for image in 0..map.images {
-        let damaged = is_damaged(flash, map, image)?;
-        if damaged {
-            return Ok(true);
-        }
-    }
-    Ok(false)
 }
 
 /// Raises a floor to the security counter of a running image. A damaged image raises nothing.
@@ -108,9 +87,43 @@ fn raise_running<F: Flash>(
     Ok(raised)
 }
 
+/// Whether a set on trial can be tried again: a boot is left, and each running image is intact, in
+/// the set or not.
+fn goes_on<F: Flash>(flash: &mut F, map: &SectorMap, left: u8) -> Result<bool>
+    requires { IsLaidOut map.now (F.chip flash.old) }
+    ensures { Tells (IsGoingOn map.now left) (F.chip flash.old) (F.chip flash.new) result }
+{
+    if left == 0 {
+        return Ok(false);
+    }
+    match lowest_damaged(flash, map, u8::MAX, Side::Primary)? {
+        None => Ok(true),
+        Some(_) => Ok(false),
+    }
+}
+
+/// Decides how a boot continues from a trial that isn't confirmed, and whose set can't be tried
+/// again. The set reverts if each of its old images is intact. Otherwise nothing is moved: the set
+/// stays on trial, or the boot is refused if a running image is damaged too.
+fn decide_back<F: Flash>(flash: &mut F, map: &SectorMap, state: &State) -> Result<Passage>
+    requires laid_out { IsLaidOut map.now (F.chip flash.old) }
+    requires read { state_of map.now (F.chip flash.old) ≡ Some state.now }
+    requires unconfirmed { AreSetOk (view map.now (F.chip flash.old)) state.now.mask false }
+    requires done { IsGoingOn map.now state.now.left (F.chip flash.old) false }
+    ensures { DecidesTrial map.now state.now (F.chip flash.old) (F.chip flash.new) result }
+{
+    match lowest_damaged(flash, map, state.mask, Side::Secondary)? {
+        None => Ok(Passage::Back),
+        Some(_) => match lowest_damaged(flash, map, u8::MAX, Side::Primary)? {
+            None => Ok(Passage::Stays),
+            Some(image) => Ok(Passage::Refused(image)),
+        },
+    }
+}
+
 /// Decides how a boot continues from a trial. The trial is over if each image of the set is
-/// confirmed. Otherwise the set reverts if no boot is left or a running image is damaged. Otherwise
-/// it is tried again.
+/// confirmed. Otherwise the set is tried again, or reverts if no boot is left or a running image is
+/// damaged.
 fn decide_trial<F: Flash>(flash: &mut F, map: &SectorMap, state: &State) -> Result<Passage>
     requires laid_out { IsLaidOut map.now (F.chip flash.old) }
     requires read { state_of map.now (F.chip flash.old) ≡ Some state.now }
@@ -120,15 +133,11 @@ fn decide_trial<F: Flash>(flash: &mut F, map: &SectorMap, state: &State) -> Resu
     if confirmed {
         return Ok(Passage::Over);
     }
-    if state.left == 0 {
-        return Ok(Passage::Back);
+    let again = goes_on(flash, map, state.left)?;
+    if again {
+        return Ok(Passage::Again);
     }
-    let damaged = is_any_damaged(flash, map)?;
-    if damaged {
-        Ok(Passage::Back)
-    } else {
-        Ok(Passage::Again)
-    }
+    decide_back(flash, map, state)
 }
 
 /// From `Trial` to `Steady`: records that the trial is over, with these floors. Past the last image
@@ -172,11 +181,17 @@ fn boot_over<F: Flash>(
 fn boot_again<F: Flash>(flash: &mut F, map: &SectorMap, state: &State) -> Result<Outcome>
     requires recorded { HasRecordOf map.now RecordKind.Trial state.now (F.chip flash.old) }
     requires more { 0 < state.now.left }
-    ensures { (table : Table) (report : Report) → BootsAgain map.now (F.chip flash.old) (F.chip flash.new)
-        (read_as (reply_in table report) result) }
+    requires intact { AreIntact (view map.now (F.chip flash.old)) }
+    ensures { (table : Table) (report : Report) → BootsAgain map.now state.now
+        (F.chip flash.old) (F.chip flash.new) (read_as (reply_in table report) result) }
 {
     let left = state.left - 1;
-    append(flash, map, &State { left, ..*state })?;
+    let tried = State {
+        permanent: false,
+        left,
+        ..*state
+    };
+    append(flash, map, &tried)?;
     Ok(Outcome::TrialAgain {
         set: state.mask,
         left,
@@ -193,6 +208,7 @@ fn begin_back<F: Flash>(flash: &mut F, map: &SectorMap, state: &State) -> Result
     prepare_set(flash, map, state.mask, Side::Secondary)?;
     let back = State {
         kind: RecordKind::Back,
+        permanent: false,
         left: 0,
         ..*state
     };
@@ -202,14 +218,15 @@ fn begin_back<F: Flash>(flash: &mut F, map: &SectorMap, state: &State) -> Result
 /// From a trial that reverts: swaps the set back.
 fn boot_back<F: Flash>(flash: &mut F, map: &SectorMap, state: &State) -> Result<Outcome>
     requires { HasRecordOf map.now RecordKind.Trial state.now (F.chip flash.old) }
-    ensures { (table : Table) (report : Report) → BootsBack map.now (F.chip flash.old) (F.chip flash.new)
-        (read_as (reply_in table report) result) }
+    ensures { (table : Table) (report : Report) → BootsBack map.now state.now
+        (F.chip flash.old) (F.chip flash.new) (read_as (reply_in table report) result) }
 {
     let back = begin_back(flash, map, state)?;
-    boot_from_back(flash, map, &back)
+    revert(flash, map, &back)
 }
 
-/// From a record `Trial`: ends the trial, goes on with it, or reverts its set.
+/// From a record `Trial`: ends the trial, goes on with it, or reverts its set. If an old image isn't
+/// intact, it moves nothing.
 pub(crate) fn boot_from_trial<F: Flash>(
     flash: &mut F,
     map: &SectorMap,
@@ -227,5 +244,10 @@ pub(crate) fn boot_from_trial<F: Flash>(
         Passage::Over => boot_over(flash, map, state, left, table, report),
         Passage::Back => boot_back(flash, map, state),
         Passage::Again => boot_again(flash, map, state),
+        Passage::Stays => Ok(Outcome::TrialAgain {
+            set: state.mask,
+            left: 0,
+        }),
+        Passage::Refused(image) => Ok(Outcome::Refused(Fault::RunningDamaged(image))),
     }
 }

@@ -5,7 +5,6 @@ use Rattle.std.proofs.lemmas.Bool.{true≢false}
 use Rattle.flash_model.specs.Chip.{Chip}
 use Rattle.flash_model.specs.declared.error.FlashError.TheVariants as flash
 use Rattle.sector_map.specs.declared.layout.SectorMap.{SectorMap}
-use Rattle.sector_map.specs.Part.{any_part}
 use Rattle.sector_map.proofs.Parts.{keeps_refl}
 use Rattle.manifest.specs.declared.identity.Identity.{Identity}
 use Rattle.upload.specs.declared.error.UploadError.TheVariants as upload
@@ -77,7 +76,7 @@ module _ (map : SectorMap) (identity : Identity) (boots : ℕ) (a b : DeviceView
   bytes_leave (Finish image) (result, same, is) =
       record { size = is.outside.size; behind = is.outside.behind; refused = tt }
   bytes_leave Boot (left, last, result, same, is) =
-      let keeps = is.on_map a.flash (keeps_refl map any_part a.flash) in
+      let keeps = is.on_map a.flash (keeps_refl map _ a.flash) in
       record { size = keeps.size; behind = keeps.behind; refused = tt }
 
 -- by other names of the bytes

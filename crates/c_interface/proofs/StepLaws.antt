@@ -9,7 +9,6 @@ use Rattle.flash_model.specs.Chip.{Chip, Fixed, size_of}
 use Rattle.flash_model.specs.Memory.{new_chip}
 use Rattle.sector_map.specs.declared.layout.SectorMap.{SectorMap}
 use Rattle.sector_map.specs.Map.{IsLaidOut, IsMap, sectors_of}
-use Rattle.sector_map.specs.Part.{any_part}
 use Rattle.sector_map.proofs.Parts.{keeps_refl, laid_out_by}
 use Rattle.manifest.specs.declared.identity.Identity.{Identity}
 use Rattle.set_log.specs.Log.{state_of}
@@ -391,7 +390,7 @@ module _ (map : SectorMap) (identity : Identity) (boots : ℕ) (old new : Device
       made_by (Confirm image) (reply_of_result result) same is.outside.fixed is.laid is.opens
       (is.steps identity boots on) is.journal (result, same, is)
   call_made Boot (left, count, result, same, is) =
-      made_by Boot (reply_of_boot result) same (is.on_map old.flash (keeps_refl map any_part old.flash)).fixed is.laid
+      made_by Boot (reply_of_boot result) same (is.on_map old.flash (keeps_refl map _ old.flash)).fixed is.laid
       (λ was. is.opens) (subst (λ n. StepsTo (made map identity n) old new event.Boot (reply_of_boot result)) count (is.steps identity on))
       tt (left, count, result, same, is)
 

@@ -10,22 +10,22 @@ use Rattle.boot_core.proofs.back.finish_back.Goals as goal
 pub returns-in_err-settle : goal.returns-in_err-settle
 returns-in_err-settle g c =
     rw (err_passed c.from_residual.result c.in_err-settle.field-0.0 c.from_residual.ensures.1)
-    (passes_err c.swap_back.ensures.layout (λ s trial is was. inl (c.swap_back.ensures.stands s trial is was))
+    (passes_err c.record_back.ensures.layout (λ s trial was. inl (c.record_back.ensures.stands s trial was))
     c.in_err-settle.ensures.ends)
 
 pub returns : goal.returns
 returns g c =
-    let swapped = c.in_ok-settle.ensures in
-    let returns = c.settle_and_return.ensures in
+    let recorded = c.in_ok-settle.ensures in
     let same : c.in_ok-settle.settle.mask ≡ c.args.state.now.mask =
-    ap (λ (state : State). state.mask) swapped.done.is in
+    ap (λ (state : State). state.mask) recorded.done.is in
+    let returns = rw same at c.settle_and_return.ensures in
     record {
-      layout = layout_then swapped.layout returns.layout;
-      stands = λ s trial is was. back_finishes c.args.map.now _ s trial
-          (returns.stands s trial (same ∙ is) (swapped.done.ok s trial is was));
+      layout = layout_then recorded.layout returns.layout;
+      stands = λ s trial was. back_finishes c.args.map.now _ s trial
+          (returns.stands s trial was.0 (recorded.done.ok s trial was));
       done = IfOk-weaker c.settle_and_return.result _ _ (λ value returned. record {
-        ok = λ s trial is was. returned.ok s trial (same ∙ is) (swapped.done.ok s trial is was);
-        erases = λ s trial is was. omega (arith, swapped.done.erases s trial is was, rw same at returned.erases);
+        ok = λ s trial was. returned.ok s trial was.0 (recorded.done.ok s trial was);
+        erases = omega (arith, recorded.done.erases, returned.erases);
       }) returns.done;
-      ends = then_ends swapped.ends returns.ends;
+      ends = then_ends recorded.ends returns.ends;
     }

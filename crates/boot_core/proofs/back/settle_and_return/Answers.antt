@@ -6,7 +6,7 @@ use Rattle.upload.proofs.Ends.{err_passed}
 use Rattle.machine.specs.Holding.{AreSettled}
 use Rattle.machine.proofs.Returning.{returning_kept}
 use Rattle.boot_core.proofs.Records.{read_kept}
-use Rattle.boot_core.proofs.OnMap.{layout_kept, layout_more}
+use Rattle.boot_core.proofs.OnMap.{layout_kept, layout_more, log_settled, trailers_settled}
 use Rattle.boot_core.proofs.Passed.{ok_both, passes_err, then_ends}
 use Rattle.boot_core.proofs.back.settle_and_return.Goals as goal
 
@@ -19,7 +19,7 @@ record_returned-requires g c = record {
 pub returns-in_err-settle_set : goal.returns-in_err-settle_set
 returns-in_err-settle_set g c =
     rw (err_passed c.from_residual.result c.in_err-settle_set.field-0.0 c.from_residual.ensures.1)
-    (passes_err (layout_kept c.requires.laid_out c.settle_set.ensures.outside)
+    (passes_err (layout_kept (trailers_settled c.args.state.now.mask) c.requires.laid_out c.settle_set.ensures.outside)
     (λ s trial is was. inl (returning_kept c.args.map.now _ _ _ s trial _ is c.settle_set.ensures.outside was))
     c.in_err-settle_set.ensures.ends)
 
@@ -30,7 +30,8 @@ returns g c =
     let settles = c.in_ok-settle_set.ensures in
     let returns = c.record_returned.ensures in
     record {
-      layout = layout_more (layout_kept c.requires.laid_out settles.outside) returns.outside;
+      layout = layout_more (log_settled c.args.state.now.mask)
+          (layout_kept (trailers_settled c.args.state.now.mask) c.requires.laid_out settles.outside) returns.outside;
       stands = λ s trial is was. returns.stands s trial
           (returning_kept map _ _ _ s trial _ is settles.outside was)
           (subst (λ m. AreSettled (view map mid) m true) is settles.ok);

@@ -3,7 +3,7 @@ use Rattle.std.proofs.lemmas.Result.{IfOk-weaker}
 use Rattle.set_log.specs.Log.{state_of}
 use Rattle.machine.proofs.Stepping.{sound_answers, stands_some}
 use Rattle.boot_core.proofs.Wears.{worn_read}
-use Rattle.boot_core.proofs.Stops.{no_log_stopped, read_idle, read_over, read_stopped, stood_none}
+use Rattle.boot_core.proofs.Stops.{no_log_stopped, read_again, read_idle, read_over, read_stopped, stood_none}
 use Rattle.boot_core.proofs.OnMap.{layout_same}
 use Rattle.boot_core.proofs.Passed.{here_ends}
 use Rattle.decision.specs.Places.{read_as}
@@ -30,6 +30,10 @@ returns-in-Ok g c =
           read_stopped map _ _ _ state finding found.0 stood (stops finding permanent is)) booted.stops;
       idle = read_idle map _ _ _ (read_as (reply_in c.boot_from.new.table c.boot_from.new.report) c.boot_from.result) found.0 booted.idle;
       over = read_over map _ _ _ (read_as (reply_in c.boot_from.new.table c.boot_from.new.report) c.boot_from.result) found.0 booted.over;
+      again = read_again map _ _ _ (read_as (reply_in c.boot_from.new.table c.boot_from.new.report) c.boot_from.result)
+          found.0 booted.again;
+      starts = IfOk-weaker (read_as (reply_in c.boot_from.new.table c.boot_from.new.report) c.boot_from.result) _ _
+          (λ reply gives. gives.starts) booted.boot.done;
       off = λ off. absurd (true≢false (sym found.1 ∙ off));
       told = IfOk-weaker (read_as (reply_in c.boot_from.new.table c.boot_from.new.report) c.boot_from.result) _ _ (λ reply gives. gives.told) booted.boot.done;
       ends = booted.boot.ends;
@@ -51,6 +55,8 @@ returns-in-Err-NoLog g c =
           no_log_stopped c.args.map.now state _ _ finding permanent is;
       idle = λ state stood. absurd (stood_none c.args.map.now _ state stood none);
       over = λ state stood. absurd (stood_none c.args.map.now _ state stood none);
+      again = λ state set more stood. absurd (stood_none c.args.map.now _ state stood none);
+      starts = tt;
       off = λ off. absurd (true≢false (sym (rw c.in-Err-NoLog.field-0-is at c.in-Err-NoLog.ensures.answers).1 ∙ off));
       told = tt;
       ends = rw c.read_state.ensures.same here_ends;

@@ -10,9 +10,11 @@ use Rattle.machine.proofs.Stepping.{steps_boot}
 use Rattle.boot_core.specs.Answers.{IsBootReply}
 use Rattle.boot_core.specs.Device.{made, seen}
 use Rattle.boot_core.proofs.Stopping.{boot_stopped, ended_ends, not_empty, not_uncut, stopped_ends, stopped_worn, unprovisioned}
+use Rattle.boot_core.specs.Over.{IsIdleTrial}
 use Rattle.boot_core.specs.Wear.{DoesNothing, IsWorn}
+use Rattle.machine.specs.Starting.{StartsBy}
 use Rattle.flash_model.proofs.Ending.{no_error}
-use Rattle.boot_core.proofs.Stops.{flash_idle, flash_off, flash_over, flash_stopped, flash_stopped_it, flash_unanswered}
+use Rattle.boot_core.proofs.Stops.{flash_again, flash_idle, flash_off, flash_over, flash_starts, flash_stopped, flash_stopped_it, flash_unanswered}
 use Rattle.decision.specs.Places.{read_as}
 use Rattle.boot_core.specs.Places.{reply_in}
 use Rattle.boot_core.proofs.boots.boot_device_into.Goals as goal
@@ -47,8 +49,14 @@ returns g c = record {
       c.in_ok-outcome.ensures.stops state finding permanent stood (sym c.conclude.ensures.is ∙ is);
   idle = λ state stood kind takes. c.in_ok-outcome.ensures.idle state stood kind
       (subst (λ reply. DoesNothing reply) c.conclude.ensures.is takes);
-  over = λ on state stood kind nothing. c.in_ok-outcome.ensures.over state stood kind
-      (subst (λ reply. DoesNothing reply) c.conclude.ensures.is nothing);
+  over = λ on state stood kind nothing. subst
+      (λ reply. IsIdleTrial c.args.map.now state (g.F.Flash.chip c.args.flash.now) (g.F.Flash.chip c.boot.new.flash) reply)
+      (sym c.conclude.ensures.is) (c.in_ok-outcome.ensures.over state stood kind
+      (subst (λ reply. DoesNothing reply) c.conclude.ensures.is nothing));
+  again = λ state set more stood kind told.
+      c.in_ok-outcome.ensures.again state set more stood kind (sym c.conclude.ensures.is ∙ told);
+  starts = subst (λ reply. StartsBy (view c.args.map.now (g.F.Flash.chip c.boot.new.flash)) reply)
+      (sym c.conclude.ensures.is) c.in_ok-outcome.ensures.starts;
   off = λ off. absurd (no_error _ _ (c.in_ok-outcome.ensures.off off));
   ends = ended_ends _ _ _ _ _ _ _ _ c.conclude.ensures.is c.in_ok-outcome.ensures.told c.in_ok-outcome.ensures.ends;
 }
@@ -78,6 +86,8 @@ returns-in_err-outcome g c =
           flash_stopped c.args.map.now state old new error finding permanent is;
       idle = λ state stood kind nothing. flash_idle error old new ends nothing;
       over = λ on state stood kind nothing. flash_over error c.args.map.now state old new ends on nothing;
+      again = λ state set more stood kind told. flash_again error set more told;
+      starts = flash_starts error (view c.args.map.now new);
       off = λ off. flash_off error (no.Flash error) old new refl ends (c.in_err-outcome.ensures.off off);
       ends = stopped_ends old new _ _ _ _ c.new.ensures refl error ends;
     })

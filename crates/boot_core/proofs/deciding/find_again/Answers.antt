@@ -3,10 +3,11 @@ use Rattle.upload.specs.View.{view}
 use Rattle.machine.specs.Reading.{HasImages}
 use Rattle.machine.proofs.Unique.{one_greatest, one_table}
 use Rattle.machine.proofs.FoundAgain.{chosen_again, found_again}
-use Rattle.decision.specs.Found.{HasTable, IsFindingAt}
+use Rattle.decision.specs.Found.{HasTable, IsFindingAt, IsFindingHeld}
 use Rattle.boot_core.proofs.Masks.{set_found}
+use Rattle.boot_core.proofs.Moves.{starts_set}
 use Rattle.boot_core.proofs.Passed.{ok_ends}
-use Rattle.boot_core.proofs.Undecided.{none_decided, reported, set_for, told_undecided}
+use Rattle.boot_core.proofs.Undecided.{none_decided, reported, set_for, starts_none, told_undecided}
 use Rattle.boot_core.proofs.Undecided.{decided_in, undecided_in}
 use Rattle.boot_core.proofs.deciding.find_again.Goals as goal
 
@@ -22,6 +23,7 @@ returns-then-taken_mask-mask g c = record {
   set = tt;
   whole = tt;
   rows = tt;
+  starts = tt;
   told = (
     subst (λ f. IsFindingAt (view c.args.map.now (g.F.Flash.chip c.args.flash.now)) c.args.mask f)
         (decided_in c.find_into.new.table c.find_into.new.report _ c.in-Decided.is) c.in_ok-verdict.ensures.front,
@@ -48,6 +50,7 @@ returns-in_default g c =
       set = set_for c.args.mask _ (undecided_in c.find_into.new.table c.find_into.new.report _ c.in_default.not-Decided);
       whole = finds.whole;
       rows = finds.rows;
+      starts = starts_none _ _ (undecided_in c.find_into.new.table c.find_into.new.report _ c.in_default.not-Decided);
       told = told_undecided _ c.args.mask _ _ finds.front finds.ok;
       ends = finds.ends;
     }
@@ -64,6 +67,14 @@ returns-else-taken_mask-mask g c = record {
       c.if-taken_mask-mask.false c.taken_mask.ensures.each;
   whole = subst (λ f. HasImages c.args.map.now.images f) (decided_in c.find_into.new.table c.find_into.new.report _ c.in-Decided.is) c.in_ok-verdict.ensures.whole;
   rows = subst (λ f. HasTable c.args.map.now.images f) (decided_in c.find_into.new.table c.find_into.new.report _ c.in-Decided.is) c.in_ok-verdict.ensures.rows;
+  starts =
+      let held = subst (λ f. IsFindingHeld (view c.args.map.now (g.F.Flash.chip c.args.flash.now)) c.args.mask f)
+      (decided_in c.find_into.new.table c.find_into.new.report _ c.in-Decided.is) c.in_ok-verdict.ensures.held in
+      let rows = subst (λ f. HasTable c.args.map.now.images f)
+      (decided_in c.find_into.new.table c.find_into.new.report _ c.in-Decided.is) c.in_ok-verdict.ensures.rows in
+      starts_set _ c.find_into.new.table c.find_into.new.report c.args.mask rows held.0 held.1
+      (set_found c.args.mask c.taken_mask.result c.find_into.new.report c.if-taken_mask-mask.false
+      c.taken_mask.ensures.each).each;
   told = tt;
   ends = ok_ends c.in_ok-verdict.ensures.ends;
 }

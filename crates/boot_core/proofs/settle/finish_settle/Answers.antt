@@ -5,8 +5,9 @@ use Rattle.upload.proofs.Ends.{err_passed}
 use Rattle.upload.specs.View.{view}
 use Rattle.machine.specs.Reading.{CanRead}
 use Rattle.machine.specs.Wear.{IsSetFound}
-use Rattle.boot_core.specs.Found.{IsToldAgain}
-use Rattle.boot_core.proofs.OnMap.{layout_same}
+use Rattle.boot_core.specs.Found.{IsToldAgain, StartsFound}
+use Rattle.boot_core.proofs.OnMap.{layout_keeps, layout_same}
+use Rattle.boot_core.proofs.Undecided.{starts_settled}
 use Rattle.boot_core.proofs.Passed.{passes_err}
 use Rattle.decision.specs.Places.{finding_in, read_as}
 use Rattle.boot_core.proofs.settle.finish_settle.Goals as goal
@@ -44,6 +45,9 @@ returns g c =
           subst (λ found. IsSetFound mask found) (sym done.1) finds.set,
           subst (λ found. IsToldAgain (view c.args.map.now (g.F.Flash.chip c.args.flash.now)) mask
               c.args.state.now.floors found) (sym done.1) finds.told,
+          starts_settled c.args.map.now mask _ _ answer (layout_keeps settles.layout)
+              (subst (λ found. StartsFound (view c.args.map.now (g.F.Flash.chip c.args.flash.now)) found) (sym done.1)
+              finds.starts),
         ),
       )) settles.done;
       ends = settles.ends;

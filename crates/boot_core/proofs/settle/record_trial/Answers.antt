@@ -1,4 +1,5 @@
-use Rattle.std.proofs.Common.{rules}
+use Rattle.std.proofs.Common.{rules, refl, subst, sym}
+use Rattle.boot_core.specs.FromSettle.{IsTrialLogged}
 use Rattle.std.proofs.lemmas.Result.{on_ok_weaker}
 use Rattle.machine.proofs.Ending.{trial_either, trial_ok}
 use Rattle.boot_core.proofs.Records.{fits_trial}
@@ -13,6 +14,8 @@ returns g c = λ floors. record {
   outside = search rules;
   stands = trial_either c.args.map.now _ _ _ c.args.left c.requires.recorded.read
       c.append.ensures.outside c.append.ensures.either;
+  says = on_ok_weaker c.append.result (λ recorded plain. subst IsTrialLogged (sym recorded) (refl, refl))
+      c.append.ensures.ok;
   ok = on_ok_weaker c.append.result
       (λ recorded. trial_ok c.args.map.now _ _ _ c.args.left c.requires.recorded.read c.append.ensures.outside recorded)
       c.append.ensures.ok;

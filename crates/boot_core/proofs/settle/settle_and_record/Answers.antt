@@ -5,7 +5,7 @@ use Rattle.machine.proofs.Swapping.{settling_kept}
 use Rattle.boot_core.specs.FromSettle.{RecordsTaken}
 use Rattle.boot_core.proofs.Records.{read_kept}
 use Rattle.boot_core.proofs.Concluding.{settled_as, settles_taken}
-use Rattle.boot_core.proofs.OnMap.{layout_kept}
+use Rattle.boot_core.proofs.OnMap.{layout_kept, trailers_settled}
 use Rattle.boot_core.proofs.Passed.{passes_err}
 use Rattle.boot_core.proofs.settle.settle_and_record.Goals as goal
 
@@ -25,7 +25,8 @@ record_trial-requires-clause-recorded g c = record {
 pub returns-in_err-settle_set : goal.returns-in_err-settle_set
 returns-in_err-settle_set g c =
     rw (err_passed c.from_residual.result c.in_err-settle_set.field-0.0 c.from_residual.ensures.1)
-    (passes_err (layout_kept c.requires.recorded.laid_out c.settle_set.ensures.outside)
+    (passes_err (layout_kept (trailers_settled c.args.state.now.mask) c.requires.recorded.laid_out
+    c.settle_set.ensures.outside)
     (λ s table was. inl (settling_kept c.args.map.now _ _ _ c.settle_set.ensures.outside s table _ _ was))
     c.in_err-settle_set.ensures.ends)
 

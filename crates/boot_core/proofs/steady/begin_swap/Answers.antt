@@ -4,7 +4,8 @@ use Rattle.machine.proofs.Frames.{primary_aside, steady_kept}
 use Rattle.machine.proofs.Beginning.{begin_either, begin_ok}
 use Rattle.boot_core.proofs.Begun.{begun}
 use Rattle.boot_core.proofs.Records.{fits_swap, state_kept}
-use Rattle.boot_core.proofs.OnMap.{layout_kept}
+use Rattle.boot_core.proofs.OnMap.{layout_kept, trailers_moved}
+use Rattle.sector_map.specs.declared.layout.Side.TheVariants.{Primary}
 use Rattle.boot_core.proofs.Passed.{passes_err}
 use Rattle.boot_core.proofs.steady.begin_swap.Goals as goal
 
@@ -19,7 +20,7 @@ append_state-requires-clause-fits g c = fits_swap c.args.map.now _ c.args.state.
 pub returns-in_err-prepare_set : goal.returns-in_err-prepare_set
 returns-in_err-prepare_set g c =
     rw (err_passed c.from_residual.result c.in_err-prepare_set.field-0.0 c.from_residual.ensures.1)
-    (passes_err (layout_kept c.requires.laid_out c.prepare_set.ensures.outside)
+    (passes_err (layout_kept (trailers_moved c.args.mask Primary) c.requires.laid_out c.prepare_set.ensures.outside)
     (λ s table was decision.
     inl (steady_kept c.args.map.now _ _ _ s c.prepare_set.ensures.outside (primary_aside c.args.mask) was))
     c.in_err-prepare_set.ensures.ends)

@@ -1,4 +1,4 @@
-use Rattle.std.proofs.Common.{◌+◌, ap, refl}
+use Rattle.std.proofs.Common.{◌+◌, ◌∙◌, ap, refl, subst, sym}
 use Rattle.std.proofs.lemmas.Result.{IfOk-weaker}
 use Rattle.upload.proofs.Ends.{err_passed}
 use Rattle.upload.specs.Device.{DeviceState}
@@ -8,7 +8,11 @@ use Rattle.machine.proofs.Steadying.{chosen_here, ends_damaged, ends_invalid, en
 use Rattle.machine.proofs.Upgrading.{steady_cut}
 use Rattle.machine.specs.Wear.{IsSetIn}
 use Rattle.boot_core.specs.FromSteady.{HasChosen}
-use Rattle.boot_core.proofs.Booted.{boot_after, boot_fails}
+use Rattle.boot_core.proofs.Booted.{boot_after, boot_fails, boot_wider}
+use Rattle.boot_core.proofs.Moves.{mask_moves, starts_set}
+use Rattle.decision.specs.Found.{HasTable, IsFindingHeld}
+use Rattle.sector_map.specs.Map.{IsLaidOut}
+use Rattle.sector_map.specs.Part.{is_member}
 use Rattle.boot_core.proofs.Measured.{fresh_same}
 use Rattle.boot_core.proofs.OnMap.{layout_same}
 use Rattle.boot_core.proofs.Resting.{rests_somehow}
@@ -24,27 +28,33 @@ returns-in_err-image g c =
       boot = boot_fails (layout_same c.requires.recorded.laid_out c.find_into.ensures.same)
           (λ s was. steady_cut c.args.map.now (c.args.left + 1) _ _ s c.find_into.ensures.same was) c.in_err-image.ensures.ends;
       idle = tt;
+      fresh = tt;
     })
 
 pub returns-then-mask-eq0 : goal.returns-then-mask-eq0
 returns-then-mask-eq0 g c =
     let is : IsSetIn c.taken_mask-mask.result c.find_into.new.report = record { each = c.taken_mask-mask.ensures.each } in
+    let held = subst (λ f. IsFindingHeld (view c.args.map.now (g.F.Flash.chip c.args.flash.now)) 0 f)
+    (decided_in c.find_into.new.table c.find_into.new.report _ c.in-Decided.is) c.in_ok-image.ensures.held in
+    let rows = subst (λ f. HasTable c.args.map.now.images f)
+    (decided_in c.find_into.new.table c.find_into.new.report _ c.in-Decided.is) c.in_ok-image.ensures.rows in
     steady_gives c.args.map.now c.args.left _ _ c.taken_mask-mask.result c.requires.recorded.laid_out c.find_into.ensures.same
     (ends_plain c.args.map.now (c.args.left + 1) _ _ _ _ c.requires.recorded.read c.find_into.ensures.same
     c.in_ok-image.ensures.ok _ _ _ (decided_in c.find_into.new.table c.find_into.new.report _ c.in-Decided.is) c.taken_mask-mask.ensures.each c.if-mask-eq0.true)
-    is tt c.in_ok-image.ensures.ends
+    is tt tt (starts_set _ c.find_into.new.table c.find_into.new.report 0 rows held.0 held.1
+    (λ i. ap (λ m. is_member m i) (sym c.if-mask-eq0.true) ∙ c.taken_mask-mask.ensures.each i)) c.in_ok-image.ensures.ends
 
 pub returns-in-Damaged : goal.returns-in-Damaged
 returns-in-Damaged g c =
     steady_gives c.args.map.now c.args.left _ _ 0 c.requires.recorded.laid_out c.find_into.ensures.same
     (ends_damaged c.args.map.now (c.args.left + 1) _ _ _ _ c.requires.recorded.read c.find_into.ensures.same
-    c.in_ok-image.ensures.ok _ (ap (λ v. finding_in c.find_into.new.table c.find_into.new.report v) c.in-Damaged.is)) refl tt c.in_ok-image.ensures.ends
+    c.in_ok-image.ensures.ok _ (ap (λ v. finding_in c.find_into.new.table c.find_into.new.report v) c.in-Damaged.is)) refl tt tt tt c.in_ok-image.ensures.ends
 
 pub returns-in-Invalid : goal.returns-in-Invalid
 returns-in-Invalid g c =
     steady_gives c.args.map.now c.args.left _ _ 0 c.requires.recorded.laid_out c.find_into.ensures.same
     (ends_invalid c.args.map.now (c.args.left + 1) _ _ _ _ c.requires.recorded.read c.find_into.ensures.same
-    c.in_ok-image.ensures.ok (ap (λ v. finding_in c.find_into.new.table c.find_into.new.report v) c.in-Invalid.is)) refl tt c.in_ok-image.ensures.ends
+    c.in_ok-image.ensures.ok (ap (λ v. finding_in c.find_into.new.table c.find_into.new.report v) c.in-Invalid.is)) refl tt tt tt c.in_ok-image.ensures.ends
 
 pub returns-else-mask-eq0 : goal.returns-else-mask-eq0
 returns-else-mask-eq0 g c =
@@ -56,12 +66,19 @@ returns-else-mask-eq0 g c =
     c.in_ok-image.ensures.ok _ _ _ (decided_in c.find_into.new.table c.find_into.new.report _ c.in-Decided.is) c.in_ok-image.ensures.whole
     c.taken_mask-mask.ensures.each c.if-mask-eq0.false s was in
     (c.find_into.new.table, here.0, here.1) in
+    let held = subst (λ f. IsFindingHeld (view c.args.map.now old) 0 f)
+    (decided_in c.find_into.new.table c.find_into.new.report _ c.in-Decided.is) c.in_ok-image.ensures.held in
+    let laid : IsLaidOut c.args.map.now mid = subst (λ chip. IsLaidOut c.args.map.now chip) (sym c.find_into.ensures.same)
+    c.requires.recorded.laid_out in
+    let moves = mask_moves c.args.map.now old c.find_into.new.table c.find_into.new.report c.taken_mask-mask.result held.0
+    held.1 c.taken_mask-mask.ensures.each in
     record {
       boot = boot_after (layout_same c.requires.recorded.laid_out c.find_into.ensures.same) c.in_ok-image.ensures.ends
           chosen
           (λ reply worn. λ s was. fresh_same c.args.map.now old mid (g.F.Flash.chip c.upgrade.new.flash) 3 reply c.find_into.ensures.same (worn s (chosen s was)))
-          c.upgrade.ensures.boot;
+          (boot_wider moves laid c.upgrade.ensures.boot);
       idle = IfOk-weaker (read_as (reply_in c.upgrade.new.table c.upgrade.new.report) c.upgrade.result) _ _ (λ reply takes. λ state stood kind nothing.
           absurd (rests_somehow c.args.map.now old state stood kind (λ s was. takes s (chosen s was) nothing)))
           c.upgrade.ensures.some;
+      fresh = c.upgrade.ensures.fresh;
     }

@@ -9,7 +9,8 @@ use Rattle.boot_core.proofs.Booted.{boot_fails, boot_replies}
 use Rattle.boot_core.proofs.Measured.{fresh_of, fresh_wear}
 use Rattle.boot_core.proofs.OnMap.{layout_same, layout_then}
 use Rattle.boot_core.proofs.Passed.{then_ends}
-use Rattle.boot_core.proofs.Upgrades.{begun_cuts, begun_here, finished_cuts, finished_ends}
+use Rattle.boot_core.proofs.Upgrades.{begun_cuts, begun_here, finished_cuts, finished_ends, found_fresh}
+use Rattle.boot_core.specs.Wear.{TriesNone}
 use Rattle.boot_core.specs.Places.{reply_in}
 use Rattle.boot_core.proofs.steady.upgrade.Goals as goal
 
@@ -36,6 +37,7 @@ returns-in_err-permanent g c =
           (λ s at. steady_cut c.args.map.now (c.args.left + 1) _ _ s c.asks_for_good.ensures.same at.1)
           c.in_err-permanent.ensures.ends;
       some = tt;
+      fresh = tt;
     })
 
 pub returns-in_err-swap : goal.returns-in_err-swap
@@ -47,6 +49,7 @@ returns-in_err-swap g c =
           (begun_cuts c.args.map.now _ c.args.mask c.args.left _ c.in_ok-permanent.ensures.ok _ begun.stands)
           (then_ends c.in_ok-permanent.ensures.ends c.in_err-swap.ensures.ends);
       some = tt;
+      fresh = tt;
     })
 
 pub returns-in_err-finding : goal.returns-in_err-finding
@@ -60,6 +63,7 @@ returns-in_err-finding g c =
           finished.stands)
           (then_ends begun.ends c.in_err-finding.ensures.ends);
       some = tt;
+      fresh = tt;
     })
 
 pub returns : goal.returns
@@ -80,7 +84,9 @@ returns g c =
           ((c.reply_to.ensures c.finish_swap.new.table c.finish_swap.new.report).moved s _ (finished.done.ok s at.0 (swapping s at)).0 finished.done.tells.set)
           (fresh_wear map old old mid new Primary c.args.mask refl begun.done.erases begun.done.moves
           (finished.done.erases s at.0 _ (swapping s at))))
-          (then_ends begun.ends c.in_ok-finding.ensures.ends);
+          finished.done.tells.starts (then_ends begun.ends c.in_ok-finding.ensures.ends);
       some = λ s at. (c.reply_to.ensures c.finish_swap.new.table c.finish_swap.new.report).some s _ (finished.done.ok s at.0 (swapping s at)).0 finished.done.tells.set
           c.requires.chosen.some;
+      fresh = subst (λ reply. TriesNone reply)
+          (sym (c.reply_to.ensures c.finish_swap.new.table c.finish_swap.new.report).is) (found_fresh _ _);
     }

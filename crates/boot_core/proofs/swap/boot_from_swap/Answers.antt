@@ -25,7 +25,7 @@ returns g c = record {
       (λ s stands.
       let swapping = stands_swap c.args.map.now _ s _ c.requires.recorded.read c.requires.recorded.kind stands in
       (c.in_ok-finding.ensures.done.erases s swapping.0 _ swapping.1, (c.reply_to.ensures c.finish_swap.new.table c.finish_swap.new.report).set _ c.in_ok-finding.ensures.done.tells.set))
-      c.in_ok-finding.ensures.ends;
+      c.in_ok-finding.ensures.done.tells.starts c.in_ok-finding.ensures.ends;
   stops = λ finding permanent is. swap_stops c.args.map.now _ _ c.args.state.now.mask
       c.args.state.now.floors _ finding c.args.state.now.permanent permanent (sym (c.reply_to.ensures c.finish_swap.new.table c.finish_swap.new.report).is ∙ is)
       c.in_ok-finding.ensures.done.tells.told c.in_ok-finding.ensures.done.tells.alone;

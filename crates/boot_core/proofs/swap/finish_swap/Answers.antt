@@ -7,9 +7,11 @@ use Rattle.decision.specs.Found.{HasTable}
 use Rattle.boot_core.specs.FromSwap.{IsSettleRecorded}
 use Rattle.boot_core.proofs.Readable.{decided_alone, decided_told}
 use Rattle.machine.proofs.Resuming.{swap_finishes}
-use Rattle.boot_core.proofs.OnMap.{layout_then}
+use Rattle.boot_core.proofs.OnMap.{layout_keeps, layout_then, layout_wider, settled_moved}
+use Rattle.boot_core.specs.Found.{StartsFound}
+use Rattle.upload.specs.View.{view}
 use Rattle.boot_core.proofs.Passed.{passes_err, then_ends}
-use Rattle.boot_core.proofs.Undecided.{never_again}
+use Rattle.boot_core.proofs.Undecided.{never_again, starts_settled}
 use Rattle.boot_core.proofs.Undecided.{decided_in, undecided_in}
 use Rattle.decision.specs.Places.{finding_in, read_as}
 use Rattle.boot_core.proofs.swap.finish_swap.Goals as goal
@@ -43,7 +45,8 @@ returns-in-Decided g c =
     let forth = c.in_ok-finding.ensures.done in
     let settles = c.settle_found.ensures in
     record {
-      layout = layout_then c.swap_forth.ensures.layout settles.layout;
+      layout = layout_then c.swap_forth.ensures.layout
+          (layout_wider (settled_moved state.mask) c.swap_forth.ensures.laid settles.layout);
       stands = swap_finishes map _ _ _ state c.args.left (λ s table was. (forth.ok s table was).1) settles.stands;
       done = IfOk-weaker (read_as (finding_in c.swap_forth.new.table c.swap_forth.new.report) c.settle_found.result) _ _ (λ answer done. record {
         ok = λ s table was. done.0.ok s table (forth.ok s table was).1;
@@ -52,6 +55,9 @@ returns-in-Decided g c =
           set = subst (λ found. IsSetFound state.mask found) ((decided_in c.swap_forth.new.table c.swap_forth.new.report _ c.in-Decided.is) ∙ sym done.1) forth.tells.set;
           told = decided_told map _ state answer _ _ done.1;
           alone = decided_alone map _ _ state answer _ _ done.1;
+          starts = starts_settled map state.mask _ _ answer (layout_keeps settles.layout)
+              (subst (λ found. StartsFound (view map (g.F.Flash.chip c.swap_forth.new.flash)) found)
+              ((decided_in c.swap_forth.new.table c.swap_forth.new.report _ c.in-Decided.is) ∙ sym done.1) forth.tells.starts);
         };
       }) settles.done;
       ends = then_ends c.in_ok-finding.ensures.ends settles.ends;

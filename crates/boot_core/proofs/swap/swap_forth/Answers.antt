@@ -1,5 +1,5 @@
 use Rattle.std.proofs.Common.{arith, inl, inr, refl, subst}
-use Rattle.sector_map.proofs.Parts.{laid_out_kept}
+use Rattle.sector_map.proofs.Parts.{keeps_wider, laid_out_kept}
 use Rattle.set_log.specs.declared.state.RecordKind.TheVariants.{Settle, Swap}
 use Rattle.certificate.specs.declared.table.Table.{Table}
 use Rattle.upload.specs.Device.{DeviceState}
@@ -8,14 +8,20 @@ use Rattle.upload.proofs.Views.{view_kept}
 use Rattle.machine.specs.Passing.{IsSwappingSome}
 use Rattle.machine.specs.Reading.{IsFoundAgain}
 use Rattle.machine.specs.Wear.{IsSetFound}
+use Rattle.machine.specs.declared.finding.Finding.TheVariants.{Decided}
 use Rattle.decision.specs.Found.{HasTable}
 use Rattle.machine.proofs.Resuming.{never_swapped}
 use Rattle.machine.proofs.Swapping.{settle_either, settle_ok, swap_done, swap_resumes}
 use Rattle.boot_core.proofs.Readable.{can_read_before}
 use Rattle.boot_core.proofs.Records.{fits_next, kind_of_read, read_kept, stands_within, state_kept}
-use Rattle.boot_core.proofs.OnMap.{layout_kept, layout_more}
+use Rattle.boot_core.proofs.OnMap.{layout_kept, layout_more, log_moved, log_settled, swap_moved}
 use Rattle.boot_core.proofs.Passed.{passes_err, then_ends, then_ok}
-use Rattle.boot_core.proofs.Undecided.{alone_for, never_again, never_recorded}
+use Rattle.boot_core.proofs.Undecided.{alone_for, never_again, never_recorded, starts_settled}
+use Rattle.boot_core.specs.Found.{StartsFound}
+use Rattle.boot_core.specs.Moving.{settled_parts}
+use Rattle.sector_map.specs.Part.{Log, is_member, only}
+use Rattle.sector_map.specs.declared.layout.Side.TheVariants.{Primary}
+use Rattle.upload.specs.View.{view}
 use Rattle.boot_core.proofs.Undecided.{decided_in, undecided_in}
 use Rattle.boot_core.proofs.swap.swap_forth.Goals as goal
 
@@ -39,7 +45,7 @@ append_state-requires g c =
     rw c.find_again.ensures.same (record {
       laid_out = laid_out_kept map _ _ _ c.requires.laid_out c.swap_set.ensures.outside;
       has_state = state_kept map _ _ _ state c.swap_set.ensures.outside refl c.requires.read;
-      fits = fits_next map _ state Settle state.left c.requires.read
+      fits = fits_next map _ state Settle state.permanent state.left c.requires.read
           (kind_of_read map _ state Swap c.requires.read c.requires.kind);
     })
 
@@ -47,7 +53,7 @@ pub returns-in_err-swap_set : goal.returns-in_err-swap_set
 returns-in_err-swap_set g c =
     let swaps = c.swap_set.ensures in
     rw (err_passed c.from_residual.result c.in_err-swap_set.field-0.0 c.from_residual.ensures.1)
-    (passes_err (layout_kept c.requires.laid_out swaps.outside)
+    (passes_err (layout_kept (swap_moved c.args.state.now.mask Primary) c.requires.laid_out swaps.outside)
     (λ s table was. inl (swap_resumes c.args.map.now _ _ c.args.state.now.mask swaps.outside swaps.resumes s table _ was))
     c.in_err-swap_set.ensures.ends)
 
@@ -57,7 +63,7 @@ returns-in_err-finding g c =
     rw (
       err_passed c.from_residual-in_err-finding.result c.in_err-finding.field-0.0 c.from_residual-in_err-finding.ensures.1,
       c.find_again.ensures.same,
-    ) (passes_err (layout_kept c.requires.laid_out swaps.outside)
+    ) (passes_err (layout_kept (swap_moved c.args.state.now.mask Primary) c.requires.laid_out swaps.outside)
     (λ s table was. inl (swap_resumes c.args.map.now _ _ c.args.state.now.mask swaps.outside swaps.resumes s table _ was))
     (rw c.find_again.ensures.same at (then_ends swaps.ends c.in_err-finding.ensures.ends)))
 
@@ -69,7 +75,7 @@ returns-in_err-append_state-in-Decided g c =
     let records = rw c.find_again.ensures.same at c.append_state.ensures in
     rw (err_passed c.from_residual-in_err-append_state-in-Decided.result c.in_err-append_state-in-Decided.field-0.0
     c.from_residual-in_err-append_state-in-Decided.ensures.1)
-    (passes_err (layout_more (layout_kept c.requires.laid_out swaps.outside) records.outside)
+    (passes_err (layout_more (log_moved (is_member c.args.state.now.mask)) (layout_kept (swap_moved c.args.state.now.mask Primary) c.requires.laid_out swaps.outside) records.outside)
     (λ s table was. settle_either map _ _ (laid_out_kept map _ _ _ c.requires.laid_out swaps.outside) state
     (read_kept map _ _ _ state swaps.outside refl c.requires.read) records.outside records.either s table _ _
     (swap_resumes map _ _ state.mask swaps.outside swaps.resumes s table _ was)
@@ -89,7 +95,7 @@ returns-in_ok-append_state-in-Decided g c =
     let settled = λ (s : DeviceState) (table : Table) (was : IsSwappingSome map old s table state.mask state.permanent).
     settle_ok map _ _ state read records.outside records.done.says s table _ _ (swapped s table state.permanent was) in
     record {
-      layout = layout_more (layout_kept c.requires.laid_out swaps.outside) records.outside;
+      layout = layout_more (log_moved (is_member c.args.state.now.mask)) (layout_kept (swap_moved c.args.state.now.mask Primary) c.requires.laid_out swaps.outside) records.outside;
       stands = λ s table was. inr (settled s table was);
       done = record {
         ok = λ s table was. (
@@ -105,6 +111,10 @@ returns-in_ok-append_state-in-Decided g c =
           set = subst (λ found. IsSetFound state.mask found) (decided_in c.find_again.new.table c.find_again.new.report _ c.in-Decided.is) finds.set;
           told = tt;
           alone = tt;
+          starts = starts_settled map state.mask _ _ (Decided c.find_again.new.table c.find_again.new.report)
+              (keeps_wider map (only Log) (settled_parts state.mask) _ _ (log_settled state.mask) records.outside)
+              (subst (λ found. StartsFound (view map (g.F.Flash.chip c.swap_set.new.flash)) found)
+              (decided_in c.find_again.new.table c.find_again.new.report _ c.in-Decided.is) finds.starts);
         };
         erases = λ s table permanent was. omega (arith, swaps.erases was.0 was.1 was.2.place, records.done.erases);
       };
@@ -119,7 +129,7 @@ returns-in_default g c =
     let finds = c.in_ok-finding.ensures in
     let swapped = swap_done map _ _ state.mask swaps.outside swaps.swapped in
     rw c.find_again.ensures.same (record {
-      layout = layout_kept c.requires.laid_out swaps.outside;
+      layout = layout_kept (swap_moved c.args.state.now.mask Primary) c.requires.laid_out swaps.outside;
       stands = λ s table was. inl (swap_resumes map _ _ state.mask swaps.outside swaps.resumes s table _ was);
       done = record {
         ok = λ s table was. absurd (never_again s state.mask _ (undecided_in c.find_again.new.table c.find_again.new.report _ c.in_default.not-Decided)
@@ -132,6 +142,7 @@ returns-in_default g c =
           set = finds.set;
           told = finds.told;
           alone = alone_for map state.mask _ _ _ swaps.outside;
+          starts = finds.starts;
         };
         erases = λ s table permanent was. omega (arith, swaps.erases was.0 was.1 was.2.place);
       };

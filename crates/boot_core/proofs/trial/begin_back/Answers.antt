@@ -3,7 +3,8 @@ use Rattle.upload.proofs.Ends.{err_passed}
 use Rattle.machine.proofs.Reverting.{back_either, back_kept, back_ok}
 use Rattle.boot_core.proofs.Begun.{begun}
 use Rattle.boot_core.proofs.Records.{fits_back, state_kept}
-use Rattle.boot_core.proofs.OnMap.{layout_kept}
+use Rattle.boot_core.proofs.OnMap.{layout_kept, trailers_moved}
+use Rattle.sector_map.specs.declared.layout.Side.TheVariants.{Secondary}
 use Rattle.boot_core.proofs.Passed.{passes_err}
 use Rattle.boot_core.proofs.trial.begin_back.Goals as goal
 
@@ -18,7 +19,8 @@ append_state-requires-clause-fits g c =
 pub returns-in_err-prepare_set : goal.returns-in_err-prepare_set
 returns-in_err-prepare_set g c =
     rw (err_passed c.from_residual.result c.in_err-prepare_set.field-0.0 c.from_residual.ensures.1)
-    (passes_err (layout_kept c.requires.laid_out c.prepare_set.ensures.outside)
+    (passes_err (layout_kept (trailers_moved c.args.state.now.mask Secondary) c.requires.laid_out
+    c.prepare_set.ensures.outside)
     (λ s trial goes was.
     inl (back_kept c.args.map.now _ _ _ c.requires.read c.prepare_set.ensures.outside s trial was))
     c.in_err-prepare_set.ensures.ends)

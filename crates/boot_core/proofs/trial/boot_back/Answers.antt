@@ -1,11 +1,16 @@
-use Rattle.std.proofs.Common.{ap}
+use Rattle.std.proofs.Common.{◌≡◌, ◌∙◌, ap, sym}
+use Rattle.std.proofs.lemmas.Result.{IfOk-weaker}
+use Rattle.sector_map.specs.Part.{is_member}
 use Rattle.upload.proofs.Ends.{err_passed}
 use Rattle.upload.specs.Device.{DeviceState}
 use Rattle.machine.specs.Boots.{GoesBack}
 use Rattle.machine.specs.Holding.{Stands}
+use Rattle.machine.specs.declared.reply.Reply.TheVariants.{Reverted}
 use Rattle.machine.proofs.Trying.{back_here, open_of, opened_cut}
 use Rattle.set_log.specs.declared.state.State.{State}
+use Rattle.decision.specs.Places.{read_as}
 use Rattle.boot_core.specs.FromTrial.{HasTrial}
+use Rattle.boot_core.specs.Places.{reply_in}
 use Rattle.boot_core.proofs.Booted.{boot_after, boot_fails}
 use Rattle.boot_core.proofs.Wears.{fresh_back}
 use Rattle.boot_core.proofs.trial.boot_back.Goals as goal
@@ -13,15 +18,17 @@ use Rattle.boot_core.proofs.trial.boot_back.Goals as goal
 pub returns-in_err-back : goal.returns-in_err-back
 returns-in_err-back g c = λ table report.
     rw (err_passed c.from_residual.result c.in_err-back.field-0.0 c.from_residual.ensures.1) (record {
-      boot = λ boots. boot_fails c.begin_back.ensures.layout
-          (λ s was. opened_cut c.args.map.now boots _ s was.0 was.1
-          (c.begin_back.ensures.stands s was.0 was.1 (open_of c.args.map.now _ s was.0 was.2)))
-          c.in_err-back.ensures.ends;
-      acts = tt;
+      boot = record {
+        boot = λ boots. boot_fails c.begin_back.ensures.layout
+            (λ s was. opened_cut c.args.map.now boots _ s was.0 was.1
+            (c.begin_back.ensures.stands s was.0 was.1 (open_of c.args.map.now _ s was.0 was.2)))
+            c.in_err-back.ensures.ends;
+      };
+      is = tt;
     })
 
-pub boot_from_back-requires : goal.boot_from_back-requires
-boot_from_back-requires g c = record {
+pub revert-requires : goal.revert-requires
+revert-requires g c = record {
   laid_out = c.begin_back.ensures.laid;
   read = c.in_ok-back.ensures.done.recorded;
   kind = ap (λ (state : State). state.kind) c.in_ok-back.ensures.done.is;
@@ -32,13 +39,18 @@ returns g c = λ table report.
     let map = c.args.map.now in
     let old = g.F.Flash.chip c.args.flash.now in
     let mid = g.F.Flash.chip c.begin_back.new.flash in
+    let same : c.in_ok-back.back.mask ≡ c.args.state.now.mask =
+    ap (λ (state : State). state.mask) c.in_ok-back.ensures.done.is in
+    let reverts = rw same at (c.revert.ensures table report) in
     let here : (s : DeviceState) → HasTrial GoesBack map old s → Stands map mid s = λ s was.
     back_here map mid s was.0 (c.in_ok-back.ensures.done.ok s was.0 was.1 (open_of map old s was.0 was.2)) in
     record {
-      boot = λ boots. boot_after c.begin_back.ensures.layout c.in_ok-back.ensures.ends here
-          (λ reply worn. λ s was. fresh_back map old mid (g.F.Flash.chip c.boot_from_back.new.flash)
-          c.args.state.now.mask reply c.in_ok-back.ensures.done.erases c.in_ok-back.ensures.done.moves
-          (rw (ap (λ (state : State). state.mask) c.in_ok-back.ensures.done.is) at (worn s (here s was))))
-          ((c.boot_from_back.ensures table report).boot boots);
-      acts = (c.boot_from_back.ensures table report).acts;
+      boot = record {
+        boot = λ boots. boot_after c.begin_back.ensures.layout c.in_ok-back.ensures.ends here
+            (λ reply worn. λ s was. fresh_back map old mid (g.F.Flash.chip c.revert.new.flash)
+            c.args.state.now.mask reply c.in_ok-back.ensures.done.erases c.in_ok-back.ensures.done.moves
+            (worn s (here s was)))
+            (reverts.boot.boot boots);
+      };
+      is = reverts.is;
     }

@@ -1,4 +1,4 @@
-use Rattle.std.proofs.Common.{◌+◌, ap, ◌∙◌}
+use Rattle.std.proofs.Common.{◌≡◌, ◌+◌, ap, ◌∙◌, subst}
 use Rattle.std.proofs.lemmas.Result.{IfOk-weaker}
 use Rattle.set_log.specs.Log.{state_of}
 use Rattle.upload.proofs.Ends.{err_passed}
@@ -6,7 +6,12 @@ use Rattle.machine.proofs.Trying.{over_cut, over_ends, over_recorded, stands_ope
 use Rattle.set_log.specs.declared.state.State.{State}
 use Rattle.boot_core.proofs.Wears.{over_alone, over_worn}
 use Rattle.boot_core.proofs.Booted.{boot_fails}
-use Rattle.boot_core.proofs.OnMap.{layout_more, layout_same, layout_then}
+use Rattle.boot_core.specs.FromSteady.{BootsFromSteady}
+use Rattle.boot_core.specs.Moving.{may_move}
+use Rattle.boot_core.proofs.Moves.{over_moves}
+use Rattle.boot_core.proofs.OnMap.{layout_more, layout_same, layout_then, layout_wider, log_moved, moves_more}
+use Rattle.sector_map.specs.Map.{Keeps}
+use Rattle.sector_map.specs.Part.{Log, only}
 use Rattle.boot_core.proofs.Passed.{then_ends}
 use Rattle.decision.specs.Places.{read_as}
 use Rattle.boot_core.specs.Places.{reply_in}
@@ -24,6 +29,7 @@ returns-in_err-floors g c =
           (stands_open c.args.map.now _ s was.0 was.2))
           c.in_err-floors.ensures.ends;
       idle = tt;
+      fresh = tt;
     })
 
 pub returns-in_err-steady : goal.returns-in_err-steady
@@ -31,13 +37,15 @@ returns-in_err-steady g c =
     rw (err_passed c.from_residual-in_err-steady.result c.in_err-steady.field-0.0 c.from_residual-in_err-steady.ensures.1)
     (record {
       boot = boot_fails
-          (layout_more (layout_same c.requires.recorded.laid_out c.raise_running.ensures.same)
+          (layout_more (log_moved (may_move c.args.map.now (g.F.Flash.chip c.args.flash.now)))
+          (layout_same c.requires.recorded.laid_out c.raise_running.ensures.same)
           c.record_over.ensures.outside)
           (λ s was. over_recorded c.args.map.now (c.args.left + 1) _ _ _ _ _
           c.requires.recorded.read c.raise_running.ensures.same c.in_ok-floors.ensures.ok c.record_over.ensures.stands
           s was.0 was.1 was.2)
           (then_ends c.in_ok-floors.ensures.ends c.in_err-steady.ensures.ends);
       idle = tt;
+      fresh = tt;
     })
 
 pub returns : goal.returns
@@ -48,11 +56,18 @@ returns g c =
     let new = g.F.Flash.chip c.boot_from_steady.new.flash in
     let same = c.raise_running.ensures.same in
     let over = c.in_ok-steady.ensures.done in
-    let booted = c.boot_from_steady.ensures in
+    let first = layout_more (log_moved (may_move c.args.map.now old))
+    (layout_same c.requires.recorded.laid_out same) c.record_over.ensures.outside in
+    let none : c.in_ok-steady.steady.mask ≡ 0 = ap (λ (state : State). state.mask) over.recorded.is in
+    let booted : BootsFromSteady c.args.map.now c.args.left mid new
+    (read_as (reply_in c.boot_from_steady.new.table c.boot_from_steady.new.report) c.boot_from_steady.result) =
+    c.boot_from_steady.ensures in
     record {
       boot = record {
-        layout = layout_then (layout_more (layout_same c.requires.recorded.laid_out same) c.record_over.ensures.outside)
-            booted.boot.layout;
+        layout = layout_then first (layout_wider (moves_more _ _
+            (over_moves c.args.map.now old mid c.in_ok-steady.steady
+            (subst (λ chip. Keeps c.args.map.now (only Log) chip mid) same c.record_over.ensures.outside)
+            over.recorded.recorded none)) first.laid booted.boot.layout);
         stands = λ s was. over_cut c.args.map.now (c.args.left + 1) _ _ _ _ _ c.requires.recorded.read
             same c.in_ok-floors.ensures.ok _ over.rests booted.boot.stands s was.0 was.1 was.2;
         done = IfOk-weaker (read_as (reply_in c.boot_from_steady.new.table c.boot_from_steady.new.report) c.boot_from_steady.result) _ _ (λ reply gives. record {
@@ -61,6 +76,7 @@ returns g c =
           erases = λ s was. over_worn c.args.map.now old read mid new _ reply same over.recorded.erases
               c.record_over.ensures.outside over.rests gives.erases s was.0 was.1 was.2;
           told = gives.told;
+          starts = gives.starts;
         }) booted.boot.done;
         ends = then_ends (then_ends c.in_ok-floors.ensures.ends c.in_ok-steady.ensures.ends) booted.boot.ends;
       };
@@ -69,4 +85,5 @@ returns g c =
           (idle _ over.recorded.recorded (ap (λ (state : State). state.kind) over.recorded.is) nothing)
           (record { raised = c.in_ok-floors.ensures.ok; rest = c.in_ok-floors.ensures.rest }) over.recorded.appended)
           booted.idle;
+      fresh = booted.fresh;
     }

@@ -1,32 +1,24 @@
-use Rattle.std.proofs.Common.{rules, ◌≡◌}
-use Rattle.machine.specs.declared.finding.Passage.TheVariants.{Over, Back, Again}
-use Rattle.machine.proofs.Trying.{passage_again, passage_damaged}
+use Rattle.std.proofs.Common.{false, true, ◌∙◌, refl, subst}
+use Rattle.upload.specs.View.{view}
+use Rattle.machine.specs.Reading.{AreSetOk}
+use Rattle.machine.proofs.Trying.{passage_again}
+use Rattle.boot_core.specs.FromTrial.{IsGoingOn}
+use Rattle.boot_core.proofs.Passed.{then_ok}
 use Rattle.boot_core.proofs.trial.decide_trial.Goals as goal
 
-back_over : Back ≡ Over → ⊥
-back_over is = cc
-
-again_over : Again ≡ Over → ⊥
-again_over is = cc
-
-pub returns-then-damaged : goal.returns-then-damaged
-returns-then-damaged g c = record {
-  same = search rules;
-  confirmed = λ is. absurd (back_over is);
-  left = search rules;
-  ok = passage_damaged c.args.map.now _ _ _ c.requires.read
-      c.in_ok-confirmed.ensures.ok _ _ c.if-confirmed.false c.is_all_confirmed.ensures.same
-      c.in_ok-damaged.ensures.ok c.if-damaged.true;
-  ends = search rules;
-}
-
-pub returns-else-damaged : goal.returns-else-damaged
-returns-else-damaged g c = record {
-  same = search rules;
-  confirmed = λ is. absurd (again_over is);
-  left = search rules;
-  ok = passage_again c.args.map.now _ _ _ c.requires.read
-      c.in_ok-confirmed.ensures.ok _ _ c.if-confirmed.false c.if-state-eq0.false c.is_all_confirmed.ensures.same
-      c.in_ok-damaged.ensures.ok c.if-damaged.false;
-  ends = search rules;
-}
+pub returns-then-again : goal.returns-then-again
+returns-then-again g c =
+    let map = c.args.map.now in
+    let old = g.F.Flash.chip c.args.flash.now in
+    let state = c.args.state.now in
+    let unconfirmed : AreSetOk (view map old) state.mask false =
+    subst (λ b. AreSetOk (view map old) state.mask b) c.if-confirmed.false c.in_ok-confirmed.ensures.ok in
+    let goes : IsGoingOn map state.left old true = subst (λ b. IsGoingOn map state.left old b) c.if-again.true
+    (rw c.is_all_confirmed.ensures.same at c.in_ok-again.ensures.ok) in
+    record {
+      same = c.goes_on.ensures.same ∙ c.is_all_confirmed.ensures.same;
+      looks = (unconfirmed, goes.1);
+      left = goes.0;
+      ok = passage_again map old state false c.requires.read unconfirmed refl goes.0 goes.1;
+      ends = then_ok c.in_ok-confirmed.ensures.ends c.in_ok-again.ensures.ends;
+    }

@@ -19,6 +19,7 @@ returns g c =
       down = c.accept_manifest.ensures.down;
       lacks = c.accept_manifest.ensures.lacks;
       repeats = c.accept_manifest.ensures.repeats;
+      empty = c.accept_manifest.ensures.empty;
       refused = c.accept_manifest.ensures.refused;
       told = c.accept_manifest.ensures.told;
       kept = c.accept_manifest.ensures.kept;

@@ -1,8 +1,7 @@
 use Rattle.std.proofs.Common.{◌+◌, refl, subst}
-use Rattle.sector_map.specs.Part.{any_part}
-use Rattle.sector_map.proofs.Parts.{keeps_refl}
 use Rattle.boot_core.specs.Calls.{BootsDevice}
 use Rattle.boot_core.specs.Device.{Whole, made, seen}
+use Rattle.boot_core.proofs.OnMap.{layout_keeps}
 use Rattle.boot_core.proofs.Wholes.{whole_of}
 use Rattle.boot_core.proofs.device.Device.boot.Goals as goal
 
@@ -21,9 +20,11 @@ returns g c =
       empty = booted.empty;
       refused = booted.refused;
       erases = booted.erases;
-      outside = booted.on_map _ (keeps_refl _ any_part _);
+      outside = layout_keeps booted.layout;
+      starts = booted.starts;
       idle = booted.idle;
       over = booted.over;
+      again = booted.again;
       off = booted.off;
       stops = booted.stops;
       closed = booted.closed;
