@@ -7,10 +7,10 @@ from support.files import PAIR
 from support.power_cuts import writes_of
 from support.program import ProgramTest, short
 from support.stories import (
-    IMAGES, UPLOADED, UPLOAD_REPLIES, changes, expect_story, flash_in, holds, new_device, run_of,
-    runs,
+    IMAGES, PATIENT, STAYED, UPLOADED, UPLOAD_REPLIES, changes, expect_story, flash_in, holds, keeping,
+    new_device, run_of, runs,
 )
-from support.worked import NOT_UP, PLAIN
+from support.worked import BACK, NOT_UP, PLAIN, TRIED, numbered
 
 # The first number of the random sequence.
 DAMAGE_SEED = 2463534242
@@ -182,6 +182,12 @@ class RandomFlashTest(ProgramTest):
         expect_replies(self, "flashes stopped at a write and changed at random", flashes, dict.fromkeys(FIRST, 1))
 
 
+# Two new images run on trial.
+ON_TRIAL = runs(f"{UPLOADED}, boot", [*UPLOAD_REPLIES, TRIED])
+
+# The reply of a boot that neither reverts nor refuses a set, and that of one whose image 0 is damaged.
+STAYS, LOST = "trial-again 0 1 left 0", "refused boot 5 RunningDamaged 0"
+
 # Changes of a flash, and what a boot then reports: the events before, a place, bytes, and the reply.
 DAMAGES = [
     ("the first running image", [], 32, b"@", "refused boot 5 RunningDamaged 0"),
@@ -193,6 +199,18 @@ DAMAGES = [
         3104,
         b"@",
         f"{PLAIN}|refuse 0 damaged|refuse 1 needs 0 2.0.0+0",
+    ),
+    ("the first new image of a trial", [ON_TRIAL], 32, b"@", BACK),
+    ("the first old image of a trial", [ON_TRIAL], 3104, b"@", STAYS),
+    ("the second old image of a trial", [ON_TRIAL], 4640, b"@", STAYS),
+    ("both first images of a trial", [ON_TRIAL, changes(32, b"@")], 3104, b"@", LOST),
+    ("the second old image and the first new one", [ON_TRIAL, changes(32, b"@")], 4640, b"@", LOST),
+    (
+        "both old images and the second new one",
+        [ON_TRIAL, changes(3104, b"@"), changes(4640, b"@")],
+        1568,
+        b"@",
+        "refused boot 5 RunningDamaged 1",
     ),
 ]
 
@@ -207,3 +225,59 @@ class ChangedImageTest(ProgramTest):
             is_refused = reply.startswith("refused")
             booted = runs("boot, finish 0", [reply, NOT_UP], 1) if is_refused else runs("boot", [reply])
             expect_story(self, f"damaged: {name}", [*before, changes(at, bytes), booted])
+
+
+def interrupted(test):
+    """The flashes of a device that lost power at each write of a revert, by what `show` prints of their record."""
+    new_device(test)
+    run_of(test, f"{UPLOADED}, boot")
+    tried, flashes = flash_in(test), {}
+    for number in range(1, writes_of(test, PAIR, tried, "boot") + 1):
+        test.file("flash", tried)
+        run_of(test, "boot", cuts=[(number, "keep")])
+        _, shown, _ = test.run_program(["show", PAIR, "flash"])
+        flashes.setdefault(shown.partition(b"\n")[0], []).append(flash_in(test))
+    return flashes
+
+
+class DamagedRevertTest(ProgramTest):
+    """What a boot replies if the images are damaged that a revert would let run."""
+
+    def test_set_that_stays(self):
+        """A set whose old image is damaged runs on, and nothing is written. It can be confirmed, and reverts once
+        its old images are intact."""
+        stays = [ON_TRIAL, changes(3104, b"@"), keeping(runs("boot, boot", [STAYS, STAYS]))]
+        confirmed = runs("boot, confirm 0, confirm 1, boot, boot", [STAYS, "done", "done", STAYED, STAYED])
+        expect_story(self, "damaged: a set that stays is confirmed", [*stays, confirmed])
+        mended = [changes(3072, IMAGES["one.img"]), runs("boot, boot", [BACK, PLAIN])]
+        expect_story(self, "damaged: a set that stays reverts once its old image is written again", [*stays, *mended])
+
+    def test_boots_that_are_left(self):
+        """A set whose old image is damaged uses the boots of its trial, and stays then."""
+        left = [f"trial-again 0 1 left {it}" for it in (1, 0, 0, 0)]
+        tried = runs(f"{UPLOADED}, boot", [*UPLOAD_REPLIES, TRIED])
+        expect_story(
+            self,
+            "damaged: an old image in a trial of three boots",
+            [tried, changes(3104, b"@"), runs("boot, boot, boot, boot", left), keeping(runs("boot", [STAYS]))],
+            PATIENT,
+        )
+
+    def test_interrupted(self):
+        """A boot that finds an interrupted revert doesn't start a damaged image, nor does any later boot."""
+        flashes = interrupted(self)
+        # The last flash of each record: in Back all is moved, in BackSettle the trailers are settled.
+        for record in (b"state back", b"state back-settle"):
+            found = flashes.get(record, [])
+            name = f"damaged: {record.decode()}"
+            self.case(f"{name}: its flashes", [] if found else [f"{sorted(flashes)}"])
+            for whole in found[-1:]:
+                self.file("flash", whole[:32] + b"@" + whole[33:])
+                wanted = (1, numbered([LOST, LOST]), b"")
+                got = run_of(self, "boot, boot")
+                self.case(f"{name}: a damaged image isn't started", [] if got == wanted else [short(got)])
+                left = flash_in(self)
+                self.file("flash", IMAGES["one.img"] + left[len(IMAGES["one.img"]) :])
+                got = run_of(self, "boot, boot")
+                wanted = (0, numbered([BACK, PLAIN]), b"")
+                self.case(f"{name}: ended once the image is intact", [] if got == wanted else [short(got)])

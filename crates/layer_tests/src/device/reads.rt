@@ -56,11 +56,11 @@ const TO_TRIAL: Parts = [NEW, 56, OLD, 0, OLD, 0, 8, 40, 0, 376];
 
 const AGAIN: Parts = [NEW, 40, 0, 0, OLD, 0, 0, 0, 0, 304];
 
-const TO_BACK: Parts = [NEW, 40, OLD, 528, 0, 0, 0, 0, 0, 232];
+const TO_BACK: Parts = [NEW, 40, 2 * OLD, 528, 0, 0, 0, 0, 0, 232];
 
-const TO_BACK_SETTLE: Parts = [MOVED, 0, MOVED, 136, 0, 0, 0, 0, MOVED, 160];
+const TO_BACK_SETTLE: Parts = [MOVED + OLD, 0, MOVED, 136, 0, 0, 0, 0, MOVED, 160];
 
-const TO_STEADY: Parts = [0, 32, 0, 40, 0, 0, 0, 0, 0, 640];
+const TO_STEADY: Parts = [OLD, 32, 0, 40, 0, 0, 0, 0, 0, 640];
 
 /// A boot that upgrades without a power cut.
 const UPGRADE: Parts = [
