@@ -484,18 +484,16 @@ class Devices(unittest.TestCase):
             numbers.add(reply.reverted)
         self.assertEqual(numbers, {(), (1,)})
 
-    def test_a_refused_manifest_without_components_says_why(self):
-        def refuse(*given):
-            result = given[-1]._obj
-            result.fault, result.detail = Fault.Manifest, 3
-            return Number.REFUSED
-
-        device = Device(512, [2])
-        with mock.patch.object(bootswap._LIBRARY, "bootswap_accept", refuse):
+    def test_a_manifest_without_components_is_refused(self):
+        device = device_of("pair")
+        device.boot()
+        device.raises_refusals, flash, kept = True, bytes(device.flash), bytes(device._saved)
+        for sequence in (0, 1, 2**32 - 1):
             with self.assertRaises(bootswap.Refused) as caught:
-                device.accept(3, [])
-        self.assertEqual(str(caught.exception), "accept is refused: Manifest BadValue")
-        self.assertEqual(caught.exception.reply.detail, ManifestFault.BadValue)
+                device.accept(sequence, [])
+            self.assertEqual(str(caught.exception), "accept is refused: Manifest BadValue")
+            self.assertEqual(caught.exception.reply.detail, ManifestFault.BadValue)
+            self.assertEqual((device.flash, bytes(device._saved)), (flash, kept))
 
     def test_what_a_boot_refuses_is_told_as_fields(self):
         device = device_of("either")
