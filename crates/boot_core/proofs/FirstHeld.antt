@@ -1,5 +1,5 @@
 -- A device that is made over a provisioned flash holds its first state.
-use Rattle.std.proofs.Common.{◌≡◌, false, subst, sym}
+use Rattle.std.proofs.Common.{subst, sym}
 use Rattle.flash_model.specs.Chip.{Chip}
 use Rattle.sector_map.specs.declared.layout.SectorMap.{SectorMap}
 use Rattle.machine.specs.Holding.{Holds, Rests, Stands}

@@ -1,5 +1,5 @@
 -- What is found by looking at the images of a set, or at all images.
-use Rattle.std.proofs.Common.{◌≡◌, ℕ, zero, suc, ◌+◌, ◌<◌, ◌≤◌, Bool, true, false, None, arith, refl, subst, sym, ⊎_elim}
+use Rattle.std.proofs.Common.{◌≡◌, ℕ, zero, suc, ◌+◌, ◌<◌, ◌≤◌, true, arith, refl, subst, sym, ⊎_elim}
 use Rattle.std.proofs.lemmas.Bool.{cases_lt}
 use Rattle.flash_model.specs.Chip.{Chip}
 use Rattle.sector_map.specs.declared.layout.SectorMap.{SectorMap}
@@ -7,7 +7,6 @@ use Rattle.sector_map.specs.declared.layout.Side.{Side}
 use Rattle.sector_map.specs.declared.layout.Side.TheVariants.{Primary}
 use Rattle.sector_map.specs.Map.{IsLaidOut}
 use Rattle.sector_map.specs.Part.{is_member}
-use Rattle.upload.specs.Steady.{IsFront}
 use Rattle.upload.specs.View.{View, view}
 use Rattle.machine.specs.Starting.{AreHeld, AreIntact, IsHeld, IsLost}
 use Rattle.machine.proofs.Starting.{held_lost}

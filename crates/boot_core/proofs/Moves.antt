@@ -1,5 +1,5 @@
 -- Which images a boot may move, and what the primary slots begin with by a decision.
-use Rattle.std.proofs.Common.{◌≡◌, ℕ, Bool, true, false, ◌||◌, length, List, Option, Some, None, IsSomeAnd, is_some, slice_get, ap, refl, subst, sym, ◌∙◌}
+use Rattle.std.proofs.Common.{◌≡◌, ℕ, Bool, true, false, ◌||◌, length, Option, Some, None, IsSomeAnd, is_some, ap, refl, subst, sym, ◌∙◌}
 use Rattle.std.proofs.lemmas.Bool.{false≢true}
 use Rattle.flash_model.specs.Chip.{Chip}
 use Rattle.sector_map.specs.declared.layout.SectorMap.{SectorMap}
@@ -20,7 +20,6 @@ use Rattle.upload.specs.Steady.{request_in, told_by}
 use Rattle.upload.specs.View.{View, view}
 use Rattle.upload.proofs.Views.{view_kept}
 use Rattle.machine.specs.Starting.{HoldsEntry, StartsSet}
-use Rattle.machine.specs.Wear.{IsSetIn}
 use Rattle.machine.proofs.Steadying.{no_member}
 use Rattle.decision.specs.Found.{AreRowsHeld, IsRowAsked}
 use Rattle.boot_core.specs.Moving.{is_recorded, may_move}

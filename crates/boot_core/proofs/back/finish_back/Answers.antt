@@ -1,4 +1,4 @@
-use Rattle.std.proofs.Common.{◌≡◌, ap, arith, inl, ◌∙◌}
+use Rattle.std.proofs.Common.{◌≡◌, ap, arith, inl}
 use Rattle.std.proofs.lemmas.Result.{IfOk-weaker}
 use Rattle.upload.proofs.Ends.{err_passed}
 use Rattle.machine.proofs.Returning.{back_finishes}

@@ -6,7 +6,7 @@ use Rattle.boot_core.proofs.OnMap.{layout_same}
 use Rattle.boot_core.proofs.Passed.{here_ends, ok_ends, passes_err}
 use Rattle.boot_core.proofs.Undecided.{kept_for, never_again}
 use Rattle.boot_core.proofs.Undecided.{decided_in, undecided_in}
-use Rattle.decision.specs.Places.{finding_in, read_as}
+use Rattle.decision.specs.Places.{finding_in}
 use Rattle.boot_core.proofs.settle.settle_found.Goals as goal
 
 pub settle_and_record-requires-clause-rest : goal.settle_and_record-requires-clause-rest

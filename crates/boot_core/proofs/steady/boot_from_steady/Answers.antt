@@ -17,7 +17,7 @@ use Rattle.boot_core.proofs.Measured.{fresh_same}
 use Rattle.boot_core.proofs.OnMap.{layout_same}
 use Rattle.boot_core.proofs.Resting.{rests_somehow}
 use Rattle.boot_core.proofs.Upgrades.{steady_gives}
-use Rattle.boot_core.proofs.Undecided.{decided_in, undecided_in}
+use Rattle.boot_core.proofs.Undecided.{decided_in}
 use Rattle.decision.specs.Places.{finding_in, read_as}
 use Rattle.boot_core.specs.Places.{reply_in}
 use Rattle.boot_core.proofs.steady.boot_from_steady.Goals as goal

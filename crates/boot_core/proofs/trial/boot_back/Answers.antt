@@ -1,16 +1,11 @@
-use Rattle.std.proofs.Common.{◌≡◌, ◌∙◌, ap, sym}
-use Rattle.std.proofs.lemmas.Result.{IfOk-weaker}
-use Rattle.sector_map.specs.Part.{is_member}
+use Rattle.std.proofs.Common.{◌≡◌, ap}
 use Rattle.upload.proofs.Ends.{err_passed}
 use Rattle.upload.specs.Device.{DeviceState}
 use Rattle.machine.specs.Boots.{GoesBack}
 use Rattle.machine.specs.Holding.{Stands}
-use Rattle.machine.specs.declared.reply.Reply.TheVariants.{Reverted}
 use Rattle.machine.proofs.Trying.{back_here, open_of, opened_cut}
 use Rattle.set_log.specs.declared.state.State.{State}
-use Rattle.decision.specs.Places.{read_as}
 use Rattle.boot_core.specs.FromTrial.{HasTrial}
-use Rattle.boot_core.specs.Places.{reply_in}
 use Rattle.boot_core.proofs.Booted.{boot_after, boot_fails}
 use Rattle.boot_core.proofs.Wears.{fresh_back}
 use Rattle.boot_core.proofs.trial.boot_back.Goals as goal

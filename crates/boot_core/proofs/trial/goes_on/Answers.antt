@@ -1,9 +1,9 @@
-use Rattle.std.proofs.Common.{◌≡◌, ◌<◌, arith, inl, inr, subst}
+use Rattle.std.proofs.Common.{◌<◌, arith, inr, subst}
 use Rattle.sector_map.specs.declared.layout.Side.TheVariants.{Primary}
 use Rattle.upload.specs.View.{view}
 use Rattle.machine.specs.Starting.{IsLost, IsLowestLost}
 use Rattle.boot_core.proofs.Looked.{all_intact}
-use Rattle.boot_core.proofs.Passed.{here_ends, ok_ends}
+use Rattle.boot_core.proofs.Passed.{ok_ends}
 use Rattle.boot_core.proofs.trial.goes_on.Goals as goal
 
 pub returns-in-None : goal.returns-in-None
