@@ -169,7 +169,10 @@ class MakeDeviceTest(ProgramTest):
 
 
 NO_SECTOR = "`--sector` is a number of bytes, 512 to 131072, such as 4096, 0x1000 or 4k"
-NO_SLOTS = "`--slots` are numbers of sectors, one for each image, parted by commas: 2,2"
+NO_SLOTS = (
+    "`--slots` are numbers of sectors, one for each image, separated by commas, such as 2,2: the bytes of a slot divided"
+    " by `--sector`"
+)
 NO_BOOTS = "`--trial-boots` is a number from 1 to 7"
 
 # Values of `--sector`, `--slots` and `--trial-boots` of which one can't be read, by the sentence that reports
@@ -180,7 +183,7 @@ UNREADABLE = {
         *((it, "2", "1") for it in ("0x", "0X200", "0x+200", "0x 200", "0x200k", "0x100000000", "4096M", "4194304K")),
         ("x", "x", "x"),
     ],
-    NO_SLOTS: [("512", it, "1") for it in ("", "2,", ",2", "2,,2", "2, 2", "2,4294967296")],
+    NO_SLOTS: [("512", it, "1") for it in ("", "2,", ",2", "2,,2", "2, 2", "2,4294967296", "448k")],
     NO_BOOTS: [("512", "2", it) for it in ("0", "8", "257")],
 }
 

@@ -4,9 +4,8 @@ from support.builders import ABC, CLASS, VENDOR
 
 # The sentences that report options of `make-image` that can't be read, and such options.
 UNREADABLE = {
-    "`--version` is `major.minor.revision+build`, such as 1.4.2+7; last parts may be left out": [
-        "--version=", "--version=1.0.0.0", "--version=256", "--version=01", "--version=v1"
-    ],
+    "`--version` is `major.minor.revision+build`, such as 1.4.2+7, up to 255.255.65535+4294967295; last parts may be left"
+    " out": ["--version=", "--version=1.0.0.0", "--version=256", "--version=300.0.0", "--version=01", "--version=v1"],
     "`--counter` is a number, in digits, below 4294967296": [
         "--counter=", "--counter=4294967296", "--security-counter=+1", "--counter=0x1"
     ],

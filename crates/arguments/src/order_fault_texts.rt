@@ -30,8 +30,8 @@ pub const SEVERAL_FLEETS: &str = "name one fleet, or add summaries by `--merge`"
 pub const NOT_MERGED: &str = "`--merge` adds summaries, so there is no `--request` or `--summary`";
 
 /// The version isn't valid.
-pub const NO_VERSION: &str = "`--version` is `major.minor.revision+build`, such as 1.4.2+7; last \
-     parts may be left out";
+pub const NO_VERSION: &str = "`--version` is `major.minor.revision+build`, such as 1.4.2+7, up to \
+     255.255.65535+4294967295; last parts may be left out";
 
 /// The security counter isn't a number.
 pub const NO_COUNTER: &str = "`--counter` is a number, in digits, below 4294967296";
@@ -65,7 +65,8 @@ pub const NO_SECTOR: &str =
 
 /// The slots aren't numbers.
 pub const NO_SLOTS: &str =
-    "`--slots` are numbers of sectors, one for each image, parted by commas: 2,2";
+    "`--slots` are numbers of sectors, one for each image, separated by commas, such as 2,2: the \
+     bytes of a slot divided by `--sector`";
 
 /// The number of boots of a trial isn't valid.
 pub const NO_TRIAL_BOOTS: &str = "`--trial-boots` is a number from 1 to 7";

@@ -160,8 +160,8 @@ pub const MAKE_DEVICE: &Help = &Help {
     long_about: "Make a device file from the sizes of a device's flash and the names of its
 vendor and class. Print it on standard output, and where the parts of the flash
 are on standard error. BYTES may be typed 4096, 0x1000 or 4k; `k` and `K` are
-1024 bytes, `M` is 1024 k. A device of two images, whose slots have two sectors
-of 512 bytes each:
+1024 bytes, `M` is 1024 k. `--slots` counts sectors: 448k are 112 sectors of 4k.
+A device of two images, whose slots have two sectors of 512 bytes each:
   bootswap make-device --sector 512 --slots 2,2 --vendor python.org \\
       --class sensor > device.json
 
@@ -225,11 +225,12 @@ What `bootswap image` prints of it, if the body is `ABCD`:
   digest 3a93df27e2afd898a939255877208cb1c4cac33854961dc724212a7bbe2ba2bc
   needs 1 2.0.0+0
 
-VERSION is `major.minor.revision+build`; parts at the end may be left out if
-they are 0. `--needs` may be given up to 16 times. `--dependencies '(1, 2.0.0)'`
-is the spelling of MCUboot's imgtool for the same. `--needs-one '1 2.0.0 2 2.0'`
-means that the image needs one of these 1 to 4 images; it may be given up to 4
-times. Quotes keep the words of one dependency together.
+VERSION is `major.minor.revision+build`, up to 255.255.65535+4294967295; parts
+at the end may be left out if they are 0. `--needs` may be given up to 16 times.
+`--dependencies '(1, 2.0.0)'` is the spelling of MCUboot's imgtool for the same.
+`--needs-one '1 2.0.0 2 2.0'` means that the image needs one of these 1 to 4
+images; it may be given up to 4 times. Quotes keep the words of one dependency
+together.
 
 A counter is 0 to 4294967295. Without `--counter` the image has none, which
 counts as 0. Zero bytes fill a header of more than 32 bytes. A load address is 0
