@@ -77,8 +77,10 @@ enum bootswap_fault {
     BOOTSWAP_UPLOAD = 10          /* `detail` is a bootswap_upload_fault */
 };
 
-/* Why a manifest is refused. `detail` of BOOTSWAP_MANIFEST is 3, 6 or 7: bootswap_accept returns 3 if there is no
- * component. bootswap_manifest.h reads texts, and returns any. */
+/*
+ * Why a manifest is refused. `detail` of BOOTSWAP_MANIFEST is 3, 6 or 7: bootswap_accept returns 3 if there is no
+ * component. bootswap_manifest.h reads texts, and returns any.
+ */
 enum bootswap_manifest_fault {
     BOOTSWAP_NOT_JSON = 1,           /* the bytes aren't the JSON text of a value */
     BOOTSWAP_BAD_KEY = 2,            /* a key is missing, or isn't known */

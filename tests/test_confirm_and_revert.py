@@ -265,9 +265,9 @@ STORIES = [
         holds(OF_TRIAL, trial_record(0)),
         changes(OF_TRIAL, trial_record(0, permanent=1)),
         WENT_BACK,
-        # The revert copies this byte of the record. The record of a device at rest has 0 here.
-        holds(OF_WAY_BACK, bytes([5, 3, 1])),
-        holds(OF_ITS_SETTLING, bytes([6, 3, 1])),
+        # Only the record of an upgrade says permanent: those of the revert have 0 here.
+        holds(OF_WAY_BACK, bytes([5, 3, 0])),
+        holds(OF_ITS_SETTLING, bytes([6, 3, 0])),
         holds(AT_REST, bytes([1, 0, 0])),
     ),
     (
