@@ -444,6 +444,35 @@ class Devices(unittest.TestCase):
         device.flash[device.place(0, side=1) + 40] ^= 1
         return device
 
+    def check_not_booted(self, device):
+        """Checks that a saved state which says that the device is booted opens no call over an interrupted boot."""
+        flash = bytes(device.flash)
+        calls = {
+            "accept": lambda: device.accept(9, [Component.of(0, read("images/patched.img"))]),
+            "piece": lambda: device.piece(0, b"abcdefgh"),
+            "finish": lambda: device.finish(0),
+            "withdraw": lambda: device.withdraw(1),
+            "confirm": lambda: device.confirm(1),
+        }
+        for name, call in calls.items():
+            device._saved.is_booted = 1
+            self.assertEqual(call().fault, Fault.NotBooted, name)
+            self.assertEqual(device.flash, flash, name)
+
+    def test_a_saved_state_opens_no_call_over_an_interrupted_boot(self):
+        for before, phases in ((self.requested(), {Phase.SWAP, Phase.SETTLE}), (self.on_trial(), {Phase.BACK, Phase.BACK_SETTLE})):
+            kept, flash, seen = bytes(before._saved), bytes(before.flash), set()
+            for write in range(1, before.boot().writes + 1):
+                before.flash[:], before._saved = flash, type(before._saved).from_buffer_copy(kept)
+                before.boot([Cut(write)])
+                phase = before.state().phase
+                if phase in phases:
+                    self.check_not_booted(before)
+                    seen.add(phase)
+                before._saved.is_booted = 0
+                self.assertIn(before.boot().number, (Number.BOOTED, Number.REVERTED), write)
+            self.assertEqual(seen, phases)
+
     def test_a_loader_boots_once_more_after_a_boot_that_reverted(self):
         single, device = self.on_trial(), self.on_trial()
         boots, replies = [single.boot() for _ in range(3)], [device.start() for _ in range(2)]

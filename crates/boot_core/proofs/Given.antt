@@ -1,6 +1,6 @@
 -- Lemmas for manifests that were parsed before: which state is held afterwards, and which refusals
 -- can't come.
-use Rattle.std.proofs.Common.{◌≡◌, Bool, true, false, List, Option, Some, None, Result, Err, IsErrOf, refl, sym, ◌∙◌, ap, subst, inl}
+use Rattle.std.proofs.Common.{◌≡◌, Bool, true, false, List, Option, Some, None, Result, Err, IsErrOf, refl, sym, ◌∙◌, ap, subst, inl, ⊎_elim}
 use Rattle.std.proofs.Common.{true≢false}
 use Rattle.flash_model.specs.Chip.{Chip}
 use Rattle.flash_model.specs.declared.error.FlashError.TheVariants as flash
@@ -24,20 +24,20 @@ use Rattle.machine.specs.declared.error.Fault.TheVariants as no
 use Rattle.machine.proofs.Uploading.{TakesRow, rest_steady}
 use Rattle.boot_core.specs.Answers.{is_stop}
 use Rattle.boot_core.specs.Device.{StaysHeld, seen}
-use Rattle.boot_core.specs.Ready.{IsReadiness, LogsNoTrial, RefusesManifest}
-use Rattle.boot_core.proofs.Stopping.{IsStopped, error_is, holds_down}
+use Rattle.boot_core.specs.Ready.{IsReadiness, LogsRest, RefusesManifest}
+use Rattle.boot_core.proofs.Stopping.{IsStopped, error_is, holds_down, not_tried}
 
 -- ---- what is held
 
 module _ (map : SectorMap) (old new : Chip) (told tmid : List (Option Upload)) (up : Bool) (is_booted : up ≡ true)
-    (rests : LogsNoTrial (view map old).log) (row : Machine → Row) (result : Result Unit UploadError)
+    (rests : LogsRest (view map old).log) (row : Machine → Row) (result : Result Unit UploadError)
     (takes : TakesRow map old new told tmid row result) where
   taken : (m : Machine) → Holds map (seen old told up) m → (next : Machine) × IsUpAt (view map new) tmid next
   taken m holds =
       let here = holds.is_booted ∙ is_booted in
       let after = takes m (record {
         up = here;
-        rest = rest_steady map old m.kept rests.0 rests.1 rests.2 (holds.rest here);
+        rest = rest_steady map old m.kept rests.0 rests.1 (not_tried rests.0.kind rests.2) (holds.rest here);
         open_ones = holds.open_ones;
       }) in (after.0, after.2)
 
@@ -96,13 +96,18 @@ not_ready_told identity manifest up recorded on (no.Upload error) is = tt
 
 -- A device that takes uploads isn't refused for its state.
 pub ready_not : (up : Bool) (recorded : Option State) (on : Bool) (fault : Fault)
-    → IsReadiness (Err fault) up recorded on → on ≡ true → up ≡ true → LogsNoTrial recorded → ⊥
-ready_not up recorded on no.NotBooted is powered here rests = true≢false (sym here ∙ is)
+    → IsReadiness (Err fault) up recorded on → on ≡ true → up ≡ true → LogsRest recorded → ⊥
+ready_not up recorded on no.NotBooted is powered here rests = ⊎_elim (λ down. true≢false (sym here ∙ down))
+    (λ boots.
+    let one : recorded ≡ Some boots.1.0 = boots.1.1 in
+    let other : recorded ≡ Some rests.0 = rests.1 in
+    let kind : rests.0.kind ≡ log.Steady = rests.2 in
+    boots.1.2 (cc)) is
 ready_not up recorded on no.OnTrial is powered here rests =
     let one : recorded ≡ Some is.1.0 = is.1.1 in
     let other : recorded ≡ Some rests.0 = rests.1 in
     let kind : is.1.0.kind ≡ log.Trial = is.1.2 in
-    rests.2 (cc)
+    not_tried rests.0.kind rests.2 (cc)
 ready_not up recorded on no.NotProvisioned is powered here rests =
     let one : recorded ≡ None = is.1 in
     let other : recorded ≡ Some rests.0 = rests.1 in

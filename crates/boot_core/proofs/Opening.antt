@@ -37,7 +37,7 @@ use Rattle.boot_core.proofs.Given.{held_down, held_failed, held_up, not_ready_to
 use Rattle.boot_core.proofs.Keeping.{all_stays, own_error}
 use Rattle.boot_core.proofs.NotReady.{declined_all, declines, not_down, refused_after, stops}
 use Rattle.boot_core.proofs.OnMap.{keeps_any}
-use Rattle.boot_core.proofs.Stopping.{accept_down, done_ends, failed, failed_ends, idle_ends, not_ready, opens_stopped}
+use Rattle.boot_core.proofs.Stopping.{accept_down, done_ends, failed, failed_ends, idle_ends, not_ready, not_tried, opens_stopped}
 use Rattle.boot_core.proofs.Taken.{IsReadyAt, laid_now, opens_now, ready_now}
 use Rattle.boot_core.proofs.Texts.{text_ends, text_steps}
 
@@ -244,7 +244,7 @@ module _ (map : SectorMap) (identity : Identity) (before after : DeviceView)
         laid = laid;
         opens = opens;
         steps = λ boots on. text_steps (made map identity boots) before.flash before.flash before.sessions before.up
-            ready.1.0 ready.0 ready.1.1 ready.1.2 text refl fault refuses;
+            ready.1.0 ready.0 ready.1.1 (not_tried _ ready.1.2) text refl fault refuses;
         outside = keeps_refl map any_part before.flash;
         named = Untouched refl;
         down = not_down (Err fault) before before ready.0;
@@ -280,7 +280,7 @@ module _ (map : SectorMap) (identity : Identity) (manifest : given.Manifest) (ol
         laid = laid_out_kept map (accepted_parts manifest.components.items) old new laid accepts.outside;
         opens = accepts.all_open opens;
         steps = λ boots text on means. steps_accept (made map identity boots) old told up ready.1.0 ready.0 ready.1.1
-            ready.1.2 new tmid text manifest (Ok tt) Done refl refl means accepts.row;
+            (not_tried _ ready.1.2) new tmid text manifest (Ok tt) Done refl refl means accepts.row;
         holds = λ on. held_up map old new told tmid up ready.0 ready.1 row (Ok tt) accepts.row;
         outside = accepts.outside;
         refused = tt;
@@ -300,9 +300,9 @@ module _ (map : SectorMap) (identity : Identity) (manifest : given.Manifest) (ol
         steps = λ boots text on means.
             let setup = made map identity boots in
             failed setup old new told tmid tnew up upn (event.Accept text) error on accepts.ends stopped
-            (λ none cut. accept_down setup old new told tnew up ready.0 none ready.1.0 tmid (Err error) ready.1.1 ready.1.2
+            (λ none cut. accept_down setup old new told tnew up ready.0 none ready.1.0 tmid (Err error) ready.1.1 (not_tried _ ready.1.2)
             (ap (λ e. Err e) cut) text manifest means accepts.row)
-            (λ own. steps_accept setup old told up ready.1.0 ready.0 ready.1.1 ready.1.2 new tmid text manifest (Err error)
+            (λ own. steps_accept setup old told up ready.1.0 ready.0 ready.1.1 (not_tried _ ready.1.2) new tmid text manifest (Err error)
             (Refused (no.Upload error)) (upload_refused error own) own means accepts.row)
             fault passed.is;
         holds = λ on. held_failed map (seen old told up) old new tmid tnew up upn error on accepts.ends stopped

@@ -7,7 +7,8 @@ use Rattle.sector_map.specs.declared.layout.SectorMap.{SectorMap}
 use Rattle.boot_core.specs.BootEnds.{KeepsLayout, Passes}
 use Rattle.flash_model.proofs.Ending.{ends_after, no_error, uncut_refl}
 
-err_as : {T U : Type 0} (error other : FlashError) → IsErrOf {T = T} (Err error) other
+-- Whatever the value would be.
+pub err_as : {T U : Type 0} (error other : FlashError) → IsErrOf {T = T} (Err error) other
     → IsErrOf {T = U} (Err error) other
 err_as error other is = let same : error ≡ other = cc in ap (λ e. Err e) same
 

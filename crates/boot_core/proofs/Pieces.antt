@@ -25,7 +25,7 @@ use Rattle.machine.specs.declared.error.Fault.{Fault}
 use Rattle.machine.specs.declared.error.Fault.TheVariants as no
 use Rattle.boot_core.specs.Answers.{is_stop}
 use Rattle.boot_core.specs.Device.{seen}
-use Rattle.boot_core.specs.Ready.{IsReadiness, LogsNoTrial}
+use Rattle.boot_core.specs.Ready.{IsReadiness, LogsRest}
 use Rattle.boot_core.specs.Taking.{AsksReady, PassesOn, TakesHere, TakesPieceHere}
 use Rattle.boot_core.proofs.Given.{ready_not}
 use Rattle.boot_core.proofs.NotReady.{declined}
@@ -105,7 +105,7 @@ piece_passed map image more before old new told tmid tnew up upn taken result re
   matched = subst (λ (at : DeviceView). (u : Upload) → upload_at at.sessions image ≡ Some u
       → IsOpenAt (view map at.flash) image u → result ≡ Err (no.Upload NoSession) → ⊥) ready.taken
       (λ u is stands refused. matched u is stands (passed_session taken result tmid tnew up upn passed refused));
-  lacks = subst (λ (at : DeviceView). at.flash.is_on ≡ true → at.up ≡ true → LogsNoTrial (state_of map at.flash)
+  lacks = subst (λ (at : DeviceView). at.flash.is_on ≡ true → at.up ≡ true → LogsRest (state_of map at.flash)
       → LacksSession map at.sessions image (length more.now) at.flash
       → (result ≡ Err (no.Upload NoSession)) × (seen new tnew upn ≡ at)) ready.taken (λ on is_up no_trial lacking.
       let left = lacks on lacking in

@@ -9,11 +9,13 @@ use Rattle.flash_model.specs.declared.error.FlashError.TheVariants as flash
 use Rattle.sector_map.specs.declared.layout.SectorMap.{SectorMap}
 use Rattle.set_log.specs.Log.{state_of}
 use Rattle.set_log.specs.declared.state.State.{State}
+use Rattle.set_log.specs.declared.state.RecordKind.{RecordKind}
 use Rattle.set_log.specs.declared.state.RecordKind.TheVariants as log
 use Rattle.manifest.specs.declared.manifest.Manifest as given
 use Rattle.manifest.specs.Fault.{IsManifest}
 use Rattle.upload.specs.View.{View, view}
-use Rattle.upload.specs.Device.{DeviceState, Machine}
+use Rattle.upload.specs.Device.{DeviceState, Machine, Trial}
+use Rattle.upload.specs.Steady.{IsSteadyAt}
 use Rattle.upload.specs.Sessions.{AllClosed, AllOpenAt}
 use Rattle.upload.specs.Ending.{EndsUpload, is_flash}
 use Rattle.upload.specs.Accepted.{Accepts}
@@ -27,20 +29,21 @@ use Rattle.upload.proofs.Frames.{sessions_closed}
 use Rattle.upload.proofs.OpenOnes.{open_none}
 use Rattle.machine.specs.States.{asleep, with_confirmed}
 use Rattle.machine.specs.Intake.{IsUploadsCut, Row, Setup, TakesManifest}
-use Rattle.machine.specs.Holding.{Holds, IsAtRest, Rests, Stands}
+use Rattle.machine.specs.Holding.{DeviceView, Holds, IsAtRest, IsTrialAt, Rests, Stands}
 use Rattle.machine.specs.Passing.{CutsBoot, CutsConfirm, StepsTo, needs_rest, needs_up}
 use Rattle.machine.specs.Steps.{DeviceEvent, cut_of}
 use Rattle.machine.specs.declared.error.Fault.{Fault}
 use Rattle.machine.specs.declared.error.Fault.TheVariants as no
 use Rattle.machine.specs.declared.reply.Reply.{Reply}
 use Rattle.machine.specs.declared.reply.Reply.TheVariants.{Done, Refused, Cut}
-use Rattle.machine.proofs.Confirming.{rest_stands}
+use Rattle.machine.proofs.Confirming.{rest_stands, steady_kind, trial_kind}
 use Rattle.machine.proofs.Stepping.{steps_no_state, steps_not_up}
 use Rattle.machine.proofs.Uploading.{TakesRow, rest_steady, steps_on_trial}
 use Rattle.machine.specs.Boots.{is_answer}
 use Rattle.boot_core.specs.Answers.{EndsCall, IsBootReply, error_reply, fault_reply, is_stop, is_stopped, reply_of_boot}
 use Rattle.boot_core.specs.Device.{seen}
-use Rattle.boot_core.specs.Ready.{IsReadiness}
+use Rattle.boot_core.specs.declared.confirming.Confirmation.{Confirmation}
+use Rattle.boot_core.specs.Ready.{IsReadiness, LogsBoot}
 use Rattle.boot_core.specs.Wear.{IsWorn}
 
 -- A device that isn't booted holds the state on its flash.
@@ -207,9 +210,9 @@ no_own error given is own = true≢false (sym (ap is_stop is) ∙ own)
 
 -- The flash stopped a confirmation.
 pub confirm_stopped : (setup : Setup) (old new : Chip) (told tnew : List (Option Upload)) (up upn : Bool) (i : ℕ)
-    → up ≡ true → (error : FlashError) → Ends {T = Bool} (Err error) old new → old.is_on ≡ true → AllClosed tnew
+    → up ≡ true → (error : FlashError) → Ends {T = Confirmation} (Err error) old new → old.is_on ≡ true → AllClosed tnew
     → upn ≡ false
-    → (IsErrOf {T = Bool} (Err error) flash.Cut → (s : DeviceState) → IsAtRest (view setup.map old) s
+    → (IsErrOf {T = Confirmation} (Err error) flash.Cut → (s : DeviceState) → IsAtRest (view setup.map old) s
     → CutsConfirm (view setup.map new) s i)
     → StepsTo setup (seen old told up) (seen new tnew upn) (event.Confirm i) (fault_reply (no.Flash error))
 confirm_stopped setup old new told tnew up upn i is_booted flash.Cut ends on none down cuts =
@@ -367,13 +370,38 @@ still setup old mid told tnew up upn happened reply same kept on steps =
     (subst (λ l. StepsTo setup (seen old told up) (seen old l upn) happened reply) (sym kept)
     (subst (λ b. StepsTo setup (seen old told up) (seen old told b) happened reply) (sym on) steps))
 
+-- A log at rest has no trial.
+pub not_tried : (kind : RecordKind) → kind ≡ log.Steady → kind ≡ log.Trial → ⊥
+not_tried kind rests tried = never (sym rests ∙ tried) where
+  never : log.Steady ≡ log.Trial → ⊥
+  never e = cc
+
+-- No booted device holds a flash whose log says that a boot was interrupted.
+steps_boots : (setup : Setup) (w : DeviceView) (happened : DeviceEvent) → w.up ≡ true
+    → LogsBoot (state_of setup.map w.flash) → StepsTo setup w w happened (Refused no.NotBooted)
+steps_boots setup w happened up boots m holds = absurd (⊎_elim
+    (λ (steady : IsSteadyAt (view setup.map w.flash) m.kept).
+    boots.2 (steady_kind setup.map w.flash m.kept boots.0 boots.1 steady))
+    (λ (tried : (trial : Trial) × IsTrialAt (view setup.map w.flash) m.kept trial).
+    boots.3 (trial_kind setup.map w.flash m.kept tried.0 boots.0 boots.1 tried.1))
+    (holds.rest (holds.is_booted ∙ up)))
+
+pub steps_interrupted : (setup : Setup) (old mid : Chip) (told : List (Option Upload)) (up : Bool)
+    (happened : DeviceEvent) → up ≡ true → LogsBoot (state_of setup.map old) → mid ≡ old
+    → StepsTo setup (seen old told up) (seen mid told up) happened (Refused no.NotBooted)
+steps_interrupted setup old mid told up happened booted boots same =
+    still setup old mid told told up up happened (Refused no.NotBooted) same refl refl
+    (steps_boots setup (seen old told up) happened booted boots)
+
 module _ (setup : Setup) (old mid : Chip) (told tnew : List (Option Upload)) (up upn : Bool) (happened : DeviceEvent)
     (needs : needs_up happened ≡ true) (rests : needs_rest happened ≡ true) (same : mid ≡ old) where
   refused : (fault : Fault) → IsReadiness (Err fault) up (state_of setup.map old) old.is_on → old.is_on ≡ true
       → IsStopped fault told tnew up upn
       → StepsTo setup (seen old told up) (seen mid tnew upn) happened (fault_reply fault)
   refused no.NotBooted is on stopped = still setup old mid told tnew up upn happened (Refused no.NotBooted) same
-      (stopped.kept refl) (stopped.stays refl) (steps_not_up setup (seen old told up) happened is needs)
+      (stopped.kept refl) (stopped.stays refl) (⊎_elim
+      (λ down. steps_not_up setup (seen old told up) happened down needs)
+      (λ boots. steps_boots setup (seen old told up) happened boots.0 boots.1) is)
   refused no.OnTrial is on stopped = still setup old mid told tnew up upn happened (Refused no.OnTrial) same
       (stopped.kept refl) (stopped.stays refl)
       (steps_on_trial setup (seen old told up) is.1.0 happened is.0 is.1.1 is.1.2 rests)

@@ -31,15 +31,15 @@ use Rattle.machine.specs.declared.reply.Reply.TheVariants.{Cut, Done, Refused}
 use Rattle.machine.proofs.Uploading.{TakesRow, row_steps, upload_refused}
 use Rattle.boot_core.specs.Answers.{IsOff, is_stop, keeps_all, may_close}
 use Rattle.boot_core.specs.Device.{made, seen}
-use Rattle.boot_core.specs.Ready.{LogsNoTrial}
+use Rattle.boot_core.specs.Ready.{LogsRest}
 use Rattle.boot_core.specs.Taking.{AsksReady, PassesOn, TakesCall, TakesHere, journal_of}
 use Rattle.boot_core.proofs.Keeping.{all_stays, keeps_unstopped, up_stays}
 use Rattle.boot_core.proofs.NotReady.{not_down, refused_after, stops}
-use Rattle.boot_core.proofs.Stopping.{done_ends, failed, failed_ends, finish_down, opens_stopped, piece_down, withdraw_down}
+use Rattle.boot_core.proofs.Stopping.{done_ends, failed, failed_ends, finish_down, not_tried, opens_stopped, piece_down, withdraw_down}
 
 -- A device takes uploads: it is booted, and its log has a state in which no set is on trial.
 abbrev pub IsReadyAt : SectorMap → DeviceView → Type 0
-IsReadyAt map at = (at.up ≡ true) × LogsNoTrial (state_of map at.flash)
+IsReadyAt map at = (at.up ≡ true) × LogsRest (state_of map at.flash)
 
 module _ (map : SectorMap) (before after : DeviceView) (ready : AsksReady map before after (Ok tt)) where
   pub ready_now : IsReadyAt map after
@@ -78,28 +78,28 @@ module _ (happened : DeviceEvent) (row : Machine → Row)
       → reply ≡ upload_reply taken → is_flash taken ≡ false → TakesRow setup.map old new told tnew row taken
       → StepsTo setup (seen old told up) (seen new tnew up) happened reply
   own_step setup old new told tnew up ready taken reply is none =
-      row_steps setup old told up ready.1.0 ready.0 ready.1.1 ready.1.2 new tnew row happened taken reply is none
+      row_steps setup old told up ready.1.0 ready.0 ready.1.1 (not_tried _ ready.1.2) new tnew row happened taken reply is none
       (λ m next. completes setup m next (upload_reply taken))
 
 pub piece_event : (i : ℕ) (more : Bor (List ℕ)) → IsUploadEvent (event.Piece i more) (λ m. Pieces m i more.now)
 piece_event i more = record {
   own = own_step (event.Piece i more) (λ m. Pieces m i more.now) (λ setup m next reply done. done);
   cut = λ setup old new told tmid tnew up ready taken none cut row.
-      piece_down setup old new told tnew up ready.0 none ready.1.0 tmid taken ready.1.1 ready.1.2 cut i more row;
+      piece_down setup old new told tnew up ready.0 none ready.1.0 tmid taken ready.1.1 (not_tried _ ready.1.2) cut i more row;
 }
 
 pub finish_event : (i : ℕ) → IsUploadEvent (event.Finish i) (λ m. FinishRow m i)
 finish_event i = record {
   own = own_step (event.Finish i) (λ m. FinishRow m i) (λ setup m next reply done. done);
   cut = λ setup old new told tmid tnew up ready taken none cut row.
-      finish_down setup old new told tnew up ready.0 none ready.1.0 tmid taken ready.1.1 ready.1.2 cut i row;
+      finish_down setup old new told tnew up ready.0 none ready.1.0 tmid taken ready.1.1 (not_tried _ ready.1.2) cut i row;
 }
 
 pub withdraw_event : (i : ℕ) → IsUploadEvent (event.Withdraw i) (λ m. Withdraws m i)
 withdraw_event i = record {
   own = own_step (event.Withdraw i) (λ m. Withdraws m i) (λ setup m next reply done. done);
   cut = λ setup old new told tmid tnew up ready taken none cut row.
-      withdraw_down setup old new told tnew up ready.0 none ready.1.0 tmid taken ready.1.1 ready.1.2 cut i row;
+      withdraw_down setup old new told tnew up ready.0 none ready.1.0 tmid taken ready.1.1 (not_tried _ ready.1.2) cut i row;
 }
 
 -- What a call of `Uploads` did.

@@ -15,7 +15,7 @@ use Rattle.upload.specs.Device.{DeviceState}
 use Rattle.upload.specs.View.{view}
 use Rattle.upload.specs.declared.sessions.Upload.{Upload}
 use Rattle.machine.specs.Holding.{IsAtRest}
-use Rattle.machine.specs.Intake.{Setup}
+use Rattle.manifest.specs.declared.identity.Identity.{Identity}
 use Rattle.machine.specs.Passing.{EndsConfirm, StepsTo}
 use Rattle.machine.specs.Steps.{cut_of}
 use Rattle.machine.proofs.Uploading.{open_confirmed}
@@ -29,8 +29,10 @@ use Rattle.set_log.specs.declared.state.State.{State}
 use Rattle.set_log.specs.declared.state.RecordKind.TheVariants as log
 use Rattle.machine.specs.declared.error.Fault.{Fault}
 use Rattle.machine.specs.declared.error.Fault.TheVariants as no
-use Rattle.boot_core.specs.Confirming.{AnswersTrial, Confirms, IsOfSet}
-use Rattle.boot_core.specs.Ready.{LogsTrialOf}
+use Rattle.boot_core.specs.declared.confirming.Confirmation.{Confirmation}
+use Rattle.boot_core.specs.declared.confirming.Confirmation.TheVariants.{Done, NotOnTrial}
+use Rattle.boot_core.specs.Confirming.{AnswersConfirm, AnswersTrial, Confirms, IsOfSet, is_done}
+use Rattle.boot_core.specs.Ready.{LogsBoot, LogsTrialOf}
 
 some_same : (x y : State) → Some x ≡ Some y → x ≡ y
 some_same x y e = cc
@@ -40,6 +42,12 @@ pub set_answers : (OnTrial : Type 0) (map : SectorMap) (old new : Chip) (image :
     → Ends {T = Unit} (Err error) old new → OnTrial → AnswersTrial OnTrial map image old new (Err error)
 set_answers OnTrial map old new image flash.Cut ends tried = tried
 set_answers OnTrial map old new image flash.Off ends tried = ends.off refl
+
+-- What a confirmation found, by whether the image is in the set on trial.
+abbrev pub found_of : Result Bool FlashError → Result Confirmation FlashError
+found_of (Ok true) = Ok Done
+found_of (Ok false) = Ok NotOnTrial
+found_of (Err error) = Err error
 
 -- If the log says that a set is on trial, an image is on trial exactly if it is in that set.
 module _ (map : SectorMap) (image : ℕ) (old : Chip) (state : State) (read : state_of map old ≡ Some state)
@@ -54,40 +62,53 @@ module _ (map : SectorMap) (image : ℕ) (old : Chip) (state : State) (read : st
         tried.member,
   )
 
-  pub logged_trial : (mid new : Chip) (result : Result Bool FlashError) → mid ≡ old
-      → AnswersTrial (IsOfSet map state.mask image) map image mid new result
-      → AnswersTrial (LogsTrialOf map.images image (state_of map old)) map image old new result
-  logged_trial mid new (Ok true) same (tried, set) = (logged tried, set)
-  logged_trial mid new (Ok false) same other = λ tried. other (of_set tried)
-  logged_trial mid new (Err flash.Cut) same tried = logged tried
-  logged_trial mid new (Err flash.Off) same off = subst (λ (chip : Chip). chip.is_on ≡ false) same off
+  not_interrupted : LogsBoot (state_of map old) → ⊥
+  not_interrupted boots = boots.3 (subst (λ (s : State). s.kind ≡ log.Trial)
+      (some_same state boots.0 (sym read ∙ boots.1)) kind)
+
+  -- What a confirmation of an image of that set found.
+  pub tried_answers : (new : Chip) (result : Result Bool FlashError)
+      → AnswersTrial (IsOfSet map state.mask image) map image old new result
+      → AnswersConfirm map image old new (found_of result)
+  tried_answers new (Ok true) (tried, set) = (logged tried, set)
+  tried_answers new (Ok false) other = (λ tried. other (of_set tried), not_interrupted)
+  tried_answers new (Err flash.Cut) tried = logged tried
+  tried_answers new (Err flash.Off) off = off
 
 -- A flash with power stops only the confirmation of an image on trial.
-pub stops_tried : (OnTrial : Type 0) (map : SectorMap) (image : ℕ) (old new : Chip) (error : FlashError)
-    → AnswersTrial OnTrial map image old new (Err error) → old.is_on ≡ true → (OnTrial → ⊥) → ⊥
-stops_tried OnTrial map image old new flash.Cut tried on never = never tried
-stops_tried OnTrial map image old new flash.Off off on never = true≢false (sym on ∙ off)
+pub stops_tried : (map : SectorMap) (image : ℕ) (old new : Chip) (error : FlashError)
+    → AnswersConfirm map image old new (Err error) → old.is_on ≡ true
+    → LogsTrialOf map.images image (state_of map old)
+stops_tried map image old new flash.Cut tried on = tried
+stops_tried map image old new flash.Off off on = absurd (true≢false (sym on ∙ off))
+
+-- A log that has a set on trial says of no interrupted boot.
+pub tried_not_interrupted : (images image : ℕ) (recorded : Option State) → LogsTrialOf images image recorded
+    → LogsBoot recorded → ⊥
+tried_not_interrupted images image recorded tried boots = boots.3 (subst (λ (s : State). s.kind ≡ log.Trial)
+    (some_same tried.state boots.0 (sym tried.logged ∙ boots.1)) tried.trial)
 
 pub flash_not_tried : (error : FlashError) (given : Fault) (result : Result Unit Fault) → given ≡ no.Flash error
     → result ≡ Err given → result ≡ Err no.NotOnTrial → ⊥
 flash_not_tried error given result passed is told = cc
 
 -- The flash didn't stop the confirmation.
-pub confirm_ends : (map : SectorMap) (image : ℕ) (old new : Chip) (told : List (Option Upload)) (up answer : Bool)
-    (result : Result Unit Fault) → IsLaidOut map old → up ≡ true
-    → Confirms map image old new (Ok answer)
-    → ((setup : Setup) → Keeps setup.map (only (TrailerOf image Primary)) old new
-    → ((s : DeviceState) → IsAtRest (view setup.map old) s → EndsConfirm (view setup.map new) s image answer)
-    → StepsTo setup (seen old told up) (seen new told up) (event.Confirm image) (reply_of_result result))
+pub confirm_ends : (map : SectorMap) (image : ℕ) (old new : Chip) (told : List (Option Upload)) (up : Bool)
+    (found : Confirmation) (result : Result Unit Fault) → IsLaidOut map old → up ≡ true
+    → Confirms map image old new (Ok found)
+    → ((identity : Identity) (boots : ℕ) → Keeps map (only (TrailerOf image Primary)) old new
+    → ((s : DeviceState) → IsAtRest (view map old) s → EndsConfirm (view map new) s image (is_done found))
+    → StepsTo (made map identity boots) (seen old told up) (seen new told up) (event.Confirm image)
+    (reply_of_result result))
     → cut_of (reply_of_result result) ≡ 0 → is_stopped (reply_of_result result) ≡ false
     → StepsHere map (event.Confirm image) (only (TrailerOf image Primary)) (seen old told up) (seen new told up) result
-confirm_ends map image old new told up answer result laid booted confirms steps none unstopped = record {
+confirm_ends map image old new told up found result laid booted confirms steps none unstopped = record {
   laid = laid_out_kept map (only (TrailerOf image Primary)) old new laid confirms.outside;
   opens = open_confirmed map old new image told confirms.outside;
-  steps = λ identity boots on. steps (made map identity boots) confirms.outside confirms.ok;
+  steps = λ identity boots on. steps identity boots confirms.outside confirms.ok;
   outside = confirms.outside;
   down = not_down result (seen old told up) (seen new told up) booted;
-  off = λ here off. absurd (no_error answer _ (confirms.off off));
+  off = λ here off. absurd (no_error found _ (confirms.off off));
   journal = confirms.journal;
   ends = ended old new told told up up (reply_of_result result) none unstopped confirms.ends.uncut;
 }

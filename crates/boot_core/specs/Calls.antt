@@ -41,7 +41,7 @@ use Rattle.boot_core.specs.Answers.{reply_of_boot, reply_of_result}
 use Rattle.boot_core.specs.CutEvents.{IsCutAsDue, StepsEach}
 use Rattle.boot_core.specs.Device.{StaysHeld, Whole, made}
 use Rattle.boot_core.specs.Found.{IsStopped}
-use Rattle.boot_core.specs.Ready.{HasNoComponent, LogsNoTrial, LogsTrialOf, RefusesManifest}
+use Rattle.boot_core.specs.Ready.{HasNoComponent, LogsBoot, LogsRest, LogsTrialOf, RefusesManifest}
 use Rattle.boot_core.specs.Confirming.{IsOkSet}
 use Rattle.boot_core.specs.Moving.{may_move, moved_parts}
 use Rattle.boot_core.specs.Over.{IsIdleTrial, IsTriedAgain}
@@ -177,19 +177,19 @@ pub record TakesManifest (manifest : given.Manifest) (old new : Whole) (result :
   -- With power, a device that takes uploads and lacks an image of the manifest reports NoComponent,
   -- and nothing is changed.
   pub lacks : old.here.flash.is_on ≡ true → old.here.up ≡ true
-      → LogsNoTrial (state_of old.setup.map old.here.flash)
+      → LogsRest (state_of old.setup.map old.here.flash)
       → (NamesImages old.setup.identity manifest → ⊥)
       → (result ≡ Err (no.Manifest NoComponent)) × (new.here ≡ old.here)
   -- With power, a device that takes uploads and has each image of the manifest reports
   -- RepeatedComponent if the manifest names one twice, and nothing is changed.
   pub repeats : old.here.flash.is_on ≡ true → old.here.up ≡ true
-      → LogsNoTrial (state_of old.setup.map old.here.flash)
+      → LogsRest (state_of old.setup.map old.here.flash)
       → NamesImages old.setup.identity manifest → (NamesEachOnce manifest → ⊥)
       → (result ≡ Err (no.Manifest RepeatedComponent)) × (new.here ≡ old.here)
   -- With power, a device that takes uploads reports BadValue if the manifest has no component, and
   -- nothing is changed.
   pub empty : old.here.flash.is_on ≡ true → old.here.up ≡ true
-      → LogsNoTrial (state_of old.setup.map old.here.flash) → HasNoComponent manifest
+      → LogsRest (state_of old.setup.map old.here.flash) → HasNoComponent manifest
       → (result ≡ Err (no.Manifest BadValue)) × (new.here ≡ old.here)
   -- Unless the flash stopped the call, a refusal leaves the flash unchanged.
   pub refused : IfErr result (λ fault. is_stop fault ≡ false
@@ -236,9 +236,16 @@ pub record ConfirmsTried (image : ℕ) (old new : Whole) (result : Result Unit F
   pub ok : OnOk result
       (LogsTrialOf old.setup.map.images image (state_of old.setup.map old.here.flash)
       × IsOkSet old.setup.map image new.here.flash)
-  -- A booted device with power whose log doesn't have the image on trial says so, and is unchanged.
+  -- A device with power whose log says that a boot was interrupted isn't booted, says so, and is
+  -- unchanged.
+  pub interrupted : old.here.up ≡ true → old.here.flash.is_on ≡ true
+      → LogsBoot (state_of old.setup.map old.here.flash)
+      → (result ≡ Err no.NotBooted) × (new.here ≡ old.here)
+  -- Any other booted device with power whose log doesn't have the image on trial says so, and is
+  -- unchanged.
   pub untried : old.here.up ≡ true → old.here.flash.is_on ≡ true
       → (LogsTrialOf old.setup.map.images image (state_of old.setup.map old.here.flash) → ⊥)
+      → (LogsBoot (state_of old.setup.map old.here.flash) → ⊥)
       → (result ≡ Err no.NotOnTrial) × (new.here ≡ old.here)
   -- NotOnTrial is returned only if the log doesn't have the image on trial.
   pub tried : LogsTrialOf old.setup.map.images image (state_of old.setup.map old.here.flash)

@@ -16,7 +16,9 @@ use Rattle.machine.specs.Boots.{IsOnTrial}
 use Rattle.machine.specs.Holding.{IsTrialAt, IsAtRest}
 use Rattle.machine.specs.Passing.{CutsConfirm, EndsConfirm}
 use Rattle.machine.specs.States.{with_confirmed}
-use Rattle.boot_core.specs.Ready.{LogsTrialOf}
+use Rattle.boot_core.specs.declared.confirming.Confirmation.{Confirmation}
+use Rattle.boot_core.specs.declared.confirming.Confirmation.TheVariants.{Done, NotOnTrial, NotBooted}
+use Rattle.boot_core.specs.Ready.{LogsBoot, LogsTrialOf}
 
 -- image_ok of an image's primary trailer is set.
 abbrev pub IsOkSet : SectorMap → ℕ → Chip → Type 0
@@ -62,24 +64,41 @@ pub record ConfirmsImage (map : SectorMap) (mask image : ℕ) (old new : Chip)
   pub journal : new.journaled ≤ old.journaled + 20
   pub ends : Ends result old new
 
--- A call confirms an image if it is on trial, and returns whether it is.
+-- Whether an image is confirmed.
+abbrev pub is_done : Confirmation → Bool
+is_done Done = true
+is_done NotOnTrial = false
+is_done NotBooted = false
+
+-- What each result of a confirmation says of the log. After Done the image is on trial, and is
+-- confirmed in its trailer. NotBooted is returned exactly if a boot was interrupted. Power fails only
+-- if the image is on trial.
+abbrev pub AnswersConfirm : SectorMap → ℕ → Chip → Chip → Result Confirmation FlashError → Type 0
+AnswersConfirm map image old new (Ok Done) =
+    LogsTrialOf map.images image (state_of map old) × IsOkSet map image new
+AnswersConfirm map image old new (Ok NotOnTrial) =
+    (LogsTrialOf map.images image (state_of map old) → ⊥) × (LogsBoot (state_of map old) → ⊥)
+AnswersConfirm map image old new (Ok NotBooted) = LogsBoot (state_of map old)
+AnswersConfirm map image old new (Err Cut) = LogsTrialOf map.images image (state_of map old)
+AnswersConfirm map image old new (Err Off) = old.is_on ≡ false
+
+-- A call confirms an image if it is on trial.
 pub record Confirms (map : SectorMap) (image : ℕ) (old new : Chip)
-    (result : Result Bool FlashError) : Type 0 where
+    (result : Result Confirmation FlashError) : Type 0 where
   -- Only the primary trailer of the image is written.
   pub outside : Keeps map (only (TrailerOf image Primary)) old new
   -- After a power cut the image is on trial, and is confirmed or as it was.
   pub cut : IsErrOf result Cut → (s : DeviceState) → IsAtRest (view map old) s
       → CutsConfirm (view map new) s image
   -- Otherwise the image is confirmed, or it isn't on trial and the state is as it was.
-  pub ok : IfOk result (λ yes. (s : DeviceState) → IsAtRest (view map old) s
-      → EndsConfirm (view map new) s image yes)
-  -- On any flash the result is whether the image is on trial by the log.
-  pub answers : AnswersTrial (LogsTrialOf map.images image (state_of map old)) map image old new
-      result
+  pub ok : IfOk result (λ found. (s : DeviceState) → IsAtRest (view map old) s
+      → EndsConfirm (view map new) s image (is_done found))
+  -- On any flash the result is what the log says.
+  pub answers : AnswersConfirm map image old new result
   -- If the flash is off, that is the result.
   pub off : old.is_on ≡ false → IsErrOf result Off
-  -- If the result is no, the flash is as it was.
-  pub same : IfOk result (λ yes. yes ≡ false → new ≡ old)
+  -- If the image isn't confirmed, the flash is as it was.
+  pub same : IfOk result (λ found. is_done found ≡ false → new ≡ old)
   -- It asks a journal for at most 20 bytes.
   pub journal : new.journaled ≤ old.journaled + 20
   pub ends : Ends result old new

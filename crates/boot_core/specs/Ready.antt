@@ -1,5 +1,5 @@
 -- Whether a device takes uploads, and which refusals come from a manifest.
-use Rattle.std.specs.Prelude.{◌≡◌, ℕ, ◌<◌, Bool, true, false, List, length, Option, Some, None, Result, Ok, Err}
+use Rattle.std.specs.Prelude.{◌≡◌, ◌⊎◌, ℕ, ◌<◌, Bool, true, false, List, length, Option, Some, None, Result, Ok, Err}
 use Rattle.flash_model.specs.declared.error.FlashError.TheVariants as flash
 use Rattle.manifest.specs.declared.identity.Identity.{Identity}
 use Rattle.manifest.specs.declared.manifest.Manifest.{Manifest}
@@ -25,16 +25,21 @@ pub record LogsTrialOf (images image : ℕ) (recorded : Option State) : Type 0 w
   pub there : image < images
   pub member : is_member state.mask image ≡ true
 
--- The log has a state, and no set is on trial.
-abbrev pub LogsNoTrial : Option State → Type 0
-LogsNoTrial recorded =
-    (state : State) × (recorded ≡ Some state) × (state.kind ≡ log.Trial → ⊥)
+-- The log says that the flash is at rest: no set is on trial, and no boot was interrupted.
+abbrev pub LogsRest : Option State → Type 0
+LogsRest recorded = (state : State) × (recorded ≡ Some state) × (state.kind ≡ log.Steady)
 
--- Whether uploads are taken, by the first check that fails. They are taken if the device is booted,
--- the log has a state, and no set is on trial.
+-- The log says that a boot was interrupted in an upgrade or a revert. Only a boot goes on from there.
+abbrev pub LogsBoot : Option State → Type 0
+LogsBoot recorded = (state : State) × (recorded ≡ Some state)
+    × (state.kind ≡ log.Steady → ⊥) × (state.kind ≡ log.Trial → ⊥)
+
+-- Whether uploads are taken, by the first check that fails. They are taken if the device is booted
+-- and the log has a state at rest. A device isn't booted either if its log says that a boot was
+-- interrupted, whatever the caller saved.
 abbrev pub IsReadiness : Result Unit Fault → Bool → Option State → Bool → Type 0
-IsReadiness (Ok done) up recorded on = (up ≡ true) × LogsNoTrial recorded
-IsReadiness (Err no.NotBooted) up recorded on = up ≡ false
+IsReadiness (Ok done) up recorded on = (up ≡ true) × LogsRest recorded
+IsReadiness (Err no.NotBooted) up recorded on = (up ≡ false) ⊎ ((up ≡ true) × LogsBoot recorded)
 IsReadiness (Err no.OnTrial) up recorded on = (up ≡ true) × LogsTrial recorded
 IsReadiness (Err no.NotProvisioned) up recorded on = (up ≡ true) × (recorded ≡ None)
 IsReadiness (Err (no.Flash flash.Off)) up recorded on = (up ≡ true) × (on ≡ false)

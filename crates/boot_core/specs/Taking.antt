@@ -35,7 +35,7 @@ use Rattle.upload.specs.declared.error.UploadError.TheVariants.{NoSession, SizeW
 use Rattle.upload.specs.Finishing.{WritesLastUnit}
 use Rattle.boot_core.specs.Confirming.{IsOkSet}
 use Rattle.boot_core.specs.Device.{StaysHeld, made}
-use Rattle.boot_core.specs.Ready.{HasNoComponent, IsReadiness, LogsNoTrial, LogsTrialOf, RefusesManifest}
+use Rattle.boot_core.specs.Ready.{HasNoComponent, IsReadiness, LogsBoot, LogsRest, LogsTrialOf, RefusesManifest}
 
 -- A call checks whether uploads are taken.
 pub record ChecksReady (map : SectorMap) (is_booted : Bool) (old new : Chip)
@@ -143,7 +143,7 @@ pub record TakesPieceHere (map : SectorMap) (image : ℕ) (more : Bor (List ℕ)
       → IsOpenAt (view map old.flash) image u → result ≡ Err (no.Upload NoSession) → ⊥
   -- On a flash with power, a device that takes uploads refuses a piece that no upload takes so, and
   -- nothing changes.
-  pub lacks : old.flash.is_on ≡ true → old.up ≡ true → LogsNoTrial (state_of map old.flash)
+  pub lacks : old.flash.is_on ≡ true → old.up ≡ true → LogsRest (state_of map old.flash)
       → LacksSession map old.sessions image (length more.now) old.flash
       → (result ≡ Err (no.Upload NoSession)) × (new ≡ old)
   -- No other piece is refused so.
@@ -194,7 +194,7 @@ pub record CanOpen (map : SectorMap) (identity : Identity) (manifest : given.Man
   pub images : identity.images ≡ map.images
   pub opens : AllOpenAt (view map at.flash) at.sessions
   pub up : at.up ≡ true
-  pub rests : LogsNoTrial (state_of map at.flash)
+  pub rests : LogsRest (state_of map at.flash)
   pub names : NamesImages identity manifest
 
 -- A call opens the uploads of a manifest.
@@ -234,17 +234,17 @@ pub record TakesManifestHere (map : SectorMap) (identity : Identity) (manifest :
   pub down : old.up ≡ false → IsNotBooted result old new
   -- If uploads are taken and the manifest names an image that the device lacks, that is the result,
   -- and nothing is touched.
-  pub lacks : old.flash.is_on ≡ true → old.up ≡ true → LogsNoTrial (state_of map old.flash)
+  pub lacks : old.flash.is_on ≡ true → old.up ≡ true → LogsRest (state_of map old.flash)
       → (NamesImages identity manifest → ⊥)
       → (result ≡ Err (no.Manifest NoComponent)) × (new ≡ old)
   -- If uploads are taken, the device has each image and the manifest names one twice, that is the
   -- result, and nothing is touched.
-  pub repeats : old.flash.is_on ≡ true → old.up ≡ true → LogsNoTrial (state_of map old.flash)
+  pub repeats : old.flash.is_on ≡ true → old.up ≡ true → LogsRest (state_of map old.flash)
       → NamesImages identity manifest → (NamesEachOnce manifest → ⊥)
       → (result ≡ Err (no.Manifest RepeatedComponent)) × (new ≡ old)
   -- If uploads are taken and the manifest has no component, that is the result, and nothing is
   -- touched.
-  pub empty : old.flash.is_on ≡ true → old.up ≡ true → LogsNoTrial (state_of map old.flash)
+  pub empty : old.flash.is_on ≡ true → old.up ≡ true → LogsRest (state_of map old.flash)
       → HasNoComponent manifest → (result ≡ Err (no.Manifest BadValue)) × (new ≡ old)
   -- If the device is booted and the flash is off, that is the result, and nothing is written.
   pub off : old.up ≡ true → old.flash.is_on ≡ false → IsOff result old.flash new.flash
@@ -280,9 +280,14 @@ pub record ConfirmsHere (map : SectorMap) (image : ℕ) (old new : DeviceView)
   -- If the call succeeds, the log said that the image is on trial, and the image is confirmed.
   pub ok : OnOk result (LogsTrialOf map.images image (state_of map old.flash)
       × IsOkSet map image new.flash)
-  -- If the log doesn't say that the image is on trial, that is the result, and nothing changes.
+  -- If the log says that a boot was interrupted, the device isn't booted: that is the result, and
+  -- nothing changes.
+  pub interrupted : old.up ≡ true → old.flash.is_on ≡ true → LogsBoot (state_of map old.flash)
+      → (result ≡ Err no.NotBooted) × (new ≡ old)
+  -- Else, if the log doesn't say that the image is on trial, that is the result, and nothing changes.
   pub untried : old.up ≡ true → old.flash.is_on ≡ true
       → (LogsTrialOf map.images image (state_of map old.flash) → ⊥)
+      → (LogsBoot (state_of map old.flash) → ⊥)
       → (result ≡ Err no.NotOnTrial) × (new ≡ old)
   -- NotOnTrial is returned in no other case.
   pub tried : LogsTrialOf map.images image (state_of map old.flash)

@@ -1,6 +1,6 @@
 //! Confirms an image of a set on trial.
 
-ghost use Rattle.std.specs.Prelude.{◌≡◌, true, false, Some};
+ghost use Rattle.std.specs.Prelude.{◌≡◌, true, Some};
 ghost use Rattle.boot_core.specs.Confirming.{Confirms, ConfirmsImage};
 ghost use Rattle.boot_core.specs.Device.{seen};
 ghost use Rattle.boot_core.specs.Taking.{ConfirmsHere};
@@ -17,6 +17,17 @@ use sector_map::{SectorMap, is_member};
 use set_log::{LogError, RecordKind, State, read_state};
 use trailer::set_ok;
 use upload::Uploads;
+
+/// What a confirmation did.
+pub(crate) enum Confirmation {
+    /// The image is confirmed.
+    Done,
+    /// The image isn't on trial, and nothing is written.
+    NotOnTrial,
+    /// The log says that a boot was interrupted, and nothing is written. Only a boot goes on from
+    /// there.
+    NotBooted,
+}
 
 /// Confirms an image if it is in the set of this record, and returns whether it is. The record is
 /// that of a trial.
@@ -36,29 +47,40 @@ fn confirm_image<F: Flash>(flash: &mut F, map: &SectorMap, state: &State, image:
     Ok(true)
 }
 
-/// Whether a record says that a set is on trial.
-pub(crate) fn is_trial(kind: RecordKind) -> bool
-    ensures yes { result ≡ true → kind ≡ RecordKind.Trial }
-    ensures other { result ≡ false → kind ≡ RecordKind.Trial → ⊥ }
+/// Confirms an image of the set that this record has on trial.
+fn confirm_tried<F: Flash>(
+    flash: &mut F,
+    map: &SectorMap,
+    state: &State,
+    image: u8,
+) -> Result<Confirmation>
+    requires laid_out { IsLaidOut map.now (F.chip flash.old) }
+    requires read { state_of map.now (F.chip flash.old) ≡ Some state.now }
+    requires kind { state.now.kind ≡ RecordKind.Trial }
+    requires on { (F.chip flash.old).is_on ≡ true }
+    ensures { Confirms map.now image (F.chip flash.old) (F.chip flash.new) result }
 {
-    matches!(kind, RecordKind::Trial)
+    match confirm_image(flash, map, state, image) {
+        Ok(true) => Ok(Confirmation::Done),
+        Ok(false) => Ok(Confirmation::NotOnTrial),
+        Err(error) => Err(error),
+    }
 }
 
-/// Confirms an image if it is on trial, and returns whether it is.
-pub(crate) fn confirm<F: Flash>(flash: &mut F, map: &SectorMap, image: u8) -> Result<bool>
+/// Confirms an image if it is on trial.
+fn confirm<F: Flash>(flash: &mut F, map: &SectorMap, image: u8) -> Result<Confirmation>
     requires laid_out { IsLaidOut map.now (F.chip flash.old) }
     ensures { Confirms map.now image (F.chip flash.old) (F.chip flash.new) result }
 {
     match read_state(flash, map) {
-        Ok(state) => {
-            let on_trial = is_trial(state.kind);
-            if on_trial {
-                confirm_image(flash, map, &state, image)
-            } else {
-                Ok(false)
+        Ok(state) => match state.kind {
+            RecordKind::Trial => confirm_tried(flash, map, &state, image),
+            RecordKind::Steady => Ok(Confirmation::NotOnTrial),
+            RecordKind::Swap | RecordKind::Settle | RecordKind::Back | RecordKind::BackSettle => {
+                Ok(Confirmation::NotBooted)
             }
-        }
-        Err(LogError::NoLog) => Ok(false),
+        },
+        Err(LogError::NoLog) => Ok(Confirmation::NotOnTrial),
         Err(LogError::Flash(error)) => Err(error),
     }
 }
@@ -90,8 +112,9 @@ pub fn confirm_on<F: Flash>(
         return Err(Fault::NotBooted);
     }
     match confirm(flash, map, image) {
-        Ok(true) => Ok(()),
-        Ok(false) => Err(Fault::NotOnTrial),
+        Ok(Confirmation::Done) => Ok(()),
+        Ok(Confirmation::NotOnTrial) => Err(Fault::NotOnTrial),
+        Ok(Confirmation::NotBooted) => Err(Fault::NotBooted),
         Err(error) => Err(stop(uploads, is_booted, Fault::Flash(error))),
     }
 }

@@ -135,7 +135,7 @@ impl<F: Flash> Device<F> {
     /// # Errors
     /// The first that applies:
     ///
-    /// - `NotBooted`: the device isn't booted.
+    /// - `NotBooted`: the device isn't booted, or the log says that a boot was interrupted.
     /// - `Flash(Off)`: the flash was off.
     /// - `OnTrial`: a set is on trial.
     /// - `NotProvisioned`: the log has no state.
@@ -174,7 +174,7 @@ impl<F: Flash> Device<F> {
     /// # Errors
     /// The first that applies:
     ///
-    /// - `NotBooted`: the device isn't booted.
+    /// - `NotBooted`: the device isn't booted, or the log says that a boot was interrupted.
     /// - `Flash(Off)`: the flash was off.
     /// - `OnTrial`: a set is on trial.
     /// - `NotProvisioned`: the log has no state.
@@ -207,7 +207,7 @@ impl<F: Flash> Device<F> {
     /// # Errors
     /// The first that applies:
     ///
-    /// - `NotBooted`: the device isn't booted.
+    /// - `NotBooted`: the device isn't booted, or the log says that a boot was interrupted.
     /// - `Flash(Off)`: the flash was off.
     /// - `OnTrial`: a set is on trial.
     /// - `NotProvisioned`: the log has no state.
@@ -240,7 +240,7 @@ impl<F: Flash> Device<F> {
     /// # Errors
     /// The first that applies:
     ///
-    /// - `NotBooted`: the device isn't booted.
+    /// - `NotBooted`: the device isn't booted, or the log says that a boot was interrupted.
     /// - `Flash(Off)`: the flash was off.
     /// - `OnTrial`: a set is on trial.
     /// - `NotProvisioned`: the log has no state.
@@ -271,7 +271,7 @@ impl<F: Flash> Device<F> {
     /// # Errors
     /// The first that applies:
     ///
-    /// - `NotBooted`: the device isn't booted.
+    /// - `NotBooted`: the device isn't booted, or the log says that a boot was interrupted.
     /// - `Flash(Off)`: the flash was off.
     /// - `OnTrial`: a set is on trial.
     /// - `NotProvisioned`: the log has no state.
@@ -301,7 +301,7 @@ impl<F: Flash> Device<F> {
     /// # Errors
     /// The first that applies:
     ///
-    /// - `NotBooted`: the device isn't booted.
+    /// - `NotBooted`: the device isn't booted, or the log says that a boot was interrupted.
     /// - `Flash(Off)`: the flash was off.
     /// - `NotOnTrial`: no set is on trial, or the image isn't in it.
     /// - `Flash(Cut)`: power failed. The image is confirmed, or as before.

@@ -16,16 +16,16 @@ ghost use Rattle.boot_core.specs.Taking.{AcceptsHere, AsksReady, CanOpen, Checks
 ghost use Rattle.boot_core.specs.Taking.{OpensUploads, PassesOn, Stops, TakesHere};
 ghost use Rattle.boot_core.specs.Taking.{TakesManifestHere, TakesPieceHere};
 
-use crate::confirming::is_trial;
 use flash_model::Flash;
 use machine::Fault;
 use manifest::{Component, Identity, Manifest, ManifestError};
 use sector_map::SectorMap;
-use set_log::{LogError, read_state};
+use set_log::{LogError, RecordKind, read_state};
 use std::alloc::Global;
 use upload::{UploadError, Uploads};
 
-/// Checks that the device takes uploads: it is booted, the log has a state, and no set is on trial.
+/// Checks that the device takes uploads: it is booted, and the log has a state at rest. A log that
+/// says that a boot was interrupted is one of a device that isn't booted, whatever `is_booted` is.
 fn check_ready<F: Flash>(flash: &mut F, map: &SectorMap, is_booted: bool) -> Result<(), Fault>
     requires laid_out { IsLaidOut map.now (F.chip flash.old) }
     ensures { ChecksReady map.now is_booted (F.chip flash.old) (F.chip flash.new) result }
@@ -34,14 +34,13 @@ fn check_ready<F: Flash>(flash: &mut F, map: &SectorMap, is_booted: bool) -> Res
         return Err(Fault::NotBooted);
     }
     match read_state(flash, map) {
-        Ok(state) => {
-            let on_trial = is_trial(state.kind);
-            if on_trial {
-                Err(Fault::OnTrial)
-            } else {
-                Ok(())
+        Ok(state) => match state.kind {
+            RecordKind::Steady => Ok(()),
+            RecordKind::Trial => Err(Fault::OnTrial),
+            RecordKind::Swap | RecordKind::Settle | RecordKind::Back | RecordKind::BackSettle => {
+                Err(Fault::NotBooted)
             }
-        }
+        },
         Err(LogError::NoLog) => Err(Fault::NotProvisioned),
         Err(LogError::Flash(error)) => Err(Fault::Flash(error)),
     }

@@ -29,7 +29,7 @@ use Rattle.machine.specs.declared.reply.Reply.{Reply}
 use Rattle.machine.specs.declared.reply.Reply.TheVariants.{Refused}
 use Rattle.boot_core.specs.Answers.{reply_of_boot, reply_of_result}
 use Rattle.boot_core.specs.Device.{StaysHeld, made, seen}
-use Rattle.boot_core.specs.Ready.{LogsNoTrial}
+use Rattle.boot_core.specs.Ready.{LogsRest}
 use Rattle.c_interface.specs.declared.dispatch.DeviceCall.{DeviceCall}
 use Rattle.c_interface.specs.declared.dispatch.DeviceCall.TheVariants.{Accept, Piece, Finish, Withdraw, Confirm, Boot}
 use Rattle.c_interface.specs.declared.saved_state.SavedState.{SavedState}
@@ -295,7 +295,7 @@ rests_by map identity boots Boot a b reply is piece state = absurd (true≢false
 -- a piece that no upload takes is refused so, and the device stays as it was
 lacks_by : (map : SectorMap) (identity : Identity) (boots : ℕ) (call : DeviceCall) (a b : DeviceView) (reply : Reply)
     → IsCallOf map identity boots call a b reply → a.flash.is_on ≡ true → (image : ℕ) (more : Bor (List ℕ))
-    → call ≡ Piece image more → a.up ≡ true → LogsNoTrial (state_of map a.flash)
+    → call ≡ Piece image more → a.up ≡ true → LogsRest (state_of map a.flash)
     → LacksSession map a.sessions image (length more.now) a.flash
     → (reply ≡ Refused (no.Upload NoSession)) × (b ≡ a)
 lacks_by map identity boots call a b reply all on image more piece up rests lacking =

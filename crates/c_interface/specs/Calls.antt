@@ -26,7 +26,7 @@ use Rattle.machine.specs.declared.reply.Reply.TheVariants.{Refused}
 use Rattle.boot_core.specs.Answers.{reply_of_boot, reply_of_result}
 use Rattle.boot_core.specs.Booting.{EndsUploadsAndBoots}
 use Rattle.boot_core.specs.Device.{StaysHeld, made}
-use Rattle.boot_core.specs.Ready.{LogsNoTrial}
+use Rattle.boot_core.specs.Ready.{LogsRest}
 use Rattle.boot_core.specs.Taking.{ConfirmsHere, FinishesHere, TakesHere, TakesManifestHere, TakesPieceHere}
 use Rattle.c_interface.specs.declared.dispatch.DeviceCall.{DeviceCall}
 use Rattle.c_interface.specs.declared.dispatch.DeviceCall.TheVariants.{Accept, Piece, Finish, Withdraw, Confirm, Boot}
@@ -158,7 +158,7 @@ pub record StepsBetween (checked : CheckedSetup) (call : DeviceCall) (old : List
   -- A booted device whose log has a state and no trial refuses a piece that no upload takes with
   -- `NoSession`, and nothing changes.
   pub lacks : (image : ℕ) (more : Bor (List ℕ)) → call ≡ Piece image more → before.up ≡ true
-      → LogsNoTrial (state_of checked.map before.flash)
+      → LogsRest (state_of checked.map before.flash)
       → LacksSession checked.map before.sessions image (length more.now) before.flash
       → (reply ≡ Refused (no.Upload NoSession)) × (new ≡ old) × (left ≡ before)
 

@@ -6,42 +6,62 @@ use Rattle.upload.proofs.OpenOnes.{open_none}
 use Rattle.machine.specs.Passing.{StepsTo}
 use Rattle.machine.proofs.Stepping.{steps_confirmed, steps_not_on_trial}
 use Rattle.boot_core.specs.Answers.{fault_reply}
-use Rattle.set_log.specs.Log.{state_of}
 use Rattle.boot_core.specs.Device.{made, seen}
-use Rattle.boot_core.specs.Ready.{LogsTrialOf}
-use Rattle.boot_core.proofs.Stopping.{confirm_stopped, no_own, stopped_ends}
+use Rattle.boot_core.proofs.Stopping.{confirm_stopped, no_own, steps_interrupted, stopped_ends}
 use Rattle.boot_core.proofs.NotReady.{not_down}
 use Rattle.boot_core.proofs.Stops.{flash_off}
-use Rattle.boot_core.proofs.Trials.{confirm_ends, flash_not_tried, stops_tried}
+use Rattle.boot_core.proofs.Trials.{confirm_ends, flash_not_tried, stops_tried, tried_not_interrupted}
 use Rattle.boot_core.proofs.confirming.confirm_on.Goals as goal
 
-pub returns-in-Ok-true : goal.returns-in-Ok-true
-returns-in-Ok-true g c =
-    let answered = rw c.in-Ok-true.field-0-test at c.in-Ok-true.ensures.answers in
+pub returns-in-Ok-Done : goal.returns-in-Ok-Done
+returns-in-Ok-Done g c =
+    let found = rw c.in-Ok-Done.field-0-is at c.in-Ok-Done.ensures in
+    let answered = found.answers in
     record {
       here = confirm_ends c.args.map.now c.args.image _ _ _ _ _ _ c.requires.laid_out
-          c.if-not-is_booted.false c.in-Ok-true.ensures (λ setup. steps_confirmed setup _ _ _ c.args.image
-          c.if-not-is_booted.false _ _ c.in-Ok-true.field-0-test) refl refl;
+          c.if-not-is_booted.false found (λ identity boots. steps_confirmed
+          (made c.args.map.now identity boots) _ _ _ c.args.image c.if-not-is_booted.false _ _ refl) refl refl;
       refused = tt;
       kept = tt;
       ok = answered;
-      untried = λ up on never. absurd (never answered.0);
+      interrupted = λ up on boots. absurd (tried_not_interrupted _ _ _ answered.0 boots);
+      untried = λ up on never whole. absurd (never answered.0);
       tried = λ logged is. no_error _ _ is;
     }
 
-pub returns-in-Ok-false : goal.returns-in-Ok-false
-returns-in-Ok-false g c =
-    let same = c.in-Ok-false.ensures.same c.in-Ok-false.field-0-test in
+pub returns-in-Ok-NotOnTrial : goal.returns-in-Ok-NotOnTrial
+returns-in-Ok-NotOnTrial g c =
+    let found = rw c.in-Ok-NotOnTrial.field-0-is at c.in-Ok-NotOnTrial.ensures in
+    let same = found.same refl in
     let all = ap (λ chip. seen chip c.args.uploads.now.sessions c.args.is_booted.now) same in
     record {
       here = confirm_ends c.args.map.now c.args.image _ _ _ _ _ _ c.requires.laid_out
-          c.if-not-is_booted.false c.in-Ok-false.ensures (λ setup. steps_not_on_trial setup _ _ _ c.args.image
-          c.if-not-is_booted.false _ _ c.in-Ok-false.field-0-test) refl refl;
+          c.if-not-is_booted.false found (λ identity boots. steps_not_on_trial
+          (made c.args.map.now identity boots) _ _ _ c.args.image c.if-not-is_booted.false _ _ refl) refl refl;
       refused = λ own. same;
       kept = λ own. all;
       ok = tt;
-      untried = λ up on never. (refl, all);
-      tried = λ logged is. (rw c.in-Ok-false.field-0-test at c.in-Ok-false.ensures.answers) logged;
+      interrupted = λ up on boots. absurd (found.answers.1 boots);
+      untried = λ up on never whole. (refl, all);
+      tried = λ logged is. found.answers.0 logged;
+    }
+
+pub returns-in-Ok-NotBooted : goal.returns-in-Ok-NotBooted
+returns-in-Ok-NotBooted g c =
+    let found = rw c.in-Ok-NotBooted.field-0-is at c.in-Ok-NotBooted.ensures in
+    let same = found.same refl in
+    let all = ap (λ chip. seen chip c.args.uploads.now.sessions c.args.is_booted.now) same in
+    record {
+      here = confirm_ends c.args.map.now c.args.image _ _ _ _ _ _ c.requires.laid_out
+          c.if-not-is_booted.false found (λ identity boots keeps ends. steps_interrupted
+          (made c.args.map.now identity boots) _ _ c.args.uploads.now.sessions c.args.is_booted.now
+          (event.Confirm c.args.image) c.if-not-is_booted.false found.answers same) refl refl;
+      refused = λ own. same;
+      kept = λ own. all;
+      ok = tt;
+      interrupted = λ up on boots. (refl, all);
+      untried = λ up on never whole. absurd (whole found.answers);
+      tried = λ logged is. tried_not_interrupted _ _ _ logged found.answers;
     }
 
 pub returns-in-Err : goal.returns-in-Err
@@ -72,7 +92,9 @@ returns-in-Err g c =
       refused = λ own. absurd (no_own c.in-Err.error c.stop.result c.stop.ensures.is own);
       kept = λ own. absurd (no_own c.in-Err.error c.stop.result c.stop.ensures.is own);
       ok = tt;
-      untried = λ up on never. absurd (stops_tried (LogsTrialOf map.images c.args.image (state_of map old))
-          map c.args.image old new c.in-Err.error c.in-Err.ensures.answers on never);
+      interrupted = λ up on boots. absurd (tried_not_interrupted _ _ _
+          (stops_tried map c.args.image old new c.in-Err.error c.in-Err.ensures.answers on) boots);
+      untried = λ up on never whole. absurd (never
+          (stops_tried map c.args.image old new c.in-Err.error c.in-Err.ensures.answers on));
       tried = λ logged. flash_not_tried c.in-Err.error c.stop.result _ c.stop.ensures.is refl;
     }

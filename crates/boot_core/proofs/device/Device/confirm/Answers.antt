@@ -17,6 +17,7 @@ returns g c =
       refused = c.confirm_on.ensures.refused;
       kept = c.confirm_on.ensures.kept;
       ok = c.confirm_on.ensures.ok;
+      interrupted = c.confirm_on.ensures.interrupted;
       untried = c.confirm_on.ensures.untried;
       tried = c.confirm_on.ensures.tried;
     })
