@@ -3,20 +3,24 @@
 A definition is in a file of `crates/NAME/specs/`, a type of the program in one of `crates/NAME/src/`. What std and the ported
 crates define is only named, and so is a definition that the page leaves abstract.
 
-A page asks for the statement of a call by these words: `CRATE::CALL`, then `clause NAME` if it shows one clause of the
-contract, and `abstract NAME` for a definition that is not shown.
+A page asks for the statement of a call by these words: `CRATE::CALL` or `CRATE::TYPE::METHOD`, then `clause NAME` if it
+shows one clause of the contract, `field NAME` for each field that it shows of the record in the contract, if it doesn't show
+all, and `abstract NAME` for a definition that is not shown.
 """
 
 import dataclasses
 import functools
 import glob
+import itertools
 import re
+import textwrap
 
 from crate_heads import ROOT, text_of
 
 USE = re.compile(r"(?:ghost )?use ([\w.]+)(?:\.\{([^}]*)\}| as (\w+));?$")
 HEAD = re.compile(r"(?:(?:abbrev|unfoldable|pub|record|data) )*([^\s:({]+)")
 KEYWORD = re.compile(r"(?:abbrev|unfoldable|pub|record|data) ")
+FIELD = re.compile(r"  pub (\S+) :")
 NAME = re.compile(r"[A-Za-z_][\w'-]*(?:\.[A-Za-z_][\w'-]*)*")
 
 
@@ -26,6 +30,19 @@ class Definition:
 
     name: str
     lines: list
+
+    def only(self, fields):
+        """Returns a record with only these fields, or None if it isn't a record that has them all."""
+        starts = [n for n, line in enumerate(self.lines) if FIELD.match(line)]
+        names = [FIELD.match(self.lines[n])[1] for n in starts]
+        if not {*fields} <= {*names}:
+            return None
+        # A field's comment is before it.
+        begins = [n - next(k for k in itertools.count() if not self.lines[n - k - 1].startswith("  --")) for n in starts]
+        kept = self.lines[: begins[0]]
+        for name, start, end in zip(names, begins, [*begins[1:], len(self.lines)]):
+            kept += self.lines[start:end] if name in fields else []
+        return Definition(self.name, kept)
 
     def words(self):
         """Yields the names in it, without its comments."""
@@ -111,18 +128,21 @@ def type_named(crate, name):
 
 @dataclasses.dataclass(frozen=True)
 class Place:
-    """What a page asks for: a call, given as `crate::name`, one clause of its contract or all, and what stays abstract."""
+    """What a page asks for: a call, one clause of its contract or all, fields of the record in it or all, and what stays
+    abstract."""
 
     call: str
     clause: str | None
+    fields: tuple
     abstract: tuple
 
     @classmethod
     def of(cls, words):
         """Returns what the words of a page ask for."""
-        pairs = list(zip(words[1::2], words[2::2]))
-        clauses = [name for kind, name in pairs if kind == "clause"]
-        return cls(words[0], clauses[0] if clauses else None, tuple(name for kind, name in pairs if kind == "abstract"))
+        named = {"clause": [], "field": [], "abstract": []}
+        for kind, name in zip(words[1::2], words[2::2]):
+            named[kind].append(name)
+        return cls(words[0], *(named["clause"] or [None]), tuple(named["field"]), tuple(named["abstract"]))
 
 
 def only_clause(contract, name):
@@ -137,14 +157,16 @@ def only_clause(contract, name):
 
 def contract_of(place):
     """Returns the contract that a page asks for: its file, its lines, and what names its file takes."""
-    crate, _, name = place.call.partition("::")
+    crate, *of_type, name = place.call.split("::")
+    margin = "    " if of_type else ""
+    head = rf"^(?:#\[[^\n]*\n)*{margin}pub (?:extern \"C\" )?fn {name}\b.*?(?=^{margin}\{{)"
     for file, text in code_of(crate).items():
-        found = re.search(rf"^(?:#\[[^\n]*\n)*pub (?:extern \"C\" )?fn {name}\b.*?(?=^\{{)", text, re.MULTILINE | re.DOTALL)
-        if found:
+        found = re.search(head, text, re.MULTILINE | re.DOTALL)
+        if found and all(re.search(rf"^impl\b.* {it}\b", text, re.MULTILINE) for it in of_type):
             uses = Uses()
             for line in re.findall(r"^ghost use .*;$", text, re.MULTILINE):
                 uses.add(line)
-            lines = found[0].splitlines()
+            lines = textwrap.dedent(found[0]).splitlines()
             return file, only_clause(lines, place.clause) if place.clause else lines, uses
     raise LookupError(f"crate {crate} has no call {name}")
 
@@ -153,7 +175,7 @@ class Statement:
     """All that the contract of a call speaks of: definitions by their files, types by theirs, and names from outside."""
 
     def __init__(self, place):
-        self.abstract = place.abstract
+        self.abstract, self.fields = place.abstract, place.fields
         self.file, self.contract, uses = contract_of(place)
         self.definitions, self.types, self.outside = {}, {}, {}
         for line in self.contract:
@@ -181,8 +203,9 @@ class Statement:
             return self.visit(module.uses.names.get(word)) or self.visit_constructor(module, word)
         found = self.definitions.setdefault(module.path, {})
         if word not in found:
-            found[word] = module.definitions[word]
-            for it in found[word].words():
+            shown = module.definitions[word]
+            found[word] = shown = self.fields and shown.only(self.fields) or shown
+            for it in shown.words():
                 first = it.partition(".")[0]
                 if first in module.definitions or first in {c for d in module.definitions.values() for c in constructors(d)}:
                     self.visit_definition(module, first)
@@ -225,7 +248,7 @@ def constructors(definition):
 
 def in_reading_order(module, found):
     """Returns the definitions that are found of a file, in its order."""
-    return [it for name, it in module.definitions.items() if name in found]
+    return [found[name] for name in module.definitions if name in found]
 
 
 def counted(count, what):

@@ -140,15 +140,16 @@ steps_more Holds setup old mid new events replies event reply first step holds =
     steps_join Holds setup old mid new events (event ∷ []) replies (reply ∷ []) first (new, (step, holds), refl)
 
 -- A loop extends its run by one event.
-pub due_on : (setup here : Setup) (old mid new : DeviceView) (events more : List DeviceEvent)
-    (replies answered : List Reply) (event : DeviceEvent) (reply : Reply) → here ≡ setup
-    → more ≡ events ++ event ∷ [] → answered ≡ replies ++ reply ∷ [] → StepsEach IsCutAsDue setup old events replies mid
-    → StepsTo here mid new event reply → IsCutAsDue mid.flash reply new.flash → StepsEach IsCutAsDue setup old more answered new
-due_on setup here old mid new events more replies answered event reply same is also first step due =
-    subst (λ es. StepsEach IsCutAsDue setup old es answered new) (sym is)
-    (subst (λ rs. StepsEach IsCutAsDue setup old (events ++ event ∷ []) rs new) (sym also)
-    (steps_more IsCutAsDue setup old mid new events replies event reply first
-    (subst (λ s. StepsTo s mid new event reply) same step) due))
+pub each_on : (Holds : Chip → Reply → Chip → Type 0) (setup here : Setup) (old mid new : DeviceView)
+    (events more : List DeviceEvent) (replies answered : List Reply) (event : DeviceEvent) (reply : Reply)
+    → here ≡ setup → more ≡ events ++ event ∷ [] → answered ≡ replies ++ reply ∷ []
+    → StepsEach Holds setup old events replies mid → StepsTo here mid new event reply
+    → Holds mid.flash reply new.flash → StepsEach Holds setup old more answered new
+each_on Holds setup here old mid new events more replies answered event reply same is also first step holds =
+    subst (λ es. StepsEach Holds setup old es answered new) (sym is)
+    (subst (λ rs. StepsEach Holds setup old (events ++ event ∷ []) rs new) (sym also)
+    (steps_more Holds setup old mid new events replies event reply first
+    (subst (λ s. StepsTo s mid new event reply) same step) holds))
 
 -- The number of Cut replies is the number of armed writes that the flash took.
 pub cuts_total : (setup : Setup) (old new : DeviceView) (events : List DeviceEvent) (replies : List Reply)

@@ -20,8 +20,9 @@ use Rattle.upload.specs.Device.{DeviceState, Machine}
 use Rattle.upload.specs.Accepted.{accepted_parts}
 use Rattle.upload.specs.View.{view}
 use Rattle.upload.specs.Sessions.{AllClosed, upload_at}
-use Rattle.machine.specs.Boots.{IsReadSound, is_answer}
+use Rattle.machine.specs.Boots.{IsAllSound, IsReadSound, is_answer}
 use Rattle.machine.specs.Holding.{Holds, Stands}
+use Rattle.machine.specs.Lifecycle.{HasRunning}
 use Rattle.machine.specs.Passing.{RunsTo, StepsTo, reply_of}
 use Rattle.machine.specs.Starting.{StartsBy}
 use Rattle.machine.specs.States.{asleep}
@@ -38,7 +39,7 @@ use Rattle.upload.specs.declared.error.UploadError.TheVariants.{SizeWrong}
 use Rattle.upload.specs.declared.sessions.Upload.{Upload}
 use Rattle.upload.specs.Finishing.{WritesLastUnit}
 use Rattle.boot_core.specs.Answers.{reply_of_boot, reply_of_result}
-use Rattle.boot_core.specs.CutEvents.{IsCutAsDue, StepsEach}
+use Rattle.boot_core.specs.CutEvents.{IsCutAsDue, StartsAfter, StepsEach}
 use Rattle.boot_core.specs.Device.{StaysHeld, Whole, made}
 use Rattle.boot_core.specs.Found.{IsStopped}
 use Rattle.boot_core.specs.Ready.{HasNoComponent, LogsBoot, LogsRest, LogsTrialOf, RefusesManifest}
@@ -56,6 +57,11 @@ pub record IsNew (map : SectorMap) (identity : Identity) (boots : ℕ) (chip : C
   pub closed : AllClosed device.here.sessions
   -- The device holds each state that the flash holds, such as the one that provisioning leaves.
   pub holds : (s : DeviceState) → Stands map chip s → Holds map device.here (asleep s)
+
+-- The primary slots begin with the images that a state runs, and this state is sound: what it runs is
+-- intact and valid, and so is what a revert would bring back.
+abbrev pub RunsSound : SectorMap → Chip → Type 0
+RunsSound map chip = (s : DeviceState) × IsAllSound s × HasRunning map chip s
 
 -- A device boots, whatever its flash contains.
 pub record BootsDevice (old new : Whole) (result : Result Reply Fault) : Type 0 where
@@ -93,6 +99,11 @@ pub record BootsDevice (old new : Whole) (result : Result Reply Fault) : Type 0 
   -- an intact image for each image, which together are a valid set, and after TrialAgain with
   -- intact images.
   pub starts : StartsBy (view old.setup.map new.here.flash) (reply_of_boot result)
+  -- With power and from a sound state, a boot that answers leaves the images of a sound state in the
+  -- primary slots.
+  pub fits : old.here.flash.is_on ≡ true → (m : Machine) → Holds old.setup.map old.here m
+      → IsAllSound m.kept → is_answer (reply_of_boot result) ≡ true
+      → RunsSound old.setup.map new.here.flash
   -- From a Steady record, a boot that takes nothing or is refused writes nothing.
   pub idle : (state : State) → state_of old.setup.map old.here.flash ≡ Some state
       → state.kind ≡ RecordKind.Steady → DoesNothing (reply_of_boot result)
@@ -273,6 +284,8 @@ pub record Replies (event : DeviceEvent) (old new : Whole) (reply : Reply) : Typ
   pub cuts : new.here.flash.cuts ≡ old.here.flash.cuts + cut_of reply
   -- Unless the reply is Cut, the flash has power.
   pub power : cut_of reply ≡ 0 → new.here.flash.is_on ≡ true
+  -- Whatever the flash held, the primary slots begin with what the reply says.
+  pub starts : StartsBy (view old.setup.map new.here.flash) reply
   -- What is fixed of the flash is unchanged, including which writes are armed to be interrupted.
   pub fixed : new.here.flash.fixed ≡ old.here.flash.fixed
 
@@ -284,6 +297,8 @@ pub record Steps (event : DeviceEvent) (old new : Whole) (reply : Reply) : Type 
   -- One more write was interrupted if the reply is Cut, else none.
   pub cuts : new.here.flash.cuts ≡ old.here.flash.cuts + cut_of reply
   pub on : new.here.flash.is_on ≡ true
+  -- Whatever the flash held, the primary slots begin with what the reply says.
+  pub starts : StartsBy (view old.setup.map new.here.flash) reply
   -- What is fixed of the flash is unchanged, including which writes are armed to be interrupted.
   pub fixed : new.here.flash.fixed ≡ old.here.flash.fixed
   -- The reply is Cut exactly if the flash took a write armed to be interrupted, or had a fault.
@@ -301,6 +316,10 @@ pub record Runs (events : List DeviceEvent) (old new : Whole) {A E : Type 0}
   -- Each reply is Cut exactly if, during its event, the flash took an armed write or had a fault.
   pub due : IfOk result (λ replies.
       StepsEach IsCutAsDue old.setup old.here events replies.items new.here)
+  -- Whatever the flash held, after each reply the primary slots begin with what it says: after a
+  -- report with a valid set of intact images, and after TrialAgain with intact images.
+  pub starts : IfOk result (λ replies.
+      StepsEach (StartsAfter old.setup.map) old.setup old.here events replies.items new.here)
   -- The flash has power, and the setup is unchanged, so another run can follow.
   pub on : new.here.flash.is_on ≡ true
   pub setup : new.setup ≡ old.setup

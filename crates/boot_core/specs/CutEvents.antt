@@ -2,9 +2,12 @@
 use Rattle.std.specs.Prelude.{◌≡◌, ℕ, ◌+◌, ◌<◌, ◌≤◌, ◌==◌, true, false, List}
 use Rattle.std.specs.List.{list_any}
 use Rattle.flash_model.specs.Chip.{Chip, reached}
+use Rattle.sector_map.specs.declared.layout.SectorMap.{SectorMap}
+use Rattle.upload.specs.View.{view}
 use Rattle.machine.specs.Holding.{DeviceView}
 use Rattle.machine.specs.Intake.{Setup}
 use Rattle.machine.specs.Passing.{StepsTo}
+use Rattle.machine.specs.Starting.{StartsBy}
 use Rattle.machine.specs.Steps.{DeviceEvent, IsRunBy, cut_of}
 use Rattle.machine.specs.declared.reply.Reply.{Reply}
 use Rattle.machine.specs.declared.reply.Reply.TheVariants.{Cut}
@@ -37,6 +40,10 @@ abbrev pub StepsEach : (Chip → Reply → Chip → Type 0) → Setup → Device
     → List Reply → DeviceView → Type 0
 StepsEach Holds setup = IsRunBy (λ old event reply new.
     StepsTo setup old new event reply × Holds old.flash reply new.flash)
+
+-- After a reply the primary slots of the flash begin with what it says.
+abbrev pub StartsAfter : SectorMap → Chip → Reply → Chip → Type 0
+StartsAfter map old reply new = StartsBy (view map new) reply
 
 -- A run in which each reply is Cut exactly if the flash took an armed write during the event.
 abbrev pub CutsEach : Setup → DeviceView → List DeviceEvent → List Reply → DeviceView → Type 0

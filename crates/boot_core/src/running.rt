@@ -1,6 +1,8 @@
 //! Runs events on a device, and returns a reply to each.
 
 ghost use Rattle.std.specs.Prelude.{◌≡◌, true};
+ghost use Rattle.machine.specs.Starting.{StartsBy};
+ghost use Rattle.upload.specs.View.{View};
 ghost use Rattle.boot_core.specs.Answers.{fault_reply, reply_of_result};
 ghost use Rattle.boot_core.specs.Calls.{Replies, Runs, Steps};
 
@@ -13,7 +15,8 @@ use upload::UploadError;
 /// The reply to a refused call: `Cut` if power failed, else `Refused` with the fault. Does not
 /// allocate.
 pub fn reply_of(fault: Fault) -> Reply
-    ensures { result ≡ fault_reply fault }
+    ensures is { result ≡ fault_reply fault }
+    ensures starts { (w : View) → StartsBy w result }
 {
     match fault {
         Fault::Flash(FlashError::Cut) => Reply::Cut,
@@ -24,7 +27,8 @@ pub fn reply_of(fault: Fault) -> Reply
 
 /// The reply to a call that isn't a boot: `Done`, or the reply to its refusal. Does not allocate.
 pub fn answer(given: Result<(), Fault>) -> Reply
-    ensures { result ≡ reply_of_result given }
+    ensures is { result ≡ reply_of_result given }
+    ensures starts { (w : View) → StartsBy w result }
 {
     match given {
         Ok(()) => Reply::Done,

@@ -3,8 +3,8 @@ use Rattle.std.proofs.lemmas.List.{take_all, take_more}
 use Rattle.machine.specs.Passing.{RunsTo}
 use Rattle.machine.specs.Steps.{cuts_in}
 use Rattle.machine.proofs.Runs.{cuts_on, runs_on}
-use Rattle.boot_core.specs.CutEvents.{IsCutAsDue, StepsEach}
-use Rattle.boot_core.proofs.CutEvents.{due_on}
+use Rattle.boot_core.specs.CutEvents.{IsCutAsDue, StartsAfter, StepsEach}
+use Rattle.boot_core.proofs.CutEvents.{each_on}
 use Rattle.boot_core.proofs.running.run.Goals as goal
 
 pub loop-event-preserved : goal.loop-event-preserved
@@ -23,9 +23,12 @@ loop-event-preserved g c =
           (take_more c.args.events.now c.loop-event.event-index _ (omega arith)) c.in-Ok.ensures.items so_far.runs
           c.step-reply.ensures.steps;
       cuts = cuts_on _ _ _ _ _ _ c.in-Ok.ensures.items so_far.cuts counted;
-      due = due_on _ _ _ _ _ _ _ _ _ _ _ so_far.setup
+      due = each_on IsCutAsDue _ _ _ _ _ _ _ _ _ _ _ so_far.setup
           (take_more c.args.events.now c.loop-event.event-index _ (omega arith)) c.in-Ok.ensures.items so_far.due
           c.step-reply.ensures.steps c.step-reply.ensures.due;
+      starts = each_on (StartsAfter c.args.device.now.setup.map) _ _ _ _ _ _ _ _ _ _ _ so_far.setup
+          (take_more c.args.events.now c.loop-event.event-index _ (omega arith)) c.in-Ok.ensures.items so_far.starts
+          c.step-reply.ensures.steps (rw so_far.setup at c.step-reply.ensures.starts);
     }
 
 pub returns : goal.returns
@@ -40,6 +43,9 @@ returns g c =
       due = subst (λ events. StepsEach IsCutAsDue c.args.device.now.setup c.args.device.now.here events
           c.loop-event.replies.items c.loop-event.device.here) (take_all c.loop-event.event-index c.args.events.now all)
           done.due;
+      starts = subst (λ events. StepsEach (StartsAfter c.args.device.now.setup.map) c.args.device.now.setup
+          c.args.device.now.here events c.loop-event.replies.items c.loop-event.device.here)
+          (take_all c.loop-event.event-index c.args.events.now all) done.starts;
       on = done.on;
       setup = done.setup;
       nothing = tt;

@@ -1,7 +1,7 @@
 use Rattle.std.proofs.Common.{◌≡◌, ◌+◌, ◌≤◌, true, length, take, vec_capacity, vec_len}
 use Rattle.machine.specs.Passing.{RunsTo}
 use Rattle.machine.specs.Steps.{cuts_in}
-use Rattle.boot_core.specs.CutEvents.{IsCutAsDue, StepsEach}
+use Rattle.boot_core.specs.CutEvents.{IsCutAsDue, StartsAfter, StepsEach}
 use Rattle.boot_core.proofs.running.run.Given as goal
 
 abbrev pub invariant-loop-event : goal.invariant-loop-event
@@ -16,4 +16,6 @@ invariant-loop-event g l = record {
   cuts : l.device.here.flash.cuts ≡ l.initial.device.here.flash.cuts + cuts_in l.replies.items;
   due : StepsEach IsCutAsDue l.initial.device.setup l.initial.device.here (take l.event-index l.events) l.replies.items
       l.device.here;
+  starts : StepsEach (StartsAfter l.initial.device.setup.map) l.initial.device.setup l.initial.device.here
+      (take l.event-index l.events) l.replies.items l.device.here;
 }

@@ -12,6 +12,7 @@ returns-in-Cut g c = record {
       c.in-Cut.ensures.steps c.reset.ensures.holds;
   cuts = search rules;
   on = search rules;
+  starts = tt;
   fixed = search rules;
   due = due_powered _ _ c.reset.new.self.here.flash Cut c.reset.ensures.flash (due_by_law g.F.Flash.chip
       g.met.F.Flash.armed c.flash-before.result.now c.flash-behind.result.now _ _ Cut c.flash-before.ensures
@@ -25,6 +26,7 @@ returns-in_default g c = record {
   steps = search rules;
   cuts = search rules;
   on = search rules;
+  starts = c.call-reply.ensures.starts;
   fixed = search rules;
   due = due_by_law g.F.Flash.chip g.met.F.Flash.armed c.flash-before.result.now c.flash-behind.result.now _ _
       c.call-reply.result c.flash-before.ensures c.flash-behind.ensures c.call-reply.ensures.cuts

@@ -1,7 +1,9 @@
 use Rattle.std.proofs.Common.{◌+◌, refl, subst}
 use Rattle.boot_core.specs.Calls.{BootsDevice}
 use Rattle.boot_core.specs.Device.{Whole, made, seen}
+use Rattle.boot_core.specs.Answers.{reply_of_boot}
 use Rattle.boot_core.proofs.OnMap.{layout_keeps}
+use Rattle.boot_core.proofs.Steps.{boot_sound}
 use Rattle.boot_core.proofs.Wholes.{whole_of}
 use Rattle.boot_core.proofs.device.Device.boot.Goals as goal
 
@@ -22,6 +24,8 @@ returns g c =
       erases = booted.erases;
       outside = layout_keeps booted.layout;
       starts = booted.starts;
+      fits = λ on m holds all answers. boot_sound (made c.self.inside.map c.self.inside.identity (c.self.inside.left + 1))
+          _ _ (reply_of_boot c.boot_device.result) (booted.steps c.self.inside.identity on) booted.up answers m holds all;
       idle = booted.idle;
       over = booted.over;
       again = booted.again;
