@@ -101,7 +101,7 @@ class Progress:
 
 
 def errors_of(stream: int, told: Callable[[bytes], Any]) -> bytes:
-    """Returns what comes from a standard error until that is closed, without progress lines. These are told."""
+    """Returns the output of a standard error until it is closed, without progress lines, which it passes to `told`."""
     text = b""
     # Linux ends a terminal's output with an error once nobody writes to it.
     with contextlib.suppress(OSError):
@@ -132,7 +132,7 @@ def swept(
 ) -> tuple[int, bytes]:
     """Runs `bootswap sweep`, and returns its status and output. A worker calls this, perhaps on another machine.
 
-    Each progress line is told, if anything is to be. A process shows these at a terminal alone.
+    Each progress line is passed to `told`, if there is one. A process shows these lines only at a terminal.
     """
     ours, theirs = os.openpty() if told else os.pipe()
     if told:
