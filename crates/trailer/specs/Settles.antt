@@ -25,6 +25,8 @@ pub record MarksOk (map : SectorMap) (image : ℕ) (side : Side) (confirmed : Bo
   -- If the image isn't to be confirmed, nothing changes.
   pub tried : confirmed ≡ false → new ≡ old
   pub erases : OnOk result (new.erases ≡ old.erases)
+  -- It asks a journal for at most 20 bytes.
+  pub journal : new.journaled ≤ old.journaled + 20
   pub ends : Ends result old new
 
 -- A call writes `copy_done`, writes `image_ok` if the image is to be confirmed, and writes the
@@ -38,6 +40,8 @@ pub record MarksTrailer (map : SectorMap) (image : ℕ) (side : Side) (confirmed
   -- On success these units hold their values.
   pub ok : OnOk result (HasMarks map new image side confirmed)
   pub erases : OnOk result (new.erases ≡ old.erases)
+  -- It asks a journal for at most 68 bytes.
+  pub journal : new.journaled ≤ old.journaled + 68
   pub ends : Ends result old new
 
 -- A call erases a trailer if settling can't write its units.
@@ -54,6 +58,8 @@ pub record MakesWhole (map : SectorMap) (image : ℕ) (side : Side) (settling : 
   pub spares : OnOk result (IsSpared map old image side settling → new ≡ old)
   pub must : OnOk result ((IsSpared map old image side settling → ⊥)
       → new.erases ≡ old.erases + 1)
+  -- It asks a journal for at most 12 bytes.
+  pub journal : new.journaled ≤ old.journaled + 12
   pub ends : Ends result old new
 
 -- A call settles the trailers of an image.
@@ -79,4 +85,6 @@ pub record Settles (map : SectorMap) (image : ℕ) (settling : Settling) (old ne
       → new.erases ≡ old.erases + 2)
   -- If the flash is off, the call returns `Off`.
   pub off : old.is_on ≡ false → IsErrOf result Off
+  -- It asks a journal for at most 92 bytes.
+  pub journal : new.journaled ≤ old.journaled + 92
   pub ends : Ends result old new

@@ -101,6 +101,8 @@ pub record WritesSize (map : SectorMap) (image : ℕ) (side : Side) (swap_size :
   pub erases : OnOk result (new.erases ≡ old.erases)
   -- If the flash is off, the call returns `Off`.
   pub off : old.is_on ≡ false → IsErrOf result Off
+  -- It asks a journal for at most 20 bytes.
+  pub journal : new.journaled ≤ old.journaled + 20
   pub ends : Ends result old new
 
 -- A call sets the first erased status unit.
@@ -122,4 +124,6 @@ pub record PushesStatus (map : SectorMap) (image : ℕ) (side : Side) (old new :
   pub erases : OnOk result (new.erases ≡ old.erases)
   -- If the flash is off, the call returns `Off`.
   pub off : old.is_on ≡ false → IsErrOf result Off
+  -- It asks a journal for at most 20 bytes.
+  pub journal : new.journaled ≤ old.journaled + 20
   pub ends : Ends result old new

@@ -15,6 +15,7 @@ returns-in_err-mark g c =
       units = same_outside_wider _ 8 _ 32 _ _ c.mark.ensures.outside (omega arith) (omega arith);
       ok = at_error _ _ c.from_residual.ensures.0;
       erases = at_error _ _ c.from_residual.ensures.0;
+      journal = omega (arith, c.mark.ensures.journal);
       ends = ends_passed _ _ _ _ c.from_residual.ensures.1 c.in_err-mark.ensures.ends;
     }
 
@@ -33,6 +34,7 @@ returns-in_err-mark_ok g c =
           c.mark_ok.ensures.outside c.requires.image.laid_out.is_map;
       ok = at_error _ _ c.from_residual-in_err-mark_ok.ensures.0;
       erases = at_error _ _ c.from_residual-in_err-mark_ok.ensures.0;
+      journal = omega (arith, c.mark.ensures.journal, c.mark_ok.ensures.journal);
       ends = ends_then _ _ _ _ _ c.in_ok-mark.ensures.ends
           (ends_passed _ _ _ _ c.from_residual-in_err-mark_ok.ensures.1 c.in_err-mark_ok.ensures.ends);
     }
@@ -64,6 +66,7 @@ returns g c =
       erases = on_ok_weaker c.mark-2.result
           (λ none. none ∙ c.in_ok-mark_ok.ensures.erases ∙ c.in_ok-mark.ensures.erases)
           c.mark-2.ensures.erases;
+      journal = omega (arith, c.mark.ensures.journal, c.mark_ok.ensures.journal, c.mark-2.ensures.journal);
       ends = ends_then _ _ _ _ _ c.in_ok-mark.ensures.ends
           (ends_then _ _ _ _ _ c.in_ok-mark_ok.ensures.ends c.mark-2.ensures.ends);
     }

@@ -10,5 +10,6 @@ returns g c = record {
   erases = search rules;
   spares = search rules;
   must = search rules;
+  journal = search rules;
   ends = search rules;
 }

@@ -23,6 +23,7 @@ returns-in_err-erase_trailer g c =
       erases = at_error _ _ c.from_residual.ensures.0;
       spares = at_error _ _ c.from_residual.ensures.0;
       must = at_error _ _ c.from_residual.ensures.0;
+      journal = omega (arith, c.erase_trailer.ensures.journal);
       off = refuses_failed _ _ _ c.from_residual.ensures.0
           (ends_passed _ _ _ _ c.from_residual.ensures.1 c.in_err-erase_trailer.ensures.ends);
       ends = ends_passed _ _ _ _ c.from_residual.ensures.1 c.in_err-erase_trailer.ensures.ends;
@@ -47,6 +48,7 @@ returns-in_err-make_whole g c =
       erases = at_error _ _ c.from_residual-in_err-make_whole.ensures.0;
       spares = at_error _ _ c.from_residual-in_err-make_whole.ensures.0;
       must = at_error _ _ c.from_residual-in_err-make_whole.ensures.0;
+      journal = omega (arith, c.erase_trailer.ensures.journal, c.make_whole.ensures.journal);
       off = refuses_first _ _ _ c.in_ok-erase_trailer.ensures.off;
       ends = ends_then _ _ _ _ _ c.in_ok-erase_trailer.ensures.ends
           (ends_passed _ _ _ _ c.from_residual-in_err-make_whole.ensures.1 c.in_err-make_whole.ensures.ends);
@@ -101,6 +103,12 @@ returns g c =
           (c.erase_trailer.ensures.outside.parts (TrailerOf c.args.image Primary) (across c.args.image)) spared))
           ∙ ap (λ n. n + 1) c.in_ok-erase_trailer.ensures.erases ∙ omega arith)
           c.mark_trailer.ensures.erases;
+      journal = omega (
+        arith,
+        c.erase_trailer.ensures.journal,
+        c.make_whole.ensures.journal,
+        c.mark_trailer.ensures.journal,
+      );
       off = refuses_first _ _ _ c.in_ok-erase_trailer.ensures.off;
       ends = ends_then _ _ _ _ _ c.in_ok-erase_trailer.ensures.ends
           (ends_then _ _ _ _ _ c.in_ok-make_whole.ensures.ends c.mark_trailer.ensures.ends);

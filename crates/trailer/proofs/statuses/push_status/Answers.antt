@@ -54,6 +54,7 @@ returns g c =
       erases = at_any _ _
           (c.set_unit.ensures.erases ∙ ap (λ (chip : Chip). chip.erases) c.status_count.ensures.same);
       off = refuses_first _ _ _ c.in_ok-count.ensures.off;
+      journal = rw c.status_count.ensures.same at c.set_unit.ensures.journal;
       ends = ends_then _ _ _ _ _ c.in_ok-count.ensures.ends c.set_unit.ensures.ends;
     }
 
