@@ -12,6 +12,11 @@ pub record CanCopy (from to n : ℕ) (chip : Chip) : Type 0 where
   pub place : to % 8 ≡ 0
   pub units : n % 8 ≡ 0
 
+-- How many bytes a copy of n bytes asks a journal for at most: its own, and 12 for each piece of
+-- 256 bytes.
+abbrev pub journal_of_copy : ℕ → ℕ
+journal_of_copy n = n + 12 * ((n + 255) / 256)
+
 -- A call copies a number of bytes from one address to another.
 pub record Copies (from to n : ℕ) (old new : Chip) {T : Type 0} (result : Result T FlashError)
     : Type 0 where
@@ -21,6 +26,8 @@ pub record Copies (from to n : ℕ) (old new : Chip) {T : Type 0} (result : Resu
   pub ok : OnOk result (IsCopy from to n old new)
   -- If the call succeeds, no sector is erased.
   pub erases : OnOk result (new.erases ≡ old.erases)
+  -- It asks a journal for no more than a copy of these bytes.
+  pub journal : new.journaled ≤ old.journaled + journal_of_copy n
   pub ends : Ends result old new
 
 -- One sector can be copied to another: the flash has both, and they consist of whole units.
@@ -41,4 +48,6 @@ pub record CopiesSector (from to : ℕ) (old new : Chip) {T : Type 0} (result : 
       (IsCopy (from * old.sector_size) (to * old.sector_size) old.sector_size old new)
   -- If the call succeeds, one sector is erased.
   pub erases : OnOk result (new.erases ≡ old.erases + 1)
+  -- It asks a journal for 12 bytes to erase, and for no more than a copy of a sector.
+  pub journal : new.journaled ≤ old.journaled + (12 + journal_of_copy old.sector_size)
   pub ends : Ends result old new

@@ -9,6 +9,7 @@ use Rattle.sector_map.specs.declared.layout.Side.{Side}
 use Rattle.sector_map.specs.Map.{Keeps, slot_sectors}
 use Rattle.sector_map.specs.Part.{swap_one}
 use Rattle.trailer.specs.Status.{status_count_of}
+use Rattle.swap_scratch.specs.Copies.{journal_of_copy}
 use Rattle.swap_scratch.specs.Used.{used_of, steps_of}
 use Rattle.swap_scratch.specs.declared.progress.Progress.{Progress}
 use Rattle.swap_scratch.specs.Place.{sectors_of_swap, moved_of, IsPartway, IsImagePlace, KeepsBehind, KeepsRest}
@@ -63,6 +64,8 @@ pub record MovesSector (map : SectorMap) (image used status : ℕ) (old new : Ch
   pub behind : KeepsBehind map image (used * map.sector_size) old new
   -- A call that succeeds erases one sector.
   pub erases : OnOk result (new.erases ≡ old.erases + 1)
+  -- It asks a journal for 12 bytes to erase, and for no more than a copy of a sector.
+  pub journal : new.journaled ≤ old.journaled + (12 + journal_of_copy map.sector_size)
   pub ends : Ends result old new
 
 -- Step `status` is the next one of the swap of an image: the trailer counts this many steps.
@@ -71,6 +74,11 @@ pub record IsNextStep (map : SectorMap) (image : ℕ) (side : Side) (sectors sta
   pub used : sectors ≡ used_of map chip side image
   pub count : status ≡ status_count_of map chip image side
   pub below : status < 3 * sectors
+
+-- How many bytes a step asks a journal for at most: 12 to erase a sector, its own bytes and 12 for
+-- each piece of 256, and 20 for the status unit.
+abbrev pub journal_of_step : SectorMap → ℕ
+journal_of_step map = map.sector_size + 12 * ((map.sector_size + 255) / 256) + 32
 
 -- A call takes step `status`, and counts it.
 pub record TakesStep (map : SectorMap) (image : ℕ) (side : Side) (status : ℕ) (old new : Chip)
@@ -91,6 +99,8 @@ pub record TakesStep (map : SectorMap) (image : ℕ) (side : Side) (status : ℕ
   pub counted : OnOk result (status < status_count_of map new image side)
   -- A call that succeeds erases one sector.
   pub erases : OnOk result (new.erases ≡ old.erases + 1)
+  -- It asks a journal for no more than a step.
+  pub journal : new.journaled ≤ old.journaled + journal_of_step map
   pub ends : Ends result old new
 
 -- A call swaps the slots of an image, from any place of the swap.

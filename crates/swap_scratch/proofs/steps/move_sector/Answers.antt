@@ -1,5 +1,6 @@
-use Rattle.std.proofs.Common.{rules, arith, refl}
+use Rattle.std.proofs.Common.{rules, arith, refl, subst, ◌+◌, ◌≤◌}
 use Rattle.std.proofs.lemmas.Result.{on_ok_weaker}
+use Rattle.swap_scratch.specs.Copies.{journal_of_copy}
 use Rattle.swap_scratch.proofs.ImagePlaces.{order_of, keeps_move, behind_move, step_inside}
 use Rattle.swap_scratch.proofs.Moves.{partway_beside, free_target, next}
 use Rattle.swap_scratch.proofs.steps.move_sector.Goals as goal
@@ -43,5 +44,8 @@ returns g c = record {
       c.requires.laid_out c.requires.step.there c.requires.step.few c.requires.step.below c.sectors_of_step-from.ensures
       c.copy_sector.ensures.outside;
   erases = search rules;
+  journal = subst (λ size. (g.F.Flash.chip c.copy_sector.new.flash).journaled
+      ≤ (g.F.Flash.chip c.args.flash.now).journaled + (12 + journal_of_copy size)) c.requires.laid_out.sector_size
+      c.copy_sector.ensures.journal;
   ends = search rules;
 }

@@ -27,6 +27,7 @@ returns-in_err-move_sector g c = record {
   taken = at_error _ _ c.from_residual.ensures.0;
   counted = at_error _ _ c.from_residual.ensures.0;
   erases = at_error _ _ c.from_residual.ensures.0;
+  journal = omega (arith, c.move_sector.ensures.journal);
   ends = ends_passed _ _ _ _ c.from_residual.ensures.1 c.in_err-move_sector.ensures.ends;
 }
 
@@ -52,5 +53,6 @@ returns g c =
           c.push_status.ensures.ok;
       erases = on_ok_weaker c.push_status.result (λ none. none ∙ c.in_ok-move_sector.ensures.erases)
           c.push_status.ensures.erases;
+      journal = omega (arith, c.move_sector.ensures.journal, c.push_status.ensures.journal);
       ends = ends_then _ _ _ _ _ c.in_ok-move_sector.ensures.ends c.push_status.ensures.ends;
     }
