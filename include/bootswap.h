@@ -118,7 +118,8 @@ struct bootswap_setup {
 /*
  * The state of a device between two calls. All zero is a device that isn't booted. If the caller keeps it and the flash
  * unchanged between two calls, its uploads match the flash at each call. A piece doesn't check that; every other call
- * does.
+ * does. A call whose setup and list of cuts are valid sets each byte that the device doesn't need to 0: the unused
+ * ones, those after the held bytes, and each byte of an upload that isn't open.
  */
 struct bootswap_kept {
     uint8_t is_booted; /* 1 if it is booted */

@@ -197,13 +197,13 @@ saved_after : (map : SectorMap) (bytes : List ℕ) (chip : Chip) (sessions : Lis
 saved_after map bytes chip sessions true saved laid is opens keeps = record {
   flash = flash_powered map bytes chip laid is;
   saved = Booted refl (record {
-    rows = record { booted = keeps.booted refl; each = keeps.each refl };
+    rows = record { booted = ap (λ (k : SavedState). k.is_booted) keeps.exact; each = keeps.each refl };
     stands = moved map chip (powered chip) refl sessions opens;
   });
 }
 saved_after map bytes chip sessions false saved laid is opens keeps = record {
   flash = flash_powered map bytes chip laid is;
-  saved = NotBooted refl none_open (λ others was. zero_one saved.is_booted (ap (λ (k : SavedState). k.is_booted) (keeps.not_booted refl)) was.booted);
+  saved = NotBooted refl none_open (λ others was. zero_one saved.is_booted (ap (λ (k : SavedState). k.is_booted) keeps.exact) was.booted);
 }
 
 holds_after : (map : SectorMap) (chip : Chip) (sessions : List (Option Upload)) (is_booted : Bool) → IsLaidOut map chip
@@ -224,7 +224,7 @@ matched_after map bytes chip sessions true saved is opens keeps other flash othe
     (λ i. same_row (slice_index_or saved.uploads i no_row) (upload_at sessions i) (upload_at others i)
     (keeps.each refl i) (rows.each i)) opens
 matched_after map bytes chip sessions false saved is opens keeps other flash others rows =
-    absurd (zero_one saved.is_booted (ap (λ (k : SavedState). k.is_booted) (keeps.not_booted refl)) rows.booted)
+    absurd (zero_one saved.is_booted (ap (λ (k : SavedState). k.is_booted) keeps.exact) rows.booted)
 
 -- ---- the device of a call
 

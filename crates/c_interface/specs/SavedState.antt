@@ -1,6 +1,7 @@
 -- The saved state of a device, and the device that it restores.
-use Rattle.std.specs.Prelude.{◌≡◌, ℕ, ◌≤◌, ◌==◌, Bool, true, false, List, replicate, take, slice_index_or}
-use Rattle.std.specs.Prelude.{Option, Some, None, if◌then◌else◌}
+use Rattle.std.specs.Prelude.{◌≡◌, ℕ, ◌-◌, ◌≤◌, ◌==◌, Bool, true, false, if◌then◌else◌}
+use Rattle.std.specs.Prelude.{List, ◌++◌, length, map, replicate, take, slice_index_or}
+use Rattle.std.specs.Prelude.{Option, Some, None}
 use Rattle.flash_model.specs.Chip.{Chip}
 use Rattle.sector_map.specs.declared.layout.SectorMap.{SectorMap}
 use Rattle.sector_map.specs.Map.{IsLaidOut}
@@ -19,6 +20,11 @@ use Rattle.c_interface.specs.declared.saved_state.SavedUpload.{SavedUpload}
 abbrev pub saved_kind : ℕ → Option Kind
 saved_kind number =
     if number == 1 then Some Test else if number == 2 then Some Permanent else None
+
+-- The number of a kind.
+abbrev pub number_of_kind : Kind → ℕ
+number_of_kind Test = 1
+number_of_kind Permanent = 2
 
 -- A row saves an open upload.
 pub record IsSavedIn (row : SavedUpload) (upload : Upload) : Type 0 where
@@ -46,6 +52,21 @@ no_row = record {
   unused = 0;
   held = replicate 8 0;
   digest = replicate 32 0;
+}
+
+-- The row that a call writes for an upload, or for none. Each byte that the upload doesn't need is
+-- 0: the unused one, and those after the held bytes.
+abbrev pub row_of : Option Upload → SavedUpload
+row_of None = no_row
+row_of (Some upload) = record {
+  size = upload.size;
+  received = upload.received;
+  is_open = 1;
+  kind = number_of_kind upload.kind;
+  held_length = length upload.held.items;
+  unused = 0;
+  held = upload.held.items ++ replicate (8 - length upload.held.items) 0;
+  digest = upload.digest;
 }
 
 -- Rows save a table of uploads.
@@ -125,12 +146,18 @@ IsMatched map bytes saved =
 abbrev pub no_device : SavedState
 no_device = record { is_booted = 0; unused = replicate 3 0; uploads = replicate 8 no_row }
 
--- A saved state is that of a device with these uploads.
+-- The saved state that a call writes for a device with this table of uploads. If the device isn't
+-- booted, it is all zero.
+abbrev pub saved_as : List (Option Upload) → Bool → SavedState
+saved_as sessions true =
+    record { is_booted = 1; unused = replicate 3 0; uploads = map row_of sessions }
+saved_as sessions false = no_device
+
+-- A saved state is exactly that of a device with these uploads. If it is booted, its rows save them.
 pub record SavesDevice (saved : SavedState) (sessions : List (Option Upload)) (is_booted : Bool)
     : Type 0 where
-  pub booted : is_booted ≡ true → saved.is_booted ≡ 1
+  pub exact : saved ≡ saved_as sessions is_booted
   pub each : is_booted ≡ true → SaveUploads saved.uploads sessions
-  pub not_booted : is_booted ≡ false → saved ≡ no_device
 
 -- A saved state is that of a device that isn't booted.
 abbrev pub IsNotBooted : SavedState → Type 0

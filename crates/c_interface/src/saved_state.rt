@@ -1,8 +1,9 @@
 //! The state of a device that its caller keeps between two calls.
 
-ghost use Rattle.std.specs.Prelude.{◌≡◌, ◌≤◌, List, Option, Some, None, IfSome, length};
+ghost use Rattle.std.specs.Prelude.{◌≡◌, ◌≤◌, List, Option, Some, None, IfSome, length, map};
 ghost use Rattle.upload.specs.declared.sessions.Upload.{Upload};
-ghost use Rattle.c_interface.specs.SavedState.{SavesUpload, SaveUploads, saved_kind};
+ghost use Rattle.c_interface.specs.SavedState.{SavesUpload, SaveUploads, number_of_kind, row_of};
+ghost use Rattle.c_interface.specs.SavedState.{saved_kind};
 
 use arrayvec::ArrayVec;
 use common::limits::MOST_IMAGES;
@@ -15,7 +16,7 @@ const UNIT: usize = 8;
 /// `is_open` of an open upload.
 const YES: u8 = 1;
 
-/// The upload of an image, saved in 52 bytes.
+/// The upload of an image, saved in 52 bytes. All zero if none is open.
 #[repr(C)]
 #[derive(Clone, Copy)]
 pub struct SavedUpload {
@@ -31,7 +32,8 @@ pub struct SavedUpload {
     pub held_length: u8,
     /// 0.
     pub unused: u8,
-    /// The bytes that are held back: the last that were received, which don't fill a unit yet.
+    /// The bytes that are held back: the last that were received, which don't fill a unit yet. The
+    /// bytes after them are 0.
     pub held: [u8; UNIT],
     /// The SHA-256 that the file must have.
     pub digest: [u8; 32],
@@ -81,7 +83,8 @@ fn kind_of(number: u8) -> Option<Kind>
 
 /// The number of a kind.
 fn kind_number(kind: Kind) -> u8
-    ensures { saved_kind result ≡ Some kind }
+    ensures exact { result ≡ number_of_kind kind }
+    ensures saves { saved_kind result ≡ Some kind }
 {
     match kind {
         Kind::Test => 1,
@@ -139,7 +142,8 @@ pub(crate) fn load_uploads(rows: &[SavedUpload]) -> Option<Uploads>
 
 /// The row that saves an upload, if one is open.
 fn upload_row(upload: &Option<Upload>) -> SavedUpload
-    ensures { SavesUpload result upload.now }
+    ensures exact { result ≡ row_of upload.now }
+    ensures saves { SavesUpload result upload.now }
 {
     let Some(upload) = upload else {
         return CLOSED;
@@ -162,7 +166,8 @@ fn upload_row(upload: &Option<Upload>) -> SavedUpload
 /// The rows that save uploads.
 pub(crate) fn upload_rows(sessions: &[Option<Upload>]) -> [SavedUpload; MOST_IMAGES]
     requires { length sessions.now ≡ 8 }
-    ensures { SaveUploads result sessions.now }
+    ensures exact { result ≡ map row_of sessions.now }
+    ensures saves { SaveUploads result sessions.now }
 {
     let mut rows = [CLOSED; MOST_IMAGES];
     for i in 0..MOST_IMAGES {
