@@ -27,19 +27,24 @@ settled_as map chip mask asked permanent is settled = subst (λ b. AreSettled (v
 pub settles_taken : {value : Unit {0}} (map : SectorMap) (old mid new : Chip) (state : State) (left : ℕ) (floors : List ℕ)
     (result : Result Unit FlashError) → IsLaidOut map old → Keeps map (trailers_in state.mask) old mid
     → AreSettled (view map mid) state.mask state.permanent
-    → mid.erases ≤ old.erases + 2 * members map state.mask → Ends (Ok value) old mid
+    → mid.erases ≤ old.erases + 2 * members map state.mask
+    → mid.journaled ≤ old.journaled + 92 * members map state.mask → Ends (Ok value) old mid
     → RecordsTaken map state.permanent left floors mid new result
     → SettlesAndRecords map state left floors old new result
-settles_taken {value} map old mid new state left floors result laid keeps settled few ends records =
+settles_taken {value} map old mid new state left floors result laid keeps settled few journal ends records =
     let kept = λ (s : DeviceState) (table : Table)
     (was : IsSwapped (view map old) s table log.Settle state.mask state.permanent).
     settling_kept map old mid state.mask keeps s table log.Settle state.permanent was in
     record {
-      layout = layout_more (log_settled state.mask) (layout_kept (trailers_settled state.mask) laid keeps) records.outside;
-      stands = λ s table was. records.stands s table state.mask (kept s table was) settled;
-      done = IfOk-weaker result _ _ (λ done taken. record {
-        ok = λ s table was. taken.0 s table state.mask (kept s table was) settled;
-        erases = omega (arith, taken.1, few);
-      }) (ok_both _ _ result records.ok records.erases);
-      ends = then_ends ends records.ends;
+      passes = record {
+        layout = layout_more (log_settled state.mask) (layout_kept (trailers_settled state.mask) laid keeps)
+            records.outside;
+        stands = λ s table was. records.stands s table state.mask (kept s table was) settled;
+        done = IfOk-weaker result _ _ (λ done taken. record {
+          ok = λ s table was. taken.0 s table state.mask (kept s table was) settled;
+          erases = omega (arith, taken.1, few);
+        }) (ok_both _ _ result records.ok records.erases);
+        ends = then_ends ends records.ends;
+      };
+      journal = omega (arith, journal, records.journal);
     }

@@ -1,7 +1,7 @@
 -- Lemmas on masks of images: the mask of a report, and facts about members.
-use Rattle.std.proofs.Common.{◌≡◌, ◌≢◌, ℕ, ◌+◌, ◌<◌, ◌≤◌, Bool, true, false, Option, Some, None, List, length, map, take, take_all, option_map, unwrap_or, sym, ◌∙◌, ap, subst, refl, arith, slice_get, get_or, ⊎_elim}
+use Rattle.std.proofs.Common.{◌≡◌, ◌≢◌, ℕ, zero, suc, ◌+◌, ◌<◌, ◌≤◌, Bool, true, false, Option, Some, None, List, length, map, take, take_all, option_map, unwrap_or, sym, ◌∙◌, ap, subst, refl, arith, slice_get, get_or, ⊎_elim}
 use Rattle.std.specs.Option.{option_map_or}
-use Rattle.std.proofs.lemmas.Bool.{cases_eq}
+use Rattle.std.proofs.lemmas.Bool.{cases_eq, cases_lt}
 use Rattle.std.proofs.lemmas.Option.{slice_get-map, unwrap_or-slice_get}
 use Rattle.sector_map.specs.Part.{is_member}
 use Rattle.certificate.specs.declared.report.Report.{Report}
@@ -10,12 +10,24 @@ use Rattle.certificate.specs.Rightness.{taken_in}
 use Rattle.flash_model.specs.Chip.{Chip}
 use Rattle.sector_map.specs.declared.layout.SectorMap.{SectorMap}
 use Rattle.trailer.specs.Standing.{standing_of}
+use Rattle.swap_scratch.specs.Swap.{share, sum_over}
 use Rattle.trailer.specs.declared.kinds.Kind.TheVariants.{Permanent}
 use Rattle.upload.specs.Device.{DeviceState, Wanted}
 use Rattle.upload.specs.View.{view}
 use Rattle.machine.specs.Boots.{AsksForGood}
 use Rattle.machine.specs.Reading.{IsAsking}
 use Rattle.machine.specs.Wear.{IsSetIn}
+
+-- The numbers of the images up to one of a map are no more than those of all its images.
+pub sum_before : (mask : ℕ) (f : ℕ → ℕ) (n m : ℕ) → n < m → sum_over mask f n + share mask f n ≤ sum_over mask f m
+unfolding sum_over
+sum_before mask f n zero lt = absurd (omega arith)
+sum_before mask f n (suc m) lt = ⊎_elim
+    (λ (below : n < m). let before = sum_before mask f n m below in omega (arith, before))
+    (λ (last : m ≤ n).
+    let is : n ≡ m = omega (arith, lt, last) in
+    subst (λ k. sum_over mask f n + share mask f n ≤ sum_over mask f k + share mask f k) is (omega arith))
+    (cases_lt n m)
 
 -- A mask that has the images of a report is its set.
 pub set_found : (mask given : ℕ) (report : Report) → given ≡ mask

@@ -87,6 +87,8 @@ pub record RecordsReturned (map : SectorMap) (old new : Chip) (result : Result U
       → AreSettled (view map old) trial.set true
       → IsSteadyAt (view map new) (reverted s trial))
   pub erases : OnOk result (new.erases ≤ old.erases + 1)
+  -- It asks a journal for at most 120 bytes.
+  pub journal : new.journaled ≤ old.journaled + 120
   pub ends : Ends result old new
 
 -- The set of a record, which was swapped back, is settled, and the device is at rest.
@@ -97,14 +99,19 @@ pub record IsReturned (map : SectorMap) (state : State) (old new : Chip) : Type 
   pub erases : IsSettling map old new state.mask
 
 -- From BackSettle to Steady: a call settles the set of a record, and records that the old images
--- run. However it ends, the set is swapped back as before, or the device is at rest.
-abbrev pub SettlesAndReturns : SectorMap → State → Chip → Chip → Result Unit FlashError → Type 0
-SettlesAndReturns map state old new result = Passes map (settled_parts state.mask) old new
-    ((s : DeviceState) (trial : Trial) → state.mask ≡ trial.set
-    → IsSwappedBack (view map old) s trial log.BackSettle
-    → IsSwappedBack (view map new) s trial log.BackSettle
-    ⊎ IsSteadyAt (view map new) (reverted s trial))
-    (λ done. IsReturned map state old new) result
+-- run.
+pub record SettlesAndReturns (map : SectorMap) (state : State) (old new : Chip)
+    (result : Result Unit FlashError) : Type 0 where
+  -- However it ends, the set is swapped back as before, or the device is at rest.
+  pub passes : Passes map (settled_parts state.mask) old new
+      ((s : DeviceState) (trial : Trial) → state.mask ≡ trial.set
+      → IsSwappedBack (view map old) s trial log.BackSettle
+      → IsSwappedBack (view map new) s trial log.BackSettle
+      ⊎ IsSteadyAt (view map new) (reverted s trial))
+      (λ done. IsReturned map state old new) result
+  pub open passes use *
+  -- It asks a journal for at most 92 bytes for each image of the set, and 120.
+  pub journal : new.journaled ≤ old.journaled + (92 * members map state.mask + 120)
 
 -- The set of a record, which was swapped back, is settled after a record, and the device is at rest.
 pub record IsBackFinished (map : SectorMap) (state : State) (old new : Chip) : Type 0 where

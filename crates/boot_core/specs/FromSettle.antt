@@ -41,6 +41,8 @@ pub record SettlesMember (map : SectorMap) (mask image : ℕ) (settling : Settli
       → IsSettledAt (view map new) image (is_confirmed settling))
   -- Each of its two trailers is erased at most once.
   pub erases : OnOk result (new.erases ≤ old.erases + 2 * share mask (λ i. 1) image)
+  -- It asks a journal for at most 92 bytes, and for none if the image isn't in the mask.
+  pub journal : new.journaled ≤ old.journaled + 92 * share mask (λ i. 1) image
   pub ends : Ends result old new
 
 -- In Settle or BackSettle: a call settles the trailers of a set.
@@ -52,6 +54,8 @@ pub record SettlesSet (map : SectorMap) (mask : ℕ) (settling : Settling) (old 
   pub ok : OnOk result (AreSettled (view map new) mask (is_confirmed settling))
   -- Each of its trailers is erased at most once.
   pub erases : OnOk result (new.erases ≤ old.erases + 2 * members map mask)
+  -- It asks a journal for at most 92 bytes for each image of the set.
+  pub journal : new.journaled ≤ old.journaled + 92 * members map mask
   pub ends : Ends result old new
 
 -- The log says that a set is on trial, and nothing of permanence.
@@ -78,6 +82,8 @@ pub record RecordsTaken (map : SectorMap) (permanent : Bool) (left : ℕ) (floor
       → AreSettled (view map old) mask permanent
       → IsTakenAt (view map new) s mask permanent left floors)
   pub erases : OnOk result (new.erases ≤ old.erases + 1)
+  -- It asks a journal for at most 120 bytes.
+  pub journal : new.journaled ≤ old.journaled + 120
   pub ends : Ends result old new
 
 -- The set of a record, which was swapped, is settled and taken: it is on trial or permanent.
@@ -89,15 +95,19 @@ pub record IsSetTaken (map : SectorMap) (state : State) (left : ℕ) (floors : L
   pub erases : IsSettling map old new state.mask
 
 -- From Settle to Trial or Steady: a call settles the set of a record and takes it, on trial or
--- permanent. However it ends, the set is swapped as before, or it is taken.
-abbrev pub SettlesAndRecords : SectorMap → State → ℕ → List ℕ → Chip → Chip
-    → Result Unit FlashError → Type 0
-SettlesAndRecords map state left floors old new result = Passes map (settled_parts state.mask) old new
-    ((s : DeviceState) (table : Table)
-    → IsSwapped (view map old) s table log.Settle state.mask state.permanent
-    → IsSwapped (view map new) s table log.Settle state.mask state.permanent
-    ⊎ IsTakenAt (view map new) s state.mask state.permanent left floors)
-    (λ done. IsSetTaken map state left floors old new) result
+-- permanent.
+pub record SettlesAndRecords (map : SectorMap) (state : State) (left : ℕ) (floors : List ℕ)
+    (old new : Chip) (result : Result Unit FlashError) : Type 0 where
+  -- However it ends, the set is swapped as before, or it is taken.
+  pub passes : Passes map (settled_parts state.mask) old new
+      ((s : DeviceState) (table : Table)
+      → IsSwapped (view map old) s table log.Settle state.mask state.permanent
+      → IsSwapped (view map new) s table log.Settle state.mask state.permanent
+      ⊎ IsTakenAt (view map new) s state.mask state.permanent left floors)
+      (λ done. IsSetTaken map state left floors old new) result
+  pub open passes use *
+  -- It asks a journal for at most 92 bytes for each image of the set, and 120.
+  pub journal : new.journaled ≤ old.journaled + (92 * members map state.mask + 120)
 
 -- A set that was swapped can be settled by this finding. If it is tried, it has `left` more boots.
 pub record CanSettle (map : SectorMap) (state : State) (left : ℕ) (finding : Finding) (chip : Chip)

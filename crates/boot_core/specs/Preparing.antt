@@ -40,6 +40,8 @@ pub record PreparesImage (map : SectorMap) (image : ℕ) (side : Side) (old new 
   pub ok : OnOk result (IsReady (view map new) side image)
   -- At most one sector is erased.
   pub erases : OnOk result (new.erases ≤ old.erases + 1)
+  -- It asks a journal for at most 32 bytes.
+  pub journal : new.journaled ≤ old.journaled + 32
   pub ends : Ends result old new
 
 -- A call prepares the trailer of an image if the image is in a mask.
@@ -53,6 +55,8 @@ pub record PreparesMember (map : SectorMap) (mask : ℕ) (side : Side) (image : 
   pub kept : (i : ℕ) → i ≢ image → IsReady (view map old) side i → IsReady (view map new) side i
   -- At most one sector is erased for a member, and none otherwise.
   pub erases : OnOk result (new.erases ≤ old.erases + share mask (λ i. 1) image)
+  -- It asks a journal for at most 32 bytes, and for none if the image isn't in the mask.
+  pub journal : new.journaled ≤ old.journaled + 32 * share mask (λ i. 1) image
   pub ends : Ends result old new
 
 -- A call prepares the trailers of a mask on one side.
@@ -68,4 +72,6 @@ pub record Prepares (map : SectorMap) (mask : ℕ) (side : Side) (old new : Chip
       → IsReady (view map new) side i)
   -- At most one sector is erased for each member.
   pub erases : OnOk result (new.erases ≤ old.erases + members map mask)
+  -- It asks a journal for at most 32 bytes for each member.
+  pub journal : new.journaled ≤ old.journaled + 32 * members map mask
   pub ends : Ends result old new

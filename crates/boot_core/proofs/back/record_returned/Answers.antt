@@ -16,5 +16,6 @@ returns g c = record {
       (λ recorded. return_ok c.args.map.now _ _ _ c.requires.read c.append.ensures.outside recorded)
       (rw c.steady.ensures at c.append.ensures.ok);
   erases = search rules;
+  journal = c.append.ensures.journal;
   ends = search rules;
 }

@@ -18,10 +18,13 @@ record_returned-requires g c = record {
 
 pub returns-in_err-settle_set : goal.returns-in_err-settle_set
 returns-in_err-settle_set g c =
-    rw (err_passed c.from_residual.result c.in_err-settle_set.field-0.0 c.from_residual.ensures.1)
-    (passes_err (layout_kept (trailers_settled c.args.state.now.mask) c.requires.laid_out c.settle_set.ensures.outside)
-    (λ s trial is was. inl (returning_kept c.args.map.now _ _ _ s trial _ is c.settle_set.ensures.outside was))
-    c.in_err-settle_set.ensures.ends)
+    rw (err_passed c.from_residual.result c.in_err-settle_set.field-0.0 c.from_residual.ensures.1) (record {
+      passes = passes_err (layout_kept (trailers_settled c.args.state.now.mask) c.requires.laid_out
+          c.settle_set.ensures.outside)
+          (λ s trial is was. inl (returning_kept c.args.map.now _ _ _ s trial _ is c.settle_set.ensures.outside was))
+          c.in_err-settle_set.ensures.ends;
+      journal = omega (arith, c.settle_set.ensures.journal);
+    })
 
 pub returns : goal.returns
 returns g c =
@@ -30,15 +33,18 @@ returns g c =
     let settles = c.in_ok-settle_set.ensures in
     let returns = c.record_returned.ensures in
     record {
-      layout = layout_more (log_settled c.args.state.now.mask)
-          (layout_kept (trailers_settled c.args.state.now.mask) c.requires.laid_out settles.outside) returns.outside;
-      stands = λ s trial is was. returns.stands s trial
-          (returning_kept map _ _ _ s trial _ is settles.outside was)
-          (subst (λ m. AreSettled (view map mid) m true) is settles.ok);
-      done = IfOk-weaker c.record_returned.result _ _ (λ value returned. record {
-        ok = λ s trial is was. returned.0 s trial (returning_kept map _ _ _ s trial _ is settles.outside was)
+      passes = record {
+        layout = layout_more (log_settled c.args.state.now.mask)
+            (layout_kept (trailers_settled c.args.state.now.mask) c.requires.laid_out settles.outside) returns.outside;
+        stands = λ s trial is was. returns.stands s trial
+            (returning_kept map _ _ _ s trial _ is settles.outside was)
             (subst (λ m. AreSettled (view map mid) m true) is settles.ok);
-        erases = omega (arith, returned.1, settles.erases);
-      }) (ok_both _ _ c.record_returned.result returns.ok returns.erases);
-      ends = then_ends settles.ends returns.ends;
+        done = IfOk-weaker c.record_returned.result _ _ (λ value returned. record {
+          ok = λ s trial is was. returned.0 s trial (returning_kept map _ _ _ s trial _ is settles.outside was)
+              (subst (λ m. AreSettled (view map mid) m true) is settles.ok);
+          erases = omega (arith, returned.1, settles.erases);
+        }) (ok_both _ _ c.record_returned.result returns.ok returns.erases);
+        ends = then_ends settles.ends returns.ends;
+      };
+      journal = omega (arith, settles.journal, returns.journal);
     }

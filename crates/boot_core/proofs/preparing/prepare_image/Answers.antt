@@ -58,6 +58,12 @@ returns g c = record {
         one_erase _ _ _ c.in_ok-clear.ensures.erases,
       ))
       c.write_size.ensures.erases;
+  journal = omega (
+    arith,
+    c.clear.ensures.journal,
+    ap (λ (chip : Chip). chip.journaled) c.swap_length.ensures.same,
+    c.write_size.ensures.journal,
+  );
   ends = then_ends (then_ends c.in_ok-clear.ensures.ends c.in_ok-size.ensures.ends) c.write_size.ensures.ends;
 }
 
@@ -67,6 +73,7 @@ returns-in_err-clear g c =
       outside = c.clear.ensures.outside;
       ok = tt;
       erases = tt;
+      journal = omega (arith, c.clear.ensures.journal);
       ends = err_ends c.in_err-clear.ensures.ends;
     })
 
@@ -76,5 +83,10 @@ returns-in_err-size g c =
       outside = rw c.swap_length.ensures.same c.clear.ensures.outside;
       ok = tt;
       erases = tt;
+      journal = omega (
+        arith,
+        c.clear.ensures.journal,
+        ap (λ (chip : Chip). chip.journaled) c.swap_length.ensures.same,
+      );
       ends = then_err c.in_ok-clear.ensures.ends c.in_err-size.ensures.ends;
     })

@@ -14,6 +14,7 @@ returns-in_err-prepare_image g c =
       kept = λ i other was. ready_kept c.args.map.now i c.args.image
           c.args.side c.args.side _ _ other c.prepare_image.ensures.outside was;
       erases = tt;
+      journal = rw member c.prepare_image.ensures.journal;
       ends = err_ends c.in_err-prepare_image.ensures.ends;
     })
 
@@ -26,5 +27,6 @@ returns-in_ok-prepare_image g c =
       kept = λ i other was. ready_kept c.args.map.now i c.args.image
           c.args.side c.args.side _ _ other c.prepare_image.ensures.outside was;
       erases = rw member c.in_ok-prepare_image.ensures.erases;
+      journal = rw member c.prepare_image.ensures.journal;
       ends = ok_ends c.in_ok-prepare_image.ensures.ends;
     }

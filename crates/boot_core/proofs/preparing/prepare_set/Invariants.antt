@@ -1,4 +1,4 @@
-use Rattle.std.proofs.Common.{◌≡◌, ◌<◌, ◌≤◌, ◌+◌, ℕ, true, false}
+use Rattle.std.proofs.Common.{◌≡◌, ◌<◌, ◌≤◌, ◌+◌, ◌*◌, ℕ, true, false}
 use Rattle.flash_model.specs.Chip.{IsUncut}
 use Rattle.sector_map.specs.Map.{IsLaidOut, Keeps}
 use Rattle.sector_map.specs.Part.{is_member, trailers_on}
@@ -15,6 +15,8 @@ invariant-loop-image g l = record {
       → IsReady (view l.map (g.F.Flash.chip l.flash)) l.side i;
   erases : (g.F.Flash.chip l.flash).erases
       ≤ (g.F.Flash.chip l.initial.flash).erases + sum_over l.mask (λ i. 1) l.image;
+  journal : (g.F.Flash.chip l.flash).journaled
+      ≤ (g.F.Flash.chip l.initial.flash).journaled + 32 * sum_over l.mask (λ i. 1) l.image;
   uncut : IsUncut (g.F.Flash.chip l.initial.flash) (g.F.Flash.chip l.flash);
   asleep : (g.F.Flash.chip l.initial.flash).is_on ≡ false
       → g.F.Flash.chip l.flash ≡ g.F.Flash.chip l.initial.flash;

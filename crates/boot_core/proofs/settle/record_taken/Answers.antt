@@ -18,5 +18,6 @@ returns g c = λ left. record {
       (λ recorded. good_ok c.args.map.now _ _ _ _ c.requires.recorded.read c.append.ensures.outside recorded)
       (rw c.steady.ensures at c.append.ensures.ok);
   erases = search rules;
+  journal = c.append.ensures.journal;
   ends = search rules;
 }

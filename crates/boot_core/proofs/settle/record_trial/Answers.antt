@@ -20,5 +20,6 @@ returns g c = λ floors. record {
       (λ recorded. trial_ok c.args.map.now _ _ _ c.args.left c.requires.recorded.read c.append.ensures.outside recorded)
       c.append.ensures.ok;
   erases = search rules;
+  journal = c.append.ensures.journal;
   ends = search rules;
 }

@@ -1,4 +1,4 @@
-use Rattle.std.proofs.Common.{inl, refl, sym, subst}
+use Rattle.std.proofs.Common.{arith, inl, refl, sym, subst}
 use Rattle.upload.proofs.Ends.{err_passed}
 use Rattle.sector_map.proofs.Parts.{laid_out_kept}
 use Rattle.machine.proofs.Swapping.{settling_kept}
@@ -24,18 +24,20 @@ record_trial-requires-clause-recorded g c = record {
 
 pub returns-in_err-settle_set : goal.returns-in_err-settle_set
 returns-in_err-settle_set g c =
-    rw (err_passed c.from_residual.result c.in_err-settle_set.field-0.0 c.from_residual.ensures.1)
-    (passes_err (layout_kept (trailers_settled c.args.state.now.mask) c.requires.recorded.laid_out
-    c.settle_set.ensures.outside)
-    (λ s table was. inl (settling_kept c.args.map.now _ _ _ c.settle_set.ensures.outside s table _ _ was))
-    c.in_err-settle_set.ensures.ends)
+    rw (err_passed c.from_residual.result c.in_err-settle_set.field-0.0 c.from_residual.ensures.1) (record {
+      passes = passes_err (layout_kept (trailers_settled c.args.state.now.mask) c.requires.recorded.laid_out
+          c.settle_set.ensures.outside)
+          (λ s table was. inl (settling_kept c.args.map.now _ _ _ c.settle_set.ensures.outside s table _ _ was))
+          c.in_err-settle_set.ensures.ends;
+      journal = omega (arith, c.settle_set.ensures.journal);
+    })
 
 pub returns-then-state : goal.returns-then-state
 returns-then-state g c =
     let settles = c.in_ok-settle_set.ensures in
     settles_taken c.args.map.now _ _ _ c.args.state.now c.args.left c.args.floors c.record_taken.result
     c.requires.recorded.laid_out settles.outside (settled_as c.args.map.now _ _ _ _ c.settling_for.ensures settles.ok)
-    settles.erases settles.ends (subst
+    settles.erases settles.journal settles.ends (subst
     (λ permanent. RecordsTaken c.args.map.now permanent c.args.left c.args.floors
     (g.F.Flash.chip c.settle_set.new.flash) (g.F.Flash.chip c.record_taken.new.flash) c.record_taken.result)
     (sym c.if-state.true) (c.record_taken.ensures c.args.left))
@@ -45,7 +47,7 @@ returns-else-state g c =
     let settles = c.in_ok-settle_set.ensures in
     let settled = settled_as c.args.map.now _ _ _ _ c.settling_for.ensures settles.ok in
     settles_taken c.args.map.now _ _ _ c.args.state.now c.args.left c.args.floors c.record_trial.result
-    c.requires.recorded.laid_out settles.outside settled settles.erases settles.ends
+    c.requires.recorded.laid_out settles.outside settled settles.erases settles.journal settles.ends
     (subst
     (λ permanent. RecordsTaken c.args.map.now permanent c.args.left c.args.floors
     (g.F.Flash.chip c.settle_set.new.flash) (g.F.Flash.chip c.record_trial.new.flash) c.record_trial.result)

@@ -17,6 +17,7 @@ returns-in_err-settle g c =
           settled_kept c.args.map.now i c.args.image _ _ _ other c.settle.ensures.outside was;
       ok = tt;
       erases = tt;
+      journal = rw member c.settle.ensures.journal;
       ends = err_ends c.in_err-settle.ensures.ends;
     })
 
@@ -30,5 +31,6 @@ returns-in_ok-settle g c =
           settled_kept c.args.map.now i c.args.image _ _ _ other c.settle.ensures.outside was;
       ok = λ is. record { both = c.in_ok-settle.ensures.ok };
       erases = rw member c.in_ok-settle.ensures.erases;
+      journal = rw member c.settle.ensures.journal;
       ends = ok_ends c.in_ok-settle.ensures.ends;
     }

@@ -16,6 +16,8 @@ invariant-loop-image g l = record {
       → IsSettledAt (view l.map (g.F.Flash.chip l.flash)) i (is_confirmed l.settling);
   erases : (g.F.Flash.chip l.flash).erases
       ≤ (g.F.Flash.chip l.initial.flash).erases + 2 * sum_over l.mask (λ i. 1) l.image;
+  journal : (g.F.Flash.chip l.flash).journaled
+      ≤ (g.F.Flash.chip l.initial.flash).journaled + 92 * sum_over l.mask (λ i. 1) l.image;
   uncut : IsUncut (g.F.Flash.chip l.initial.flash) (g.F.Flash.chip l.flash);
   asleep : (g.F.Flash.chip l.initial.flash).is_on ≡ false
       → g.F.Flash.chip l.flash ≡ g.F.Flash.chip l.initial.flash;
