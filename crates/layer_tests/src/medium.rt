@@ -7,4 +7,5 @@ mod journal_flash;
 mod lent_flash;
 mod maps;
 mod memory_flash;
+mod overlay_flash;
 mod read_only_flash;

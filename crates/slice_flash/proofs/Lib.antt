@@ -5,3 +5,5 @@ mod Refused
 mod StepRows
 mod Writes
 mod ReadOnlyLaws
+mod Parts
+mod Appended

@@ -88,7 +88,7 @@ pub length_is : (at : ℕ) (asked : Asked) → length (range_of (step_of at aske
 length_is at (asked.Program bytes) = refl
 length_is at (asked.Erase n) = length-replicate {A = ℕ} n 255
 
-at_is : (at : ℕ) (asked : Asked) → at ≡ at_of (step_of at asked)
+pub at_is : (at : ℕ) (asked : Asked) → at ≡ at_of (step_of at asked)
 at_is at (asked.Program bytes) = refl
 at_is at (asked.Erase n) = refl
 

@@ -4,3 +4,5 @@ pub mod Steps
 pub mod Asked
 pub mod JournalFlash
 pub mod ReadOnly
+pub mod Overlay
+pub mod OverlayFlash

@@ -51,7 +51,8 @@ fn put_header(entry: &mut [u8], kind: u32, at: u32, n: u32)
 pub(crate) fn record(entry: &mut [u8], at: u32, asked: Asked<'_>)
     requires room { length entry.old ≡ room_of asked }
     requires short { length_of asked < 2 ^ 32 }
-    ensures { entry.new ≡ spelled (step_of at asked.entry) }
+    ensures entry { entry.new ≡ spelled (step_of at asked.entry) }
+    ensures are_bytes { (k : ℕ) → slice_index entry.new k < 256 }
 {
     match asked {
         Asked::Program(bytes) => {

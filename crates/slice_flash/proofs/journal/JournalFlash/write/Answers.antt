@@ -12,13 +12,13 @@ invariant_of-self-clause-recorded g c =
     let flash = c.args.self.now in
     one_recorded flash.sector_size c.args.at c.length_of.result flash.used c.room_of-room.result flash.origin.first flash.bytes.now
     flash.journal.now c.record.new.entry c.perform.new.range flash.writes c.args.asked c.requires c.length_of.ensures
-    c.room_of-room.ensures flash.fits c.record.ensures c.perform.ensures.bytes flash.recorded
+    c.room_of-room.ensures flash.fits c.record.ensures.entry c.perform.ensures.bytes flash.recorded
 
 pub invariant_of-self-clause-rest : goal.invariant_of-self-clause-rest
 invariant_of-self-clause-rest g c =
     let flash = c.args.self.now in
     rest_kept flash.used c.room_of-room.result flash.journal.now flash.journal_origin.first c.record.new.entry flash.fits
-    (ap length c.record.ensures ∙ sym (room_is c.args.at c.args.asked) ∙ sym c.room_of-room.ensures) flash.rest
+    (ap length c.record.ensures.entry ∙ sym (room_is c.args.at c.args.asked) ∙ sym c.room_of-room.ensures) flash.rest
 
 pub invariant_of-self-clause-written : goal.invariant_of-self-clause-written
 invariant_of-self-clause-written g c =
