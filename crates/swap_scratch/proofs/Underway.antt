@@ -13,8 +13,9 @@ use Rattle.trailer.proofs.FailedCalls.{refuses_failed}
 use Rattle.trailer.specs.Status.{status_count_of}
 use Rattle.swap_scratch.specs.Used.{steps_of, used_of}
 use Rattle.swap_scratch.specs.Place.{IsImagePlace, KeepsRest}
-use Rattle.swap_scratch.specs.Steps.{SwapsImage, TakesStep}
+use Rattle.swap_scratch.specs.Steps.{AsksForSteps, SwapsImage, TakesStep}
 use Rattle.swap_scratch.specs.Swap.{IsAllCounted}
+use Rattle.swap_scratch.proofs.Asking.{asks_more, asks_next, asks_none, asks_wider}
 use Rattle.swap_scratch.proofs.Sizes.{used_kept}
 use Rattle.swap_scratch.proofs.Taking.{rest_refl, rest_trans}
 
@@ -32,6 +33,8 @@ pub record IsUnderway (map : SectorMap) (image : ℕ) (side : Side) (sectors sta
       → (c ≤ status) × IsImagePlace map now side image x y status
   pub erases : (x y : List ℕ) (c : ℕ) → IsImagePlace map old side image x y c
       → now.erases + c ≡ old.erases + status
+  pub forward : status_count_of map old image side ≤ status
+  pub journal : AsksForSteps map (status_count_of map old image side) status old now
   pub uncut : IsUncut old now
   pub asleep : old.is_on ≡ false → now ≡ old
 
@@ -52,6 +55,9 @@ first_status map image side sectors status old laid used count = record {
     subst (λ n. IsImagePlace map old side image x y n) (sym was.counted.is ∙ sym count) was,
   );
   erases = λ x y c was. omega (arith, was.counted.is, count);
+  forward = omega (arith, count);
+  journal = subst (λ n. AsksForSteps map (status_count_of map old image side) n old old) (sym count)
+      (asks_none map old (status_count_of map old image side));
   uncut = uncut_refl _;
   asleep = λ off. refl;
 }
@@ -97,7 +103,10 @@ module _ (map : SectorMap) (image : ℕ) (side : Side) (sectors status : ℕ) (o
           resumes = resumes_on;
           swapped = at_error _ result error;
           counted = at_error _ result error;
+          forward = omega (arith, kept.forward, taken.forward);
           erases = at_error _ result error;
+          journal = asks_more map old now new _ status _ kept.journal taken.journal taken.forward;
+          journal_ok = at_error _ result error;
           off = refuses_failed result old new error ends_so;
           ends = ends_so;
         }
@@ -128,6 +137,8 @@ next_status map image side sectors status count old now new value has kept left 
           let at = taken.taken x y (kept.place x y c was).1 in
           let one : status + 1 ≡ count = sym at.counted.is ∙ sym is in
           omega (arith, kept.erases x y c was, taken.erases, one);
+      forward = omega (arith, kept.forward, taken.counted, is);
+      journal = asks_next map old now new _ status count kept.journal taken.journal (omega (arith, taken.counted, is));
       uncut = uncut_trans _ _ _ kept.uncut taken.ends.uncut;
       asleep = asleep_trans _ _ _ kept.uncut kept.asleep taken.ends.asleep;
     }
@@ -138,6 +149,8 @@ pub ends_at_last : {T : Type 0} (map : SectorMap) (image : ℕ) (side : Side) (s
     → (old.is_on ≡ false → IsErrOf (Ok value) Off) → SwapsImage map image side old now (Ok value)
 ends_at_last map image side sectors status old now value kept all off =
     let steps : steps_of map now side image ≡ 3 * sectors = ap (λ n. 3 * n) (sym kept.used) in
+    let asked : AsksForSteps map (status_count_of map old image side) (status_count_of map now image side) old now =
+    subst (λ n. AsksForSteps map (status_count_of map old image side) n old now) kept.count kept.journal in
     record {
       outside = kept.outside;
       rest = kept.rest;
@@ -147,9 +160,12 @@ ends_at_last map image side sectors status old now value kept all off =
           let at = (kept.place x y c was).1 in
           subst (λ n. IsImagePlace map now side image x y n) (omega (arith, at.bound, kept.steps, steps, all)) at;
       counted = omega (arith, steps, kept.count, all);
+      forward = omega (arith, kept.forward, kept.count);
       erases = λ x y c was.
           let at = (kept.place x y c was).1 in
           omega (arith, kept.erases x y c was, at.bound, kept.steps, steps, all);
+      journal = asks_wider map old now _ _ asked;
+      journal_ok = asked;
       off = off;
       ends = ends_well _ _ _ kept.uncut kept.asleep;
     }

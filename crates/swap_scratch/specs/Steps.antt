@@ -80,6 +80,11 @@ pub record IsNextStep (map : SectorMap) (image : ℕ) (side : Side) (sectors sta
 abbrev pub journal_of_step : SectorMap → ℕ
 journal_of_step map = map.sector_size + 12 * ((map.sector_size + 255) / 256) + 32
 
+-- A call asks a journal for at most the steps from one count to another.
+pub record AsksForSteps (map : SectorMap) (before after : ℕ) (old new : Chip) : Type 0 where
+  pub most : new.journaled + journal_of_step map * before
+      ≤ old.journaled + journal_of_step map * after
+
 -- A call takes step `status`, and counts it.
 pub record TakesStep (map : SectorMap) (image : ℕ) (side : Side) (status : ℕ) (old new : Chip)
     {T : Type 0} (result : Result T FlashError) : Type 0 where
@@ -97,6 +102,8 @@ pub record TakesStep (map : SectorMap) (image : ℕ) (side : Side) (status : ℕ
       → IsImagePlace map new side image x y (status + 1))
   -- If the call succeeds, the count increases, whatever the place of the swap.
   pub counted : OnOk result (status < status_count_of map new image side)
+  -- In each case the count doesn't decrease.
+  pub forward : status ≤ status_count_of map new image side
   -- A call that succeeds erases one sector.
   pub erases : OnOk result (new.erases ≡ old.erases + 1)
   -- It asks a journal for no more than a step.
@@ -121,9 +128,17 @@ pub record SwapsImage (map : SectorMap) (image : ℕ) (side : Side) (old new : C
       → IsImagePlace map new side image x y (steps_of map old side image))
   -- If the call succeeds, all steps are counted, whatever the place of the swap was.
   pub counted : OnOk result (IsAllCounted map new side image)
+  -- In each case the count doesn't decrease, whatever the place of the swap was.
+  pub forward : status_count_of map old image side ≤ status_count_of map new image side
   -- A call that succeeds erases one sector for each step that was left.
   pub erases : OnOk result ((x y : List ℕ) (c : ℕ) → IsImagePlace map old side image x y c
       → new.erases + c ≡ old.erases + steps_of map old side image)
+  -- It asks a journal for no more than the steps that it counts, and one more.
+  pub journal : AsksForSteps map (status_count_of map old image side)
+      (status_count_of map new image side + 1) old new
+  -- A call that succeeds asks for no more than the steps that it counts.
+  pub journal_ok : OnOk result (AsksForSteps map (status_count_of map old image side)
+      (status_count_of map new image side) old new)
   -- If the flash is off, the call returns `Off`.
   pub off : old.is_on ≡ false → IsErrOf result Off
   pub ends : Ends result old new

@@ -4,7 +4,7 @@ use Rattle.sector_map.proofs.Parts.{keeps_wider}
 use Rattle.flash_model.proofs.Ending.{at_error, ends_passed, ends_then}
 use Rattle.swap_scratch.proofs.ImagePlaces.{move_of_swap}
 use Rattle.swap_scratch.proofs.Sizes.{used_within}
-use Rattle.swap_scratch.proofs.Taking.{counted_past, move_kept, move_rest, step_outside, step_rest, step_room, step_taken, step_torn}
+use Rattle.swap_scratch.proofs.Taking.{counted_past, move_forward, move_kept, move_rest, step_forward, step_outside, step_rest, step_room, step_taken, step_torn}
 use Rattle.swap_scratch.proofs.steps.take_step.Goals as goal
 
 pub move_sector-requires-clause-step : goal.move_sector-requires-clause-step
@@ -26,6 +26,7 @@ returns-in_err-move_sector g c = record {
   resumes = λ x y was. inl (move_kept _ _ _ _ _ _ _ _ c.requires.image c.requires.step c.move_sector.ensures x y was);
   taken = at_error _ _ c.from_residual.ensures.0;
   counted = at_error _ _ c.from_residual.ensures.0;
+  forward = move_forward _ _ _ _ _ _ _ _ c.requires.image c.requires.step c.move_sector.ensures;
   erases = at_error _ _ c.from_residual.ensures.0;
   journal = omega (arith, c.move_sector.ensures.journal);
   ends = ends_passed _ _ _ _ c.from_residual.ensures.1 c.in_err-move_sector.ensures.ends;
@@ -51,6 +52,8 @@ returns g c =
       counted = on_ok_weaker c.push_status.result
           (counted_past _ _ _ _ _ _ _ _ c.requires.image c.requires.step c.move_sector.ensures _)
           c.push_status.ensures.ok;
+      forward = step_forward _ _ _ _ _ _ _ _ c.requires.image c.requires.step c.move_sector.ensures _ _
+          c.push_status.ensures;
       erases = on_ok_weaker c.push_status.result (λ none. none ∙ c.in_ok-move_sector.ensures.erases)
           c.push_status.ensures.erases;
       journal = omega (arith, c.move_sector.ensures.journal, c.push_status.ensures.journal);

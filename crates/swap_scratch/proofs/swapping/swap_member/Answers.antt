@@ -1,7 +1,9 @@
-use Rattle.std.proofs.Common.{rules, ◌≡◌, true}
+use Rattle.std.proofs.Common.{rules, arith, ◌≡◌, true}
 use Rattle.std.proofs.lemmas.Result.{on_ok_weaker}
 use Rattle.sector_map.specs.Part.{is_member}
 use Rattle.swap_scratch.proofs.Members.{resumed, finished, counted_on}
+use Rattle.swap_scratch.proofs.Asking.{asks_shifted}
+use Rattle.swap_scratch.proofs.Sums.{done_by_one, shares_erased}
 use Rattle.swap_scratch.proofs.swapping.swap_member.Goals as goal
 
 pub returns : goal.returns
@@ -21,7 +23,20 @@ returns g c =
       counted = on_ok_weaker c.swap_image.result
           (λ counted. λ was. counted_on _ _ _ _ _ _ c.swap_image.ensures.outside counted was)
           c.swap_image.ensures.counted;
-      erases = search rules;
+      forward = omega (
+        arith,
+        done_by_one _ _ _ _ _ _ member c.requires.there c.swap_image.ensures.outside,
+        c.swap_image.ensures.forward,
+      );
+      erases = on_ok_weaker c.swap_image.result (λ erased. λ counts x y below.
+          shares_erased _ _ _ _ _ _ counts x y member below
+          (erased (x c.args.image) (y c.args.image) (below.now c.args.image) (below.place.each c.args.image member)))
+          c.swap_image.ensures.erases;
+      journal = asks_shifted _ _ _ _ _ _ _ c.swap_image.ensures.journal
+          (omega (arith, done_by_one _ _ _ _ _ _ member c.requires.there c.swap_image.ensures.outside));
+      journal_ok = on_ok_weaker c.swap_image.result (λ asked. asks_shifted _ _ _ _ _ _ _ asked
+          (done_by_one _ _ _ _ _ _ member c.requires.there c.swap_image.ensures.outside))
+          c.swap_image.ensures.journal_ok;
       off = λ _. c.swap_image.ensures.off;
       ends = c.swap_image.ensures.ends;
     }

@@ -7,6 +7,7 @@ use Rattle.std.proofs.lemmas.Bool.{false≢true}
 use Rattle.trailer.proofs.FailedCalls.{refuses_failed}
 use Rattle.swap_scratch.proofs.Members.{begun, on_further}
 use Rattle.swap_scratch.proofs.Sums.{sum_none, sum_more, share_same, counts_are}
+use Rattle.swap_scratch.proofs.Asking.{asks_none, asks_trans, asks_wider}
 use Rattle.swap_scratch.proofs.Contents.{swapped_one}
 use Rattle.flash_model.specs.Chip.{Chip}
 use Rattle.sector_map.specs.declared.layout.SectorMap.{SectorMap}
@@ -32,6 +33,8 @@ loop-image-init g c = record {
   counted = λ i lt in_mask. absurd (omega arith);
   place = λ counts x y at. begun _ _ _ _ counts x y at;
   erases = λ counts x y at. omega (arith, sum_none);
+  forward = omega arith;
+  journal = asks_none _ _ _;
   uncut = uncut_refl _;
   asleep = λ off. refl;
   on = λ i lt in_mask. absurd (omega arith);
@@ -47,7 +50,10 @@ returns-in_err-swap_member g c =
       resumes = λ x y at. c.swap_member.ensures.resumes at.counts x y (kept.place at.counts x y at.place);
       swapped = at_error _ _ c.from_residual.ensures.0;
       counted = at_error _ _ c.from_residual.ensures.0;
+      forward = omega (arith, kept.forward, c.swap_member.ensures.forward);
       erases = at_error _ _ c.from_residual.ensures.0;
+      journal = asks_trans _ _ _ _ _ _ _ kept.journal c.swap_member.ensures.journal;
+      journal_ok = at_error _ _ c.from_residual.ensures.0;
       off = λ i member. refuses_failed _ _ _ c.from_residual.ensures.0
           (ends_after _ _ _ _ kept.uncut kept.asleep
           (ends_passed _ _ _ _ c.from_residual.ensures.1 c.in_err-swap_member.ensures.ends));
@@ -73,6 +79,8 @@ loop-image-preserved g c =
         share_same _ c.args.side c.args.mask c.loop-image.image _ _ c.requires.images.laid_out kept.laid_out kept.rest
             (omega arith),
       );
+      forward = omega (arith, kept.forward, c.swap_member.ensures.forward);
+      journal = asks_trans _ _ _ _ _ _ _ kept.journal c.in_ok-swap_member.ensures.journal_ok;
       uncut = uncut_trans _ _ _ kept.uncut c.in_ok-swap_member.ensures.ends.uncut;
       asleep = asleep_trans _ _ _ kept.uncut kept.asleep c.swap_member.ensures.ends.asleep;
       on = on_further _ _ _ _ _ kept.uncut.on c.in_ok-swap_member.ensures.off kept.on;
@@ -102,6 +110,9 @@ returns g c =
           ≡ (g.F.Flash.chip c.args.flash.now).erases
           + sum_over c.args.mask (λ i. steps_of c.args.map.now (g.F.Flash.chip c.args.flash.now) c.args.side i) n)
           all (kept.erases at.counts x y at.place);
+      forward = kept.forward;
+      journal = asks_wider _ _ _ _ _ kept.journal;
+      journal_ok = kept.journal;
       off = λ i member off.
           let lt = c.requires.images.within i member in
           absurd (false≢true (sym off ∙ kept.on i (omega arith) member));
