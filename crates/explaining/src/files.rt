@@ -8,9 +8,7 @@ use crate::scripts::explain_place;
 use command_line::{DeviceOrder, Order};
 use host::{Host, Source, SourceFault, SourceRefusal};
 use std::alloc::AllocError;
-
-/// The system's error number (`EBADF`) for a write to a file that is open only for reading.
-const BAD_FILE: i32 = 9;
+use std::io::ErrorKind;
 
 /// Adds why a source is refused: the system's reason, the first script line that names a file which
 /// can't be read, how to replace a file that isn't an image, why a requested file is no image, and
@@ -33,6 +31,9 @@ pub fn explain_source<H: Host>(
             Order::Plan(_) => explain_bytes(notes, host.bytes_of(Some(source))),
             _ => explain_names(notes, order, source),
         },
+        SourceFault::NoPicture => {
+            writeln!(notes, "note: `--force` replaces {source} by the picture")
+        }
         SourceFault::CannotMerge(line) => match order {
             Order::Plan(_) => explain_summary(notes, host.bytes_of(Some(source)), line),
             _ => explain_output(notes, host.bytes_of(Some(source)), line),
@@ -108,11 +109,13 @@ pub fn explain_flash<H: Host>(
     }
 }
 
-/// Whether the system's last error is that a file is open only for reading. A flash that can't be
-/// opened for writing is opened so.
+/// Whether the system's last error is that a file may only be read.
 fn is_read_only<H: Host>(host: &Remembering<H>) -> bool {
     match host.error.get() {
-        Some(error) => error.raw_os_error() == Some(BAD_FILE),
+        Some(error) => matches!(
+            error.kind(),
+            ErrorKind::PermissionDenied | ErrorKind::ReadOnlyFilesystem
+        ),
         None => false,
     }
 }

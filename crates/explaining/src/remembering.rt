@@ -40,7 +40,9 @@ impl<H: Host> Remembering<H> {
     /// Remembers why the file of this name can't be opened or replaced.
     fn remember_fault(&self, name: &str, fault: FlashFault) {
         match fault {
-            FlashFault::Failed(error) => self.error.set(Some(error)),
+            FlashFault::OnlyReadable(error) | FlashFault::Failed(error) => {
+                self.error.set(Some(error));
+            }
             FlashFault::WrongLength => self.remember_length(name),
             FlashFault::InUse | FlashFault::NoMemory => {}
         }
@@ -134,7 +136,11 @@ impl<H: Host> Host for Remembering<H> {
     }
 
     fn length_of(&self, name: &str) -> io::Result<u64> {
-        self.host.length_of(name)
+        let length = self.host.length_of(name);
+        if let Ok(count) = &length {
+            self.length.set(Some(*count));
+        }
+        length
     }
 
     fn is_same_file(&self, one: &str, other: &str) -> io::Result<bool> {
@@ -155,6 +161,19 @@ impl<H: Host> Host for Remembering<H> {
             self.error.set(Some(*error));
         }
         checked
+    }
+
+    fn hold_output(
+        &mut self,
+        alloc: Global,
+        name: &str,
+        replaced: Replaced,
+    ) -> Result<(), FlashFault> {
+        let held = self.host.hold_output(alloc, name, replaced);
+        if let Err(fault) = &held {
+            self.remember_fault(name, *fault);
+        }
+        held
     }
 
     fn open_flash(

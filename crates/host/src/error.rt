@@ -115,6 +115,8 @@ pub enum SourceFault {
     CannotReplace,
     /// It was to hold an image and holds none. It is unchanged.
     NoImage,
+    /// It was to be replaced by a picture and holds something else. It is unchanged.
+    NoPicture,
     /// It holds no summary, or no output of a sweep, that can be merged with those before it. The
     /// number is that of the first line, from 1, that can't be.
     CannotMerge(usize),
@@ -128,6 +130,7 @@ impl fmt::Display for SourceRefusal {
             SourceFault::TooLong(most) => write!(f, "{source} is longer than {most} bytes"),
             SourceFault::CannotReplace => write!(f, "cannot write {source}"),
             SourceFault::NoImage => write!(f, "{source} is no image"),
+            SourceFault::NoPicture => write!(f, "{source} is no picture"),
             SourceFault::CannotMerge(line) => write!(f, "cannot merge {source} line {line}"),
         }
     }

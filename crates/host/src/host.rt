@@ -53,6 +53,8 @@ pub enum FlashFault {
     WrongLength,
     /// Memory ran out.
     NoMemory,
+    /// It was to be opened for writing, and can only be read, for this reason.
+    OnlyReadable(io::Error),
     /// The system could not open, lock, read, make, replace or write it, for this reason.
     Failed(io::Error),
 }
@@ -139,9 +141,13 @@ pub trait Host {
         ensures missing { IfErr result (λ error. error_kind error ≡ NotFound
             → file self.now name.now ≡ None) };
 
-    /// Returns the length in bytes of the file of this name, a plain one or a block device. It is
-    /// printed in the notes about a file of a wrong length, and no answer depends on it.
-    fn length_of(&self, name: &str) -> io::Result<u64>;
+    /// Returns the length in bytes of the file of this name, a plain one or a block device. An error
+    /// of kind `NotFound` means that there is no such file.
+    fn length_of(&self, name: &str) -> io::Result<u64>
+        ensures length { IfOk result (λ count.
+            IfSome (file self.now name.now) (λ held. length held ≡ count)) }
+        ensures missing { IfErr result (λ error. error_kind error ≡ NotFound
+            → file self.now name.now ≡ None) };
 
     /// Returns whether two names are of one existing file, which may have several names.
     fn is_same_file(&self, one: &str, other: &str) -> io::Result<bool>
@@ -152,8 +158,24 @@ pub trait Host {
     fn is_input(&self, name: &str) -> io::Result<bool>;
 
     /// Returns an error if it is known that no plain file of this name can be made or replaced. No
-    /// file changes. A command that works for minutes calls this first.
+    /// file changes.
     fn check_replaceable(&self, alloc: Global, name: &str) -> Result<(), FlashFault>;
+
+    /// Looks up a file of this name that is to be made or replaced, and locks a plain one. No file
+    /// changes. `replaced` is as for [`Host::replace_file`].
+    ///
+    /// Until the file is replaced or another one is looked up, this name means what was found, if
+    /// other files take the name meanwhile: for `is_same_file` and `is_input`, `is_plain`,
+    /// `length_of`, `read_again` and `replace_file`. After an error it means what it did before.
+    fn hold_output(
+        &mut self,
+        alloc: Global,
+        name: &str,
+        replaced: Replaced,
+    ) -> Result<(), FlashFault>
+        ensures files { KeepsFiles (file self.old) (file self.new) }
+        ensures input { Keeps (input self.old) (input self.new) }
+        ensures opened { opened self.new ≡ opened self.old };
 
     /// Opens the file of this name, which is that of a flash of `length` bytes, and returns its
     /// bytes in memory of `alloc`. The file stays locked until the host is dropped or opens another

@@ -76,7 +76,8 @@ fn tell_map<O: Write>(alloc: Global, fault: MapError, out: &mut O) -> Result<(),
 /// - `FlashSize` if the flash doesn't have exactly that number of bytes;
 /// - `FlashInUse` if another program uses the file;
 /// - `OfSource` if it can't be opened or read;
-/// - `FlashFile` if the sync for [`Access::WriteDurably`] failed;
+/// - `FlashFile` if it can be read, and not be opened for the writes that `access` allows; or if the
+///   sync for [`Access::WriteDurably`] failed;
 /// - `NoMemory` if memory ran out.
 pub fn read_flash<H: Host>(
     alloc: Global,
@@ -129,6 +130,7 @@ fn open_flash<H: Host>(
             FlashFault::InUse => Refusal::FlashInUse,
             FlashFault::WrongLength => Refusal::FlashSize,
             FlashFault::NoMemory => Refusal::NoMemory,
+            FlashFault::OnlyReadable(_) => Refusal::FlashFile,
             FlashFault::Failed(_) => Source::File(name).refused(alloc, SourceFault::CannotRead),
         })
 }

@@ -40,8 +40,7 @@ pub struct HeldFile {
 }
 
 /// Opens the file of this name for `access` and locks it. It must be a plain file or a block device
-/// of `length` bytes. If it is opened for writing and can't be written, it is opened all the same,
-/// and each write fails.
+/// of `length` bytes.
 ///
 /// The lock is that of the complete file (`flock`), which other runs of this program respect. It is
 /// shared for reading, and exclusive for writing. A block device is locked by its number too.
@@ -50,6 +49,7 @@ pub struct HeldFile {
 /// - `InUse` if another program holds the lock or has replaced the file. The same if the system uses
 ///   a block device that is to be written.
 /// - `WrongLength` if the file doesn't have `length` bytes.
+/// - `OnlyReadable` if it is to be opened for writing, and can only be opened for reading.
 /// - `NoMemory` if memory ran out.
 /// - `Failed` if the system could not open, lock or measure it, or could not open its folder.
 pub fn open<R: Files<File = File>>(
@@ -62,12 +62,17 @@ pub fn open<R: Files<File = File>>(
     ensures device { IfOk result (λ held. held.is_device ≡ true → held.is_durable ≡ true) }
     ensures asked { access ≡ Access.WriteDurably → IfOk result (λ held. held.is_durable ≡ true) }
 {
-    let (file, found) = open_plain(runtime, name, access).map_err(FlashFault::Failed)?;
+    let (file, found, only_readable) = open_plain(runtime, name, access).map_err(
+        FlashFault::Failed,
+    )?;
     hold(runtime, name, &file, access)?;
     let is_device = found.file_type().is_block_device();
     let by_number = hold_number(runtime, alloc, &found, access)?;
     if length_of(&file).map_err(FlashFault::Failed)? != length {
         return Err(FlashFault::WrongLength);
+    }
+    if let Some(error) = only_readable {
+        return Err(FlashFault::OnlyReadable(error));
     }
     let is_named_durably = !is_device && access == Access::WriteDurably;
     let folder = folder_of(runtime, alloc, name, is_named_durably)?;
@@ -148,20 +153,22 @@ fn most_of<R: Files>(runtime: &R, access: Access, is_device: bool) -> Option<u64
     }
 }
 
-/// Opens a file that can be locked, and returns its metadata. A pipe or another file that is no
+/// Opens a file that can be locked. Returns it, its metadata, and why it can't be written if it was
+/// to be opened for writing and could only be opened for reading. A pipe or another file that is no
 /// sequence of bytes is refused before it is opened, because opening it could block forever.
 fn open_plain<R: Files<File = File>>(
     runtime: &R,
     name: &str,
     access: Access,
-) -> io::Result<(File, Metadata)> {
+) -> io::Result<(File, Metadata, Option<io::Error>)> {
     refuse_others(&fs::metadata(runtime, name)?)?;
     // If a standard stream was closed when the program started, the file gets its number. Then a
     // write to that stream would go into the file. A clone has another number.
-    let file = open_for(runtime, name, access)?.try_clone()?;
+    let (file, only_readable) = open_for(runtime, name, access)?;
+    let file = file.try_clone()?;
     let found = file.metadata()?;
     refuse_others(&found)?;
-    Ok((file, found))
+    Ok((file, found, only_readable))
 }
 
 /// Refuses a file that is neither a plain file nor a block device.
@@ -175,17 +182,24 @@ fn refuse_others(found: &Metadata) -> io::Result<()> {
     Err(io::Error::other("neither a plain file nor a block device"))
 }
 
-/// Opens a file to be read, and to be written too if `access` asks for it and that is possible.
-fn open_for<R: Files<File = File>>(runtime: &R, name: &str, access: Access) -> io::Result<File> {
-    if access != Access::Read
-        && let Ok(file) = OpenOptions::new()
-            .read(true)
-            .write(true)
-            .open(runtime, name)
-    {
-        return Ok(file);
+/// Opens a file to be read, and to be written too if `access` asks for it. If that isn't possible,
+/// it is opened to be read, and the reason is returned too.
+fn open_for<R: Files<File = File>>(
+    runtime: &R,
+    name: &str,
+    access: Access,
+) -> io::Result<(File, Option<io::Error>)> {
+    if access == Access::Read {
+        return Ok((File::open(runtime, name)?, None));
     }
-    File::open(runtime, name)
+    match OpenOptions::new()
+        .read(true)
+        .write(true)
+        .open(runtime, name)
+    {
+        Ok(file) => Ok((file, None)),
+        Err(error) => Ok((File::open(runtime, name)?, Some(error))),
+    }
 }
 
 /// Opens the folder that a file of this name is in, after following links, if it is to be synced.
@@ -261,7 +275,7 @@ pub fn is_one_file(one: &Metadata, other: &Metadata) -> bool {
 
 /// Returns the length in bytes of the file of this name, which is a plain one or a block device.
 pub fn length_of_name<R: Files<File = File>>(runtime: &R, name: &str) -> io::Result<u64> {
-    let (file, _) = open_plain(runtime, name, Access::Read)?;
+    let (file, _, _) = open_plain(runtime, name, Access::Read)?;
     length_of(&file)
 }
 

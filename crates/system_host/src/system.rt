@@ -4,6 +4,7 @@ ghost use Rattle.std.specs.Prelude.{◌≡◌, IfOk, length};
 ghost use Rattle.system_host.specs.Streams.{stream_of};
 
 use crate::holding::HeldFile;
+use crate::replacing::HeldOutput;
 use crate::{file_reading, holding, replacing};
 use host::{Access, FilePart, FlashFault, Host, Replaced, Source};
 use std::alloc::Global;
@@ -27,6 +28,8 @@ pub struct SystemHost<'a, R: Files, I: Read> {
     input: I,
     is_watched: bool,
     flash: Option<HeldFile>,
+    /// The file that is to be made or replaced, if it was looked up.
+    output: Option<HeldOutput>,
     /// The file that is the stream. Without one, standard input is.
     stream: Option<File>,
 }
@@ -40,7 +43,17 @@ impl<'a, R: Files, I: Read> SystemHost<'a, R, I> {
             input,
             is_watched,
             flash: None,
+            output: None,
             stream: None,
+        }
+    }
+
+    /// Returns what was found where a file of this name is to be made or replaced, if it was looked
+    /// up.
+    fn output_of(&self, name: &str) -> Option<&HeldOutput> {
+        match &self.output {
+            Some(held) if held.is_of(name) => Some(held),
+            _ => None,
         }
     }
 }
@@ -74,7 +87,10 @@ impl<R: Files<File = File> + Clock + RandomSource, I: Read> Host for SystemHost<
     }
 
     fn read_again(&self, alloc: Global, name: &str, most: u32) -> io::Result<Vec<u8>> {
-        file_reading::read_start(self.runtime, alloc, name, most)
+        match self.output_of(name) {
+            Some(held) => held.read_start(alloc, most),
+            None => file_reading::read_start(self.runtime, alloc, name, most),
+        }
     }
 
     fn read_part(&self, alloc: Global, name: &str, part: FilePart) -> io::Result<Option<Vec<u8>>> {
@@ -82,23 +98,43 @@ impl<R: Files<File = File> + Clock + RandomSource, I: Read> Host for SystemHost<
     }
 
     fn is_plain(&self, name: &str) -> io::Result<bool> {
-        file_reading::is_plain(self.runtime, name)
+        match self.output_of(name) {
+            Some(held) => held.is_plain(),
+            None => file_reading::is_plain(self.runtime, name),
+        }
     }
 
     fn length_of(&self, name: &str) -> io::Result<u64> {
-        holding::length_of_name(self.runtime, name)
+        match self.output_of(name) {
+            Some(held) => held.length(self.runtime),
+            None => holding::length_of_name(self.runtime, name),
+        }
     }
 
     fn is_same_file(&self, one: &str, other: &str) -> io::Result<bool> {
-        replacing::is_same_file(self.runtime, one, other)
+        match self.output_of(other) {
+            Some(held) => held.is_file(self.runtime, one),
+            None => replacing::is_same_file(self.runtime, one, other),
+        }
     }
 
     fn is_input(&self, name: &str) -> io::Result<bool> {
-        replacing::is_same_file(self.runtime, INPUT, name)
+        self.is_same_file(INPUT, name)
     }
 
     fn check_replaceable(&self, alloc: Global, name: &str) -> Result<(), FlashFault> {
         replacing::check_replaceable(self.runtime, alloc, name)
+    }
+
+    fn hold_output(
+        &mut self,
+        alloc: Global,
+        name: &str,
+        replaced: Replaced,
+    ) -> Result<(), FlashFault> {
+        self.output = None;
+        self.output = Some(replacing::hold(self.runtime, alloc, name, replaced)?);
+        Ok(())
     }
 
     fn open_flash(
@@ -135,7 +171,11 @@ impl<R: Files<File = File> + Clock + RandomSource, I: Read> Host for SystemHost<
         bytes: &[u8],
         replaced: Replaced,
     ) -> Result<(), FlashFault> {
-        replacing::replace_file(self.runtime, alloc, name, bytes, replaced)
+        let held = match self.output.take() {
+            Some(held) if held.is_of(name) => held,
+            _ => replacing::hold(self.runtime, alloc, name, replaced)?,
+        };
+        held.replace(self.runtime, alloc, bytes)
     }
 
     fn watched_seconds(&self) -> Option<u64> {
