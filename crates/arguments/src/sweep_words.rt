@@ -58,6 +58,7 @@ fn merge_in<'a>(alloc: Global, names: &ArgMatches<'a>) -> Result<Option<Order<'a
     Ok(Some(Order::MergeSweeps {
         outputs: outputs.to_vec(alloc)?,
         picture: name_in(names, named::SVG),
+        forced: is_given(names, named::FORCE),
     }))
 }
 
@@ -93,6 +94,7 @@ fn sweep_choices_in<'a>(names: &ArgMatches<'a>) -> Option<SweepChoices<'a>>
         seed,
         part,
         picture: name_in(names, named::SVG),
+        is_forced: is_given(names, named::FORCE),
     })
 }
 

@@ -115,7 +115,8 @@ rules_of sub.MakeManifest =
     ∷ one_option (codes "precursor") false ∷ options (codes "test")
     ∷ options (codes "permanent") ∷ one_flag (codes "strict") ∷ []
 rules_of sub.Provision =
-    one_name (codes "DEVICE") ∷ one_name (codes "FLASH") ∷ all_names (codes "IMAGE") ∷ []
+    one_name (codes "DEVICE") ∷ one_name (codes "FLASH") ∷ all_names (codes "IMAGE")
+    ∷ one_flag (codes "force") ∷ []
 rules_of sub.Extract =
     one_name (codes "DEVICE") ∷ one_name (codes "FLASH") ∷ one_name (codes "IMAGE")
     ∷ one_name (codes "SIDE") ∷ one_name (codes "OUT") ∷ one_flag (codes "force") ∷ []
@@ -129,7 +130,8 @@ rules_of sub.Run =
 rules_of sub.Sweep =
     all_names (codes "FILE") ∷ one_flag (codes "merge") ∷ one_flag (codes "twice")
     ∷ one_option (codes "sample") false ∷ one_option (codes "seed") false
-    ∷ one_option (codes "part") false ∷ one_option (codes "svg") false ∷ one_flag (codes "json") ∷ []
+    ∷ one_option (codes "part") false ∷ one_option (codes "svg") false
+    ∷ one_flag (codes "force") ∷ one_flag (codes "json") ∷ []
 rules_of sub.Codes = one_flag (codes "json") ∷ []
 
 -- The options that each subcommand has.

@@ -46,7 +46,7 @@ subcommand_for (MakeManifest device manifest) = sub.MakeManifest
 subcommand_for (Device order) = of_device.subcommand_for order
 subcommand_for (Extract device flash image side out) = sub.Extract
 subcommand_for (Sweep device script images choices) = sub.Sweep
-subcommand_for (MergeSweeps outputs picture) = sub.Sweep
+subcommand_for (MergeSweeps outputs picture forced) = sub.Sweep
 
 -- A word is this number: it has only digits, and is below 2 ^ 32.
 abbrev pub IsNumber : Text → ℕ → Type 0
@@ -183,6 +183,7 @@ pub record SaysSweep (rows : List Row) (choices : SweepChoices) : Type 0 where
   pub seed : HasNumber (codes "seed") (2 ^ 32) rows choices.seed
   pub part : HasSweepPart rows choices.part
   pub picture : HasPicture rows choices.picture
+  pub forced : choices.is_forced ≡ is_given (codes "force") rows
 
 -- The matches name the files of a sweep: the device file, the script, and at least one image.
 pub record NamesSweep (rows : List Row) (device script : Text) (images : List Text) : Type 0 where
@@ -266,8 +267,9 @@ HasNames rows (Extract device flash image side out) =
 HasNames rows (Sweep device script images choices) =
     NamesSweep rows device.now script.now (map (λ image. image.now) images.items)
     × SaysSweep rows choices
-HasNames rows (MergeSweeps outputs picture) =
+HasNames rows (MergeSweeps outputs picture forced) =
     NamesOutputs rows (map (λ output. output.now) outputs.items) × HasPicture rows picture
+    × (forced ≡ is_given (codes "force") rows)
 
 -- A subcommand with these matches gives this order.
 abbrev pub Asks : Text → List Row → Order → Type 0
@@ -311,7 +313,7 @@ names_of (MakeManifest device manifest) = device ∷ files_of manifest
 names_of (Device order) = of_device.names_of order
 names_of (Extract device flash image side out) = device ∷ flash ∷ out.name ∷ []
 names_of (Sweep device script images choices) = device ∷ script ∷ images.items
-names_of (MergeSweeps outputs picture) = outputs.items
+names_of (MergeSweeps outputs picture forced) = outputs.items
 
 -- Whether the file that an order writes is standard input.
 abbrev pub writes_to_standard_input : Order → Bool
@@ -320,7 +322,7 @@ writes_to_standard_input (Device order) = of_device.writes_to_standard_input ord
 writes_to_standard_input (Extract device flash image side out) = is_standard_input out.name
 writes_to_standard_input (Sweep device script images choices) =
     option_map_or is_standard_input choices.picture false
-writes_to_standard_input (MergeSweeps outputs picture) =
+writes_to_standard_input (MergeSweeps outputs picture forced) =
     option_map_or is_standard_input picture false
 writes_to_standard_input _ = false
 

@@ -61,6 +61,10 @@ pub const NEW_IMAGE_FILE: &str = "The image file to make";
 
 pub const FORCE: &str = "Replace OUT even if it is no image";
 
+pub const FORCE_FLASH: &str = "Replace FLASH whatever it holds";
+
+pub const FORCE_PICTURE: &str = "Replace the picture's FILE whatever it holds";
+
 pub const BODY_FILE: &str = "The file of the body; `-` is standard input";
 
 pub const VERSION: OptionHelp = OptionHelp("VERSION", "Version of the image, such as 1.4.2+7");

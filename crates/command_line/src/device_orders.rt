@@ -33,6 +33,8 @@ pub enum DeviceOrder<'a> {
         flash: &'a str,
         /// The names of the images, in their order.
         images: Vec<&'a str>,
+        /// Whether the flash file is replaced whatever it holds.
+        forced: bool,
     },
     /// `run`: runs a script on a device.
     Run {
@@ -90,6 +92,7 @@ impl DeviceOrder<'_> {
                 device,
                 flash,
                 images,
+                ..
             } => inputs_with(device, flash, images.as_slice()) > 1,
             DeviceOrder::Run {
                 device,
@@ -197,6 +200,7 @@ fn provision_of<'a>(names: &ArgMatches<'a>, images: Option<Vec<&'a str>>) -> Opt
         device: name_in(names, named::DEVICE)?,
         flash: name_in(names, named::FLASH)?,
         images: images?,
+        forced: is_given(names, named::FORCE),
     })
 }
 

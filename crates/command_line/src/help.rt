@@ -238,8 +238,8 @@ to 4294967295. It, `--header-size` and `--flags` may be typed 4096, 0x1000 or
 4k; `k` and `K` are 1024, `M` is 1024 k. The image isn't signed.
 
 OUT comes before BODY, unlike in `cp` and `imgtool`. The command replaces OUT if
-it is an image or empty, once the new image is complete. It replaces another
-file only with `--force`, and never BODY.
+it is one intact image or empty, once the new image is complete. It replaces
+another file, such as a flash, only with `--force`, and never BODY.
 
 If no image can have these values, the command prints `refused CODE NAME`:
   refused 1 BadHeaderSize        the header has at least 32 bytes
@@ -254,9 +254,9 @@ See `bootswap make-image --help` for the values of an image.",
   0  OUT is made, and `done` is printed
   1  the values are refused, and the refusal is printed; or standard error has a
      line `error: ..`: `image is an input` if OUT is BODY, `NAME is no image` if
-     OUT is another file than an image and `--force` isn't given, `image in use`
-     if another program holds OUT, `cannot read NAME`, `cannot write NAME` if
-     OUT could not be made or replaced, or `memory`; or the answer could not be
+     OUT isn't one intact image and `--force` isn't given, `image in use` if
+     another program holds OUT, `cannot read NAME`, `cannot write NAME` if OUT
+     could not be made or replaced, or `memory`; or the answer could not be
      written
   2  usage error, also for a value that is no number, version or dependency
 
@@ -297,9 +297,11 @@ for a test, all are tried, also those requested permanently, and also those that
 don't depend on it. All revert unless each is confirmed.
 
 A line `note: ..` on standard error names a file that the device will not take,
-since it is no intact image or is longer than its slot, and says if the manifest
-has files of both kinds. The manifest is made nevertheless. With `--strict` the
-exit status is 1 if there is a note.
+since it is no intact image or is longer than its slot, and one that needs the
+image that it is for, as two files do that changed places. Further notes say if
+the manifest has files of both kinds, and if the device of FLASH accepted a
+higher sequence number or is on trial. The manifest is made nevertheless. With
+`--strict` the exit status is 1 if there is a note.
 
 Refusals:
   refused 6 NoComponent               the device has no such image
@@ -332,9 +334,10 @@ pub const PROVISION: &Help = &Help {
 length of the device's flash, filled with 0xFF, and each IMAGE at the start of
 its primary slot, the first for image 0. The trailers are empty, and the log has
 the security counters of the images as floors. An existing file FLASH is
-replaced once the new flash is complete. FLASH can't be one of the input files.
-A block device of the flash's length is written in place. When `done` is
-printed, everything is on the disk.
+replaced, once the new flash is complete, if it is empty, erased (each byte is
+0xFF) or as long as the flash. The command replaces another file only with
+`--force`, and never an input file. A block device of the flash's length is
+written in place. When `done` is printed, everything is on the disk.
 
 IMAGE is an intact image of MCUboot's format that isn't longer than its slot, as
 `bootswap image` checks it. There is one for each image of the device, and each
@@ -365,8 +368,9 @@ See `bootswap provision --help` for the contents of the files.",
      longer than its slot, `flash is an input` if FLASH is one of the input
      files, `flash in use` if another program holds FLASH or makes it meanwhile,
      or if it is a block device that is mounted, swapped to or held,
-     `flash size` if it is a block device of another length, `cannot read NAME`,
-     or `memory`; or the answer could not be written
+     `flash size` if it is a block device of another length, or a file of
+     another length that isn't erased and `--force` isn't given,
+     `cannot read NAME`, or `memory`; or the answer could not be written
   2  usage error
   4  standard error has the line `error: flash file`: FLASH could not be made,
      replaced or written; or it was, and its folder could not be synced
@@ -390,9 +394,9 @@ an upload writes. Print `done`:
   bootswap extract device.json flash.bin 0 primary running.img
 
 OUT gets the image alone, byte for byte, and nothing of what follows it in the
-slot. FLASH is only read. The command replaces OUT if it is an image or empty,
-once the copy is complete. It replaces another file only with `--force`, and
-never an input file.
+slot. FLASH is only read. The command replaces OUT if it is one intact image or
+empty, once the copy is complete. It replaces another file only with `--force`,
+and never an input file.
 
 If the slot begins with no intact image, the command prints `refused CODE NAME`,
 as `bootswap image` does. If the sizes of the device make no map of its flash,
@@ -407,8 +411,8 @@ See `bootswap extract --help` for which files are replaced.",
      `no image 2` if the device has no image of this number, `flash size` if
      FLASH isn't as long as the device's flash, `flash in use` if another
      program writes to FLASH, `image is an input` if OUT is an input file,
-     `NAME is no image` if OUT is another file than an image and `--force` isn't
-     given, `image in use` if another program holds OUT, `cannot read NAME`,
+     `NAME is no image` if OUT isn't one intact image and `--force` isn't given,
+     `image in use` if another program holds OUT, `cannot read NAME`,
      `cannot write NAME` if OUT could not be made or replaced, or `memory`; or
      the answer could not be written
   2  usage error
@@ -565,9 +569,10 @@ See `bootswap run --help` for the lines of a script.",
      written
   2  usage error
   3  the last reply is `cut`
-  4  standard error has the line `error: flash file`, however the run ended: a
-     write of FLASH failed, which is a power cut to the device; or FLASH was
-     removed or replaced, or its length changed
+  4  standard error has the line `error: flash file`: FLASH can't be opened for
+     writing, and nothing was run; or, however the run ended, a write of FLASH
+     failed, which is a power cut to the device; or FLASH was removed or
+     replaced, or its length changed
 
 Examples:
   bootswap run device.json flash.bin script.txt
@@ -583,7 +588,7 @@ pub const SWEEP: &Help = &Help {
 script on it as `run` does: once for each write of its flash and each way to
 tear that write. After the cut the device boots until a boot isn't cut, and the
 script continues. No flash file is changed. The script has no lines `cut`. If
-standard error is a terminal, it shows the progress.
+standard error is a terminal, it shows the progress and the sums so far.
 
 The command prints a line for each event, with a character for each of its
 writes: what the next boot answered if that write was cut. So it shows from
@@ -611,7 +616,9 @@ script can end if power fails before or after the event, or if the event is left
 out. `refused COUNT cut WRITE TORN` counts runs in which a boot gave no answer.
 
 `--twice` also cuts each write of the boot after a cut. `--sample N` tries N
-random cuts instead of all, for a long script. `--svg FILE` draws the output.
+random cuts instead of all, for a long script. `--svg FILE` draws the output. It
+replaces FILE if that is such a picture or empty, and with `--force` any file
+but an input.
 
 `--part K/N` makes the share K of N of the runs, so that N processes can share a
 sweep. The run without a cut counts in part 1. `--merge` reads the outputs of
@@ -626,7 +633,8 @@ See `bootswap sweep --help` for what is printed.",
      sizes of the device are refused, as by `provision`; or standard error has a
      line `error: ..`: `device file`, `image count`, `image 1 too big`,
      `script line 1` for the first wrong line, `picture is an input` if FILE is
-     an input file or one that the script names, `cannot write NAME` if it can't
+     an input file or one that the script names, `NAME is no picture` if it is
+     something else and `--force` isn't given, `cannot write NAME` if it can't
      be made, `cannot read NAME`, `cannot merge NAME line 3` for the first line
      of an OUTPUT that is wrong or doesn't fit those before it, or `memory`; or
      the output could not be written

@@ -93,6 +93,8 @@ pub struct SweepChoices<'a> {
     pub part: Option<SweepPart>,
     /// The name of the picture to make, if it is given.
     pub picture: Option<&'a str>,
+    /// Whether the picture's file is replaced whatever it holds.
+    pub is_forced: bool,
 }
 
 /// A file whose image is requested of each device of a fleet.
@@ -183,6 +185,8 @@ pub enum Order<'a> {
         outputs: Vec<&'a str>,
         /// The name of the picture to make, if it is given.
         picture: Option<&'a str>,
+        /// Whether the picture's file is replaced whatever it holds.
+        forced: bool,
     },
 }
 

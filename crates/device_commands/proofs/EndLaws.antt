@@ -1,5 +1,6 @@
 -- The answers of `provision` and `run`, from what was read in turn and what was written.
-use Rattle.std.proofs.Common.{◌≡◌, ℕ, Bool, List, [], ◌∷◌, Option, Result, Ok, Err, IfErr, IfOk, ap, arith, inl, refl, subst}
+use Rattle.std.proofs.Common.{◌≡◌, ◌⊎◌, ℕ, Bool, List, [], ◌∷◌, None, Option, Result, Some, Ok, Err, IfErr, IfOk, ap, arith, inl, inr, length, refl, subst, true}
+use Rattle.std.specs.Io.KnownBytes.{Keeps}
 use Rattle.std.specs.Borrow.{Bor}
 use Rattle.host.specs.declared.answer.Answer.{Answer}
 use Rattle.host.specs.declared.answer.Answer.TheVariants.{Done, Refused, Cut}
@@ -8,6 +9,9 @@ use Rattle.flash_model.specs.declared.torn.Armed.{Armed}
 use Rattle.host.specs.declared.error.Refusal.{Refusal}
 use Rattle.host.specs.declared.error.Refusal.TheVariants as no
 use Rattle.machine.specs.declared.error.Fault.{Fault}
+use Rattle.flash_model.specs.Units.{are_erased}
+use Rattle.sector_map.specs.declared.layout.SectorMap.{SectorMap}
+use Rattle.device_commands.specs.declared.provision.NewFlash.{NewFlash}
 use Rattle.device_commands.specs.declared.provision.Provisioned.{Provisioned}
 use Rattle.device_commands.specs.declared.provision.Provisioned.TheVariants as made
 use Rattle.device_texts.specs.declared.device.DeviceFile.{DeviceFile}
@@ -16,7 +20,7 @@ use Rattle.host.specs.declared.source.Source.TheVariants as source
 use Rattle.device_texts.specs.FlashOf.{IsFlashOf}
 use Rattle.inputs.specs.DeviceInput.{GivesDevice}
 use Rattle.host.specs.Input.{FileBytes, Gives, KeepsFiles, KeepsOthers}
-use Rattle.device_commands.specs.ProvisionEnd.{AnswersMade, AnswersProvision, EndsMade, MakesDevice, ReadsImages}
+use Rattle.device_commands.specs.ProvisionEnd.{AnswersMade, AnswersProvision, EndsMade, MakesDevice, MayReplace, ReadsImages}
 use Rattle.device_commands.specs.RunEnd.{AnswersRun, Plays, RunsDevice}
 use Rattle.inputs.specs.Script.{IsScript, Known, StaysKnown, known_after}
 use Rattle.host.specs.Status.{EndsUnmade, status_of_answer}
@@ -30,26 +34,43 @@ not_cut made.Done old new answered =
 not_cut (made.Refused fault) old new answered =
     let same : 3 ≡ 1 = ap status_of_answer answered.0 in omega (arith, same)
 
-AnswersProvision-made : (answer : Answer) (device : Source) (names : List (List ℕ))
+AnswersProvision-made : (answer : Answer) (flash : NewFlash) (device : Source) (names : List (List ℕ))
     (input : Option (List ℕ)) (file : FileBytes) (held old new : Option (List ℕ))
-    → MakesDevice answer device names input file held old new
-    → AnswersProvision answer device names input file held old new
-AnswersProvision-made Done device names input file held old new makes = makes
-AnswersProvision-made Refused device names input file held old new makes = inl makes
-AnswersProvision-made Cut device names input file held old new makes =
+    → MakesDevice answer flash device names input file held old new
+    → AnswersProvision answer flash device names input file held old new
+AnswersProvision-made Done flash device names input file held old new makes = makes
+AnswersProvision-made Refused flash device names input file held old new makes = inl makes
+AnswersProvision-made Cut flash device names input file held old new makes =
     absurd (not_cut makes.outcome old new makes.answered)
 
+may_replace_before : (forced : Bool) (long : ℕ) (old new : Option (List ℕ)) → Keeps old new
+    → MayReplace forced long new → MayReplace forced long old
+may_replace_before forced long None new kept may = inr tt
+may_replace_before forced long (Some xs) None kept may = absurd kept
+may_replace_before forced long (Some xs) (Some ys) kept (inl is) = inl is
+may_replace_before forced long (Some xs) (Some ys) kept (inr holds) =
+    inr (subst (λ held. (are_erased held ≡ true) ⊎ (length held ≡ long)) kept holds)
+
+-- A file that may be replaced after all files were kept could be replaced before.
+ends_before : (made : Provisioned) (map : SectorMap) (bytes : List ℕ) (forced : Bool)
+    (was mid held : Option (List ℕ)) → Keeps was mid → EndsMade made map bytes forced mid held
+    → EndsMade made map bytes forced was held
+ends_before made.Done map bytes forced was mid held kept ends =
+    (ends.0, ends.1, ends.2, may_replace_before forced _ was mid kept ends.3)
+ends_before (made.Refused fault) map bytes forced was mid held kept ends = ends
+
 -- `provision` read a device file and then its images.
-pub AnswersProvision-read : (answer : Answer) (device : Source) (names : List (List ℕ))
-    (input mid_input : Option (List ℕ)) (file mid_file : FileBytes)
+pub AnswersProvision-read : (answer : Answer) (flash : NewFlash) (device : Source) (names : List (List ℕ))
+    (input mid_input : Option (List ℕ)) (file mid_file last_file : FileBytes)
     (held old mid new : Option (List ℕ)) (of_device : DeviceFile) (bytes : List ℕ) (made : Provisioned)
     → GivesDevice device input file of_device → KeepsOthers device input file mid_input mid_file
-    → ReadsImages of_device.map names mid_input mid_file bytes → EndsMade made of_device.map bytes held
+    → ReadsImages of_device.map names mid_input mid_file bytes → KeepsFiles file last_file
+    → EndsMade made of_device.map bytes flash.is_forced (last_file flash.name.now) held
     → mid ≡ old → AnswersMade answer made mid new
-    → AnswersProvision answer device names input file held old new
-AnswersProvision-read answer device names input mid_input file mid_file held old mid new of_device bytes made
-    given kept read ends same answered =
-    AnswersProvision-made answer device names input file held old new (record {
+    → AnswersProvision answer flash device names input file held old new
+AnswersProvision-read answer flash device names input mid_input file mid_file last_file held old mid new of_device bytes
+    made given kept read files_kept ends same answered =
+    AnswersProvision-made answer flash device names input file held old new (record {
       device_bytes = given.0;
       of_device = of_device;
       sources = read.0;
@@ -59,7 +80,9 @@ AnswersProvision-read answer device names input mid_input file mid_file held old
       given = GiveEach-read device read.0 input mid_input file mid_file given.0 read.1 given.1 kept read.3;
       is_device = given.2;
       fit = read.4;
-      made = subst (λ all. EndsMade made of_device.map all held) read.5 ends;
+      made = subst (λ all. EndsMade made of_device.map all flash.is_forced (file flash.name.now) held) read.5
+          (ends_before made of_device.map bytes flash.is_forced (file flash.name.now) (last_file flash.name.now) held
+          (files_kept flash.name.now) ends);
       answered = subst (λ o. AnswersMade answer made o new) same answered;
     })
 

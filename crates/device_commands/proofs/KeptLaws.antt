@@ -5,6 +5,7 @@ use Rattle.std.specs.Io.KnownBytes.{Keeps}
 use Rattle.command_line.specs.declared.device_orders.DeviceOrder.{DeviceOrder}
 use Rattle.command_line.specs.declared.device_orders.DeviceOrder.TheVariants.{Provision, Run}
 use Rattle.host.specs.declared.answer.Answer.TheVariants.{Done}
+use Rattle.device_commands.specs.declared.provision.NewFlash.{NewFlash}
 use Rattle.device_commands.specs.declared.provision.Provisioned.{Provisioned}
 use Rattle.device_commands.specs.declared.provision.Provisioned.TheVariants as made
 use Rattle.host.specs.declared.source.Source.{Source}
@@ -22,11 +23,11 @@ AnswersMade-kept made.Done old mid new answered kept =
 AnswersMade-kept (made.Refused fault) old mid new answered kept =
     (answered.0, Appends-kept old mid new _ answered.1 kept)
 
-AnswersProvision-kept : (device : Source) (names : List (List ℕ)) (input : Option (List ℕ))
+AnswersProvision-kept : (flash : NewFlash) (device : Source) (names : List (List ℕ)) (input : Option (List ℕ))
     (file : FileBytes) (held old mid new : Option (List ℕ))
-    → AnswersProvision Done device names input file held old mid → Keeps mid new
-    → AnswersProvision Done device names input file held old new
-AnswersProvision-kept device names input file held old mid new answered kept = record {
+    → AnswersProvision Done flash device names input file held old mid → Keeps mid new
+    → AnswersProvision Done flash device names input file held old new
+AnswersProvision-kept flash device names input file held old mid new answered kept = record {
   device_bytes = answered.device_bytes;
   of_device = answered.of_device;
   sources = answered.sources;
@@ -70,10 +71,10 @@ pub AnswersCore-kept : (asked : DeviceOrder) (input : Option (List ℕ)) (file t
     (old mid new : Option (List ℕ))
     → AnswersCore Done asked input file then old mid → Keeps mid new
     → AnswersCore Done asked input file then old new
-AnswersCore-kept (Provision device flash images) input file then old mid new answered kept = (
+AnswersCore-kept (Provision device flash images forced) input file then old mid new answered kept = (
   answered.0,
   answered.1,
-  AnswersProvision-kept answered.0 (names_of images.items) input file (then flash.now) old mid new answered.2 kept,
+  AnswersProvision-kept (record { name = flash; is_forced = forced }) answered.0 (names_of images.items) input file (then flash.now) old mid new answered.2 kept,
 )
 AnswersCore-kept (Run device flash script durable strict) input file then old mid new answered kept = (
   answered.0,

@@ -21,16 +21,17 @@ access_for false = Write
 -- How an order that is done used its flash. A run opened it to be written, durably if `--durable` is
 -- given, and all that it wrote is on the medium.
 abbrev pub UsesFlash : DeviceOrder → Openings → Openings → Bool → Type 0
-UsesFlash (Provision device flash images) old new synced = Unit {0}
+UsesFlash (Provision device flash images forced) old new synced = Unit {0}
 UsesFlash (Run device flash script durable strict) old new synced =
     IsOpenedFor (access_for durable) old new × IsTrue synced
 
 -- The answer to an order of this command, and what the files hold after it.
 abbrev pub AnswersCore : Answer → DeviceOrder → Option (List ℕ) → FileBytes → FileBytes
     → Option (List ℕ) → Option (List ℕ) → Type 0
-AnswersCore answer (Provision device flash images) input file then old new =
+AnswersCore answer (Provision device flash images forced) input file then old new =
     (source : Source) × IsNamed device.now source
-    × AnswersProvision answer source (names_of images.items) input file (then flash.now) old new
+    × AnswersProvision answer (record { name = flash; is_forced = forced }) source
+    (names_of images.items) input file (then flash.now) old new
 AnswersCore answer (Run device flash script durable strict) input file then old new =
     (one other : Source) × AreNamed device.now script.now one other
     × AnswersRun strict answer one (source.File flash) other input file old new

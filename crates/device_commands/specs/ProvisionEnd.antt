@@ -1,5 +1,5 @@
 -- The result of `provision`.
-use Rattle.std.specs.Prelude.{◌≡◌, ◌≢◌, ◌⊎◌, Bool, IsTrue, ℕ, ◌+◌, ◌*◌, ◌≤◌, List, [], ◌∷◌, ◌++◌, length, replicate, slice_get, Option, Some, codes}
+use Rattle.std.specs.Prelude.{◌≡◌, ◌≢◌, ◌⊎◌, Bool, IfSome, IsTrue, ℕ, ◌+◌, ◌*◌, ◌≤◌, List, [], ◌∷◌, ◌++◌, length, replicate, slice_get, Option, Some, codes, true}
 use Rattle.std.specs.Borrow.{Bor}
 use Rattle.std.specs.Io.KnownBytes.{Appends, Keeps}
 use Rattle.std.specs.List.{AllZip}
@@ -12,6 +12,8 @@ use Rattle.sector_map.specs.Part.{Slot}
 use Rattle.boot_core.specs.Provisioned.{IsProvisioned, RefusesMaking}
 use Rattle.host.specs.declared.answer.Answer.{Answer}
 use Rattle.host.specs.declared.answer.Answer.TheVariants.{Done, Refused, Cut}
+use Rattle.flash_model.specs.Units.{are_erased}
+use Rattle.device_commands.specs.declared.provision.NewFlash.{NewFlash}
 use Rattle.device_commands.specs.declared.provision.Provisioned.{Provisioned}
 use Rattle.device_commands.specs.declared.provision.Provisioned.TheVariants as made
 use Rattle.device_texts.specs.declared.device.DeviceFile.{DeviceFile}
@@ -40,12 +42,23 @@ pub record FitSlots (map : SectorMap) (files : List (List ℕ)) : Type 0 where
   pub each : (i : ℕ) (file : List ℕ) → slice_get files i ≡ Some file
       → length file ≤ length_of map (Slot i Primary)
 
--- The result of provisioning the flash of these bytes, and what its file is known to hold after it.
--- Either the flash is a device's and the file holds it, or it is refused for this reason.
-abbrev pub EndsMade : Provisioned → SectorMap → List ℕ → Option (List ℕ) → Type 0
-EndsMade made.Done map bytes held =
+-- A file that is known to hold bytes is erased or has this length. An empty one is erased.
+abbrev pub HoldsFlash : ℕ → Option (List ℕ) → Type 0
+HoldsFlash long known = IfSome known (λ held. (are_erased held ≡ true) ⊎ (length held ≡ long))
+
+-- A file may be replaced by a flash of this length: it holds a flash, or `--force` is given.
+abbrev pub MayReplace : Bool → ℕ → Option (List ℕ) → Type 0
+MayReplace forced long known = (forced ≡ true) ⊎ HoldsFlash long known
+
+-- The result of provisioning the flash of these bytes, and what its file is known to hold before and
+-- after it. Either the flash is a device's, and the file may be replaced and holds it; or the flash
+-- is refused for this reason.
+abbrev pub EndsMade : Provisioned → SectorMap → List ℕ → Bool → Option (List ℕ)
+    → Option (List ℕ) → Type 0
+EndsMade made.Done map bytes forced was held =
     (new : Chip) × IsProvisioned map (flash_of map bytes) new × IsKnownAs held new.bytes
-EndsMade (made.Refused fault) map bytes held =
+    × MayReplace forced (length new.bytes) was
+EndsMade (made.Refused fault) map bytes forced was held =
     (new : Chip) × RefusesMaking map (flash_of map bytes) new fault
 
 -- Each file that these arguments name is apart from another.
@@ -78,8 +91,9 @@ ReadsImages map names input files bytes =
 -- `provision` read a device file and the images that these arguments name, and made their flash. It
 -- provisioned the flash, which its file holds then, or found why the flash is refused. It wrote
 -- which.
-pub record MakesDevice (answer : Answer) (device : Source) (names : List (List ℕ))
-    (input : Option (List ℕ)) (files : FileBytes) (held old new : Option (List ℕ)) : Type 0 where
+pub record MakesDevice (answer : Answer) (flash : NewFlash) (device : Source)
+    (names : List (List ℕ)) (input : Option (List ℕ)) (files : FileBytes)
+    (held old new : Option (List ℕ)) : Type 0 where
   pub device_bytes : List ℕ
   pub of_device : DeviceFile
   pub sources : List Source
@@ -89,16 +103,17 @@ pub record MakesDevice (answer : Answer) (device : Source) (names : List (List �
   pub given : GiveEach (device ∷ sources) input files (device_bytes ∷ contents)
   pub is_device : IsDeviceFile device_bytes of_device
   pub fit : FitSlots of_device.map contents
-  pub made : EndsMade outcome of_device.map (new_flash of_device.map contents) held
+  pub made : EndsMade outcome of_device.map (new_flash of_device.map contents) flash.is_forced
+      (files flash.name.now) held
   pub answered : AnswersMade answer outcome old new
 
 -- The answer of `provision`: it made a flash, which is a device's or refused; or it wrote why the
 -- sizes of the device file make no map. In the second case the images don't matter.
-abbrev pub AnswersProvision : Answer → Source → List (List ℕ) → Option (List ℕ) → FileBytes
-    → Option (List ℕ) → Option (List ℕ) → Option (List ℕ) → Type 0
-AnswersProvision Done device names input files held old new =
-    MakesDevice Done device names input files held old new
-AnswersProvision Refused device names input files held old new =
-    MakesDevice Refused device names input files held old new
+abbrev pub AnswersProvision : Answer → NewFlash → Source → List (List ℕ) → Option (List ℕ)
+    → FileBytes → Option (List ℕ) → Option (List ℕ) → Option (List ℕ) → Type 0
+AnswersProvision Done flash device names input files held old new =
+    MakesDevice Done flash device names input files held old new
+AnswersProvision Refused flash device names input files held old new =
+    MakesDevice Refused flash device names input files held old new
     ⊎ RefusesMap device input files old new
-AnswersProvision Cut device names input files held old new = ⊥
+AnswersProvision Cut flash device names input files held old new = ⊥

@@ -4,7 +4,7 @@ ghost use Rattle.device_commands.specs.CoreEnd.{AnswersCore, UsesFlash, access_f
 ghost use Rattle.device_commands.specs.WordsEnd.{EndsByCut, EndsCore};
 
 use crate::answering::answer_words;
-use crate::provision::run_provision;
+use crate::provision::{NewFlash, run_provision};
 use crate::run::{RunFiles, run_device};
 use command_line::{DeviceOrder, device_request};
 use host::{Access, Answer, Host, Refusal, Source, finish};
@@ -85,7 +85,14 @@ pub fn run_device_order<H: Host, O: Write, N: RunNotes>(
             device,
             flash,
             ref images,
-        } => run_provision(alloc, Source::named(device), flash, images, host, out),
+            forced,
+        } => {
+            let flash = NewFlash {
+                name: flash,
+                is_forced: forced,
+            };
+            run_provision(alloc, Source::named(device), flash, images, host, out)
+        }
         DeviceOrder::Run {
             device,
             flash,

@@ -1,23 +1,25 @@
 //! `bootswap provision`: makes the flash of a device, and writes its file.
-ghost use Rattle.std.specs.Prelude.{◌≡◌, ◌≢◌, ◌+◌, ◌<◌, ◌≤◌, [], IfErr, IfOk, IfSome, OnOk, length, slice_get, string_bytes};
+ghost use Rattle.std.specs.Prelude.{◌≡◌, ◌≢◌, ◌+◌, ◌<◌, ◌≤◌, [], IfErr, IfOk, IfSome, OnOk, length, slice_get, string_bytes, true};
 ghost use Rattle.std.specs.Io.KnownBytes.{Appends};
 ghost use Rattle.flash_model.specs.Blanks.{IsBlankOf};
 ghost use Rattle.flash_model.specs.Torn.{replaced};
+ghost use Rattle.flash_model.specs.Units.{are_erased};
 ghost use Rattle.device_texts.specs.FlashOf.{IsFlashOf};
 ghost use Rattle.device_texts.specs.ReplyText.{refused_fault_text};
 ghost use Rattle.host.specs.Input.{IsKnownAs, IsNamed, KeepsFiles};
 ghost use Rattle.host.specs.Inputs.{names_of};
 ghost use Rattle.host.specs.Doings.{IsApartFrom, KeepsApart, KeepsSource};
 ghost use Rattle.host.specs.Status.{EndsUnmade};
-ghost use Rattle.device_commands.specs.ProvisionEnd.{AnswersMade, AnswersProvision, AreOthers, EndsMade, KeepsWords, ReadsImages, done_text, new_flash};
+ghost use Rattle.device_commands.specs.ProvisionEnd.{AnswersMade, AnswersProvision, AreOthers, EndsMade, HoldsFlash, KeepsWords, MayReplace, ReadsImages, done_text, new_flash};
 
 use device_texts::{flash_of, refused_fault_text, write_all};
-use host::{Answer, FlashFault, Host, Refusal, Replaced, Source};
+use host::{Answer, FlashFault, Host, MOST_FILE, Refusal, Replaced, Source};
 use inputs::read_device;
 use machine::Fault;
 use sector_map::{SectorMap, Side};
 use std::alloc::{AllocError, Global};
-use std::io::Write;
+use std::io;
+use std::io::{ErrorKind, Write};
 use std::marker::Brand;
 use std::sync::ledger::{Blank, Ledger};
 
@@ -30,11 +32,13 @@ pub enum Provisioned {
     Refused(Fault),
 }
 
-/// The name of a flash file.
+/// A flash file to make.
 #[derive(Clone, Copy)]
-pub struct FlashName<'a> {
+pub struct NewFlash<'a> {
     /// The name as the arguments give it.
     pub name: &'a str,
+    /// Whether it is replaced whatever it holds.
+    pub is_forced: bool,
 }
 
 /// Makes the flash of a device with an image at the front of each primary slot, provisions it, and
@@ -43,24 +47,26 @@ pub struct FlashName<'a> {
 /// The device file and the images are read from `host`. All bytes are in memory of `alloc`.
 ///
 /// Everything is checked before the file is written. The flash file can't be one of the inputs,
-/// which never change. It changes only if the answer is `Done` or can't be written. But a block
-/// device may hold a part of the flash after a failed write.
+/// which never change. A file that exists is replaced only if it is empty, erased or as long as the
+/// flash, or `flash` is forced. It changes only if the answer is `Done` or can't be written. But a
+/// block device may hold a part of the flash after a failed write.
 ///
 /// # Errors
 /// `DeviceFile` or `OfSource` for an input that is wrong or can't be read, and the errors of
 /// [`read_images`]. `FlashIsInput`, `FlashInUse`, `FlashSize` or `FlashFile` for a flash file that
-/// can't be made. `NoMemory` if memory runs out. `CannotWrite` if the answer can't be written.
+/// can't be made or may not be replaced. `NoMemory` if memory runs out. `CannotWrite` if the answer
+/// can't be written.
 pub fn run_provision<H: Host, O: Write>(
     alloc: Global,
     device: Source<'_>,
-    flash: &str,
+    flash: NewFlash<'_>,
     images: &[&str],
     host: &mut H,
     out: &mut O,
 ) -> Result<Answer, Refusal>
     ensures answers { IfOk result (λ answer.
-        AnswersProvision answer device.entry (names_of images.now)
-        (H.input host.old) (H.file host.old) (H.file host.new flash.now)
+        AnswersProvision answer flash.entry device.entry (names_of images.now)
+        (H.input host.old) (H.file host.old) (H.file host.new flash.entry.name.now)
         (O.contents out.old) (O.contents out.new)) }
     ensures kept { EndsUnmade result → KeepsFiles (H.file host.old) (H.file host.new) }
     ensures device { KeepsSource device.entry (H.file host.old) (H.file host.new) }
@@ -72,10 +78,19 @@ pub fn run_provision<H: Host, O: Write>(
         return Ok(Answer::Refused);
     };
     let bytes = read_images(alloc, &device.map, images, host)?;
-    refuse_inputs(host, flash, source, images)?;
-    let (blank, file) = (Blank::new(2), FlashName { name: flash });
+    let held = host.hold_output(alloc, flash.name, Replaced::FlashFile);
+    refuse_inputs(host, flash.name, source, images)?;
+    let (blank, file) = (Blank::new(2), HeldFlash { flash, held });
     let made = make_flash::<Brand, _>(alloc, blank, &device.map, bytes, file, host);
     write_outcome(alloc, made?, out)
+}
+
+/// The flash file to make, as it was looked up.
+#[derive(Clone, Copy)]
+struct HeldFlash<'a> {
+    flash: NewFlash<'a>,
+    /// Why it can't be made or replaced, if it can't.
+    held: Result<(), FlashFault>,
 }
 
 /// Reads images, and returns the bytes of a flash with each at the front of its primary slot. All
@@ -173,17 +188,18 @@ fn make_flash<L: Ledger, H: Host>(
     blank: Blank,
     map: &SectorMap,
     bytes: Vec<u8>,
-    file: FlashName<'_>,
+    file: HeldFlash<'_>,
     host: &mut H,
 ) -> Result<Provisioned, Refusal>
     requires blank { IsBlankOf blank L.name L.parts 2 }
     requires whole { IsFlashOf map.now bytes.items }
-    ensures made { IfOk result (λ made.
-        EndsMade made map.now bytes.items (H.file host.new file.entry.name.now)) }
+    ensures made { IfOk result (λ made. EndsMade made map.now bytes.items
+        file.entry.flash.is_forced (H.file host.old file.entry.flash.name.now)
+        (H.file host.new file.entry.flash.name.now)) }
     ensures refused { IfOk result (λ made. made ≢ Provisioned.Done
         → KeepsFiles (H.file host.old) (H.file host.new)) }
     ensures failed { IfErr result (λ _. KeepsFiles (H.file host.old) (H.file host.new)) }
-    ensures others { KeepsApart (H.apart host.old file.entry.name.now)
+    ensures others { KeepsApart (H.apart host.old file.entry.flash.name.now)
         (H.file host.old) (H.file host.new) }
     ensures opened { H.opened host.new ≡ H.opened host.old }
 {
@@ -191,24 +207,82 @@ fn make_flash<L: Ledger, H: Host>(
     if let Err(fault) = boot_core::provision(&mut flash, map) {
         return Ok(Provisioned::Refused(fault));
     }
-    replace(alloc, file.name, flash.bytes(), host)?;
+    replace(alloc, file, flash.bytes(), host)?;
     Ok(Provisioned::Done)
 }
 
 /// Makes the file of a flash of these bytes, or replaces it.
-fn replace<H: Host>(alloc: Global, name: &str, bytes: &[u8], host: &mut H) -> Result<(), Refusal>
-    ensures done { OnOk result (IsKnownAs (H.file host.new name.now) bytes.now) }
+fn replace<H: Host>(
+    alloc: Global,
+    file: HeldFlash<'_>,
+    bytes: &[u8],
+    host: &mut H,
+) -> Result<(), Refusal>
+    ensures done { OnOk result (IsKnownAs (H.file host.new file.entry.flash.name.now) bytes.now) }
+    ensures replaces { OnOk result (MayReplace file.entry.flash.is_forced (length bytes.now)
+        (H.file host.old file.entry.flash.name.now)) }
     ensures failed { IfErr result (λ _. KeepsFiles (H.file host.old) (H.file host.new)) }
-    ensures others { KeepsApart (H.apart host.old name.now) (H.file host.old) (H.file host.new) }
+    ensures others { KeepsApart (H.apart host.old file.entry.flash.name.now)
+        (H.file host.old) (H.file host.new) }
     ensures opened { H.opened host.new ≡ H.opened host.old }
 {
-    match host.replace_file(alloc, name, bytes, Replaced::FlashFile) {
-        Ok(()) => Ok(()),
-        Err(FlashFault::InUse) => Err(Refusal::FlashInUse),
-        Err(FlashFault::WrongLength) => Err(Refusal::FlashSize),
-        Err(FlashFault::NoMemory) => Err(Refusal::NoMemory),
-        Err(FlashFault::Failed(_)) => Err(Refusal::FlashFile),
+    let HeldFlash { flash, held } = file;
+    if let Err(fault) = held {
+        return Err(refusal(fault));
     }
+    if !flash.is_forced {
+        refuse_other(alloc, &*host, flash.name, bytes.len())?;
+    }
+    match host.replace_file(alloc, flash.name, bytes, Replaced::FlashFile) {
+        Ok(()) => Ok(()),
+        Err(fault) => Err(refusal(fault)),
+    }
+}
+
+/// The refusal if a flash file can't be made or replaced.
+fn refusal(fault: FlashFault) -> Refusal {
+    match fault {
+        FlashFault::InUse => Refusal::FlashInUse,
+        FlashFault::WrongLength => Refusal::FlashSize,
+        FlashFault::NoMemory => Refusal::NoMemory,
+        FlashFault::OnlyReadable(_) | FlashFault::Failed(_) => Refusal::FlashFile,
+    }
+}
+
+/// Refuses a file that exists, unless it is empty, erased or `length` bytes long.
+fn refuse_other<H: Host>(alloc: Global, host: &H, name: &str, length: usize) -> Result<(), Refusal>
+    ensures { OnOk result (HoldsFlash length (H.file host.now name.now)) }
+{
+    match host.length_of(name) {
+        Ok(count) if count == length as u64 => return Ok(()),
+        Err(error) if error.kind() == ErrorKind::NotFound => return Ok(()),
+        Ok(_) => {}
+        Err(_) => return Err(Refusal::FlashFile),
+    }
+    match holds_erased(alloc, host, name) {
+        Ok(true) => Ok(()),
+        Ok(false) => Err(Refusal::FlashSize),
+        Err(error) => Err(Source::File(name).refusal(alloc, error)),
+    }
+}
+
+/// Whether a plain file is empty, or each of its bytes is erased. Of any other file one byte is read.
+fn holds_erased<H: Host>(alloc: Global, host: &H, name: &str) -> io::Result<bool>
+    ensures { IfOk result (λ is. is ≡ true
+        → IfSome (H.file host.now name.now) (λ held. are_erased held ≡ true)) }
+{
+    if !host.is_plain(name)? || !are_erased(&host.read_again(alloc, name, 0)?) {
+        return Ok(false);
+    }
+    let bytes = host.read_again(alloc, name, MOST_FILE)?;
+    Ok(bytes.len() <= MOST_FILE as usize && are_erased(&bytes))
+}
+
+/// Whether each of these bytes is erased.
+fn are_erased(bytes: &[u8]) -> bool
+    ensures { result ≡ are_erased bytes.now }
+{
+    bytes.iter().all(|byte| *byte == 0xff)
 }
 
 /// Writes the result of provisioning a flash to `out`. Doesn't allocate for `Done`.
