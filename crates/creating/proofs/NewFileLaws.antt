@@ -1,39 +1,23 @@
 -- Which files may be replaced, from what was read of them.
-use Rattle.std.proofs.Common.{◌≡◌, ◌∙◌, ◌⊎◌, ◌+◌, ℕ, Bool, List, [], ◌∷◌, ◌++◌, None, Option, Some, ap, append_assoc, drop, inl, inr, length, subst, sym}
-use Rattle.std.proofs.lemmas.List.{take-append-drop}
-use Rattle.std.specs.Prelude.{Err, IfOk, Ok, Result, is_ok, slice_range, true}
-use Rattle.image_header.specs.declared.error.HeaderError.{HeaderError}
+use Rattle.std.proofs.Common.{◌≡◌, ◌⊎◌, ℕ, Bool, List, [], ◌∷◌, None, Option, Some, inl, inr, length, subst, sym}
+use Rattle.std.specs.Prelude.{Err, IfOk, Ok, Result, is_ok, true}
 use Rattle.std.specs.Io.KnownBytes.{Keeps}
-use Rattle.image_header.specs.Header.{BeginsWith, IsAccepted, header_bytes}
-use Rattle.image_header.specs.declared.header.Header.{Header}
+use Rattle.image_reading.specs.Image.{IsIntact}
+use Rattle.image_reading.specs.declared.desc.Desc.{Desc}
+use Rattle.image_reading.specs.declared.error.ImageError.{ImageError}
 use Rattle.command_line.specs.declared.orders.NewFile.{NewFile}
 use Rattle.host.specs.declared.answer.Answer.{Answer}
 use Rattle.host.specs.declared.answer.Answer.TheVariants.{Done, Refused, Cut}
-use Rattle.host.specs.Input.{FileBytes, IsKnownAs, IsKnownPart, KeepsFiles}
-use Rattle.creating.specs.NewFileEnd.{BeginsAsImage, HoldsImage, MayReplace, Replaces}
+use Rattle.host.specs.Input.{FileBytes, IsKnownAs, KeepsFiles}
+use Rattle.creating.specs.NewFileEnd.{HoldsImage, IsImage, MayReplace, Replaces}
 
--- A file begins with the header that its first bytes begin with.
-begins_on : (held part : List ℕ) (header : Header) → part ≡ slice_range held 0 (0 + 32) → BeginsWith part header
-    → BeginsWith held header
-begins_on held part header same begins = record {
-  fits = begins.fits;
-  rest = begins.rest ++ drop 32 held;
-  parts = sym (take-append-drop 32 held) ∙ ap (λ front. front ++ drop 32 held) (sym same ∙ begins.parts)
-      ∙ append_assoc (header_bytes header) begins.rest (drop 32 held);
-}
-
-HoldsImage-front : (known : Option (List ℕ)) (part : List ℕ) (header : Header) → IsKnownPart known 0 32 part
-    → BeginsWith part header → IsAccepted header → HoldsImage known
-HoldsImage-front None part header is begins accepted = tt
-HoldsImage-front (Some held) part header is begins accepted =
-    inr (record { header = header; begins = begins_on held part header is.same begins; accepted = accepted })
-
--- A file whose first bytes are read as a header begins as an image does.
-pub HoldsImage-read : (known : Option (List ℕ)) (part : List ℕ) (read : Result Header HeaderError)
-    → IsKnownPart known 0 32 part → IfOk read (λ header. BeginsWith part header × IsAccepted header)
-    → is_ok read ≡ true → HoldsImage known
-HoldsImage-read known part (Ok header) is reads good = HoldsImage-front known part header is reads.0 reads.1
-HoldsImage-read known part (Err fault) is reads good = absurd (cc good)
+-- A file whose bytes are described as an image is one.
+pub HoldsImage-described : (known : Option (List ℕ)) (bytes : List ℕ) (described : Result Desc ImageError)
+    → IsKnownAs known bytes → IfOk described (IsIntact bytes) → is_ok described ≡ true → HoldsImage known
+HoldsImage-described None bytes described same intact good = tt
+HoldsImage-described (Some held) bytes (Ok description) same intact good =
+    inr (subst IsImage same (record { description = description; intact = intact }))
+HoldsImage-described (Some held) bytes (Err fault) same intact good = absurd (cc good)
 
 empty_known : (held bytes : List ℕ) → length bytes ≡ 0 → bytes ≡ held → held ≡ []
 empty_known held [] none same = sym same
@@ -51,7 +35,7 @@ may_replace_before forced None new kept may = inr tt
 may_replace_before forced (Some xs) None kept may = absurd kept
 may_replace_before forced (Some xs) (Some ys) kept (inl is) = inl is
 may_replace_before forced (Some xs) (Some ys) kept (inr holds) =
-    inr (subst (λ held. (held ≡ []) ⊎ BeginsAsImage held) kept holds)
+    inr (subst (λ held. (held ≡ []) ⊎ IsImage held) kept holds)
 
 -- A file that may be replaced after all files were kept could be replaced before.
 pub Replaces-before : (answer : Answer) (file : NewFile) (old new : FileBytes) → KeepsFiles old new

@@ -13,12 +13,12 @@ ghost use Rattle.device_texts.specs.FlashOf.{IsFlashOf, flash_of};
 ghost use Rattle.creating.specs.CopyEnd.{AnswersCopied, AnswersCopy, EndsCopy, IsImageOf, slot_to_copy};
 ghost use Rattle.creating.specs.NewFileEnd.{MayReplace, Replaces};
 
-use crate::image_file::replace;
+use crate::image_file::{HeldFile, replace};
 use crate::telling::tell;
 use command_line::NewFile;
 use device_texts::{flash_of, refused_text};
 use flash_model::Flash;
-use host::{Access, Answer, Host, Refusal, Source, refuse_input};
+use host::{Access, Answer, FlashFault, Host, Refusal, Replaced, Source, refuse_input};
 use image_reading::{ImageError, SlotError, describe_slot};
 use inputs::{read_device, read_flash};
 use sector_map::{SectorMap, Side};
@@ -38,6 +38,14 @@ pub struct Copying<'a> {
     pub out: NewFile<'a>,
 }
 
+/// A slot to copy, and the file to copy it into as it was looked up.
+#[derive(Clone, Copy)]
+struct HeldCopy<'a> {
+    copying: Copying<'a>,
+    /// Why the file can't be made or replaced, if it can't.
+    held: Result<(), FlashFault>,
+}
+
 /// The result of copying an image.
 #[derive(Clone, Copy)]
 pub enum Copied {
@@ -54,8 +62,8 @@ pub enum Copied {
 /// The device file and the flash are read from `host`. All bytes are in memory of `alloc`.
 ///
 /// The file can't be one of the inputs, which never change, and the flash is opened only for
-/// reading. A file that exists is replaced only if it begins with an image's header, is empty, or
-/// `--force` is given. It changes only if the answer is `Done` or can't be written.
+/// reading. A file that exists is replaced only if it is one intact image, is empty, or `--force` is
+/// given. It changes only if the answer is `Done` or can't be written.
 ///
 /// # Errors
 /// `DeviceFile`, `FlashSize`, `FlashInUse` or `OfSource` for an input that is wrong, in use or
@@ -89,9 +97,11 @@ pub fn run_extract<H: Host, O: Write>(
         return Err(Refusal::NoImage(copying.image));
     }
     let bytes = read_flash(alloc, flash, map, Access::Read, host)?;
+    let held = host.hold_output(alloc, copying.out.name, Replaced::PlainFile);
     refuse_input(alloc, host, copying.out.name, device, Refusal::ImageIsInput)?;
     refuse_input(alloc, host, copying.out.name, flash, Refusal::ImageIsInput)?;
-    let copied = copy::<Brand, _>(alloc, Blank::new(2), map, bytes, copying, host)?;
+    let to = HeldCopy { copying, held };
+    let copied = copy::<Brand, _>(alloc, Blank::new(2), map, bytes, to, host)?;
     tell_copied(alloc, copied, out)
 }
 
@@ -101,31 +111,37 @@ fn copy<L: Ledger, H: Host>(
     blank: Blank,
     map: &SectorMap,
     bytes: Vec<u8>,
-    copying: Copying<'_>,
+    to: HeldCopy<'_>,
     host: &mut H,
 ) -> Result<Copied, Refusal>
     requires blank { IsBlankOf blank L.name L.parts 2 }
     requires whole { IsFlashOf map.now bytes.items }
-    requires there { copying.image < map.now.images }
+    requires there { to.copying.image < map.now.images }
     ensures copied { IfOk result (λ copied.
-        EndsCopy copied map.now (flash_of map.now bytes.items) copying.entry.image
-        copying.entry.side (H.file host.new copying.entry.out.name.now)) }
+        EndsCopy copied map.now (flash_of map.now bytes.items) to.entry.copying.image
+        to.entry.copying.side (H.file host.new to.entry.copying.out.name.now)) }
     ensures replaces { IfOk result (λ copied. copied ≡ Copied.Done
-        → MayReplace copying.entry.out.is_forced (H.file host.old copying.entry.out.name.now)) }
+        → MayReplace to.entry.copying.out.is_forced
+        (H.file host.old to.entry.copying.out.name.now)) }
     ensures refused { IfOk result (λ copied. copied ≢ Copied.Done
         → KeepsFiles (H.file host.old) (H.file host.new)) }
     ensures failed { IfErr result (λ _. KeepsFiles (H.file host.old) (H.file host.new)) }
-    ensures others { KeepsApart (H.apart host.old copying.entry.out.name.now)
+    ensures others { KeepsApart (H.apart host.old to.entry.copying.out.name.now)
         (H.file host.old) (H.file host.new) }
     ensures opened { H.opened host.new ≡ H.opened host.old }
 {
+    let HeldCopy { copying, held } = to;
     let mut flash = flash_of::<L>(alloc, blank, map, bytes);
     let length = match image_length(&mut flash, map, copying) {
         Ok(length) => length,
         Err(fault) => return Ok(Copied::Refused(fault)),
     };
     let at = map.slot_start(copying.image, copying.side) as usize;
-    replace(alloc, copying.out, &flash.bytes()[at..at + length], host)?;
+    let file = HeldFile {
+        file: copying.out,
+        held,
+    };
+    replace(alloc, file, &flash.bytes()[at..at + length], host)?;
     Ok(Copied::Done)
 }
 

@@ -8,11 +8,11 @@ ghost use Rattle.host.specs.Status.{EndsUnmade};
 ghost use Rattle.creating.specs.NewFileEnd.{Replaces};
 ghost use Rattle.creating.specs.NewImageEnd.{AnswersMade, AnswersNewImage, AreAlternatives, IsImageFor, RefusesImage, fault_text};
 
-use crate::image_file::replace;
+use crate::image_file::{HeldFile, replace};
 use crate::telling::tell;
 use command_line::{NewFile, NewImage};
 use device_texts::refused_text;
-use host::{Answer, Host, MOST_FILE, Refusal, Source, refuse_input};
+use host::{Answer, Host, MOST_FILE, Refusal, Replaced, Source, refuse_input};
 use std::alloc::{AllocError, Global};
 use std::io::Write;
 use tlv::{ImageSpec, MakeError, make_image};
@@ -26,8 +26,8 @@ const USUAL_HEADER_SIZE: u16 = 32;
 ///
 /// The body is read from `host`. All bytes are in memory of `alloc`. The image is made before its
 /// file is written. The file can't be that of the body, which never changes. A file that exists is
-/// replaced only if it begins with an image's header, is empty, or `--force` is given. It changes
-/// only if the answer is `Done` or can't be written.
+/// replaced only if it is one intact image, is empty, or `--force` is given. It changes only if the
+/// answer is `Done` or can't be written.
 ///
 /// # Errors
 /// `OfSource` if the body can't be read. `ImageIsInput`, `ImageInUse` or `OfSource` for a file that
@@ -51,24 +51,32 @@ pub fn run_make_image<H: Host, O: Write>(
 {
     let source = body;
     let body = source.read(alloc, host, MOST_FILE)?;
+    let held = host.hold_output(alloc, image.name, Replaced::PlainFile);
     refuse_input(alloc, host, image.name, source, Refusal::ImageIsInput)?;
-    make(alloc, image, asked, &body, host, out)
+    make(
+        alloc,
+        HeldFile { file: image, held },
+        asked,
+        &body,
+        host,
+        out,
+    )
 }
 
 /// Makes the image of a body, and makes or replaces its file.
 fn make<H: Host, O: Write>(
     alloc: Global,
-    image: NewFile<'_>,
+    image: HeldFile<'_>,
     asked: &NewImage,
     body: &[u8],
     host: &mut H,
     out: &mut O,
 ) -> Result<Answer, Refusal>
     ensures made { IfOk result (λ answer. AnswersMade answer asked.now body.now
-        (H.file host.new image.entry.name.now) (O.contents out.old) (O.contents out.new)) }
-    ensures replaces { IfOk result (λ answer. Replaces answer image.entry (H.file host.old)) }
+        (H.file host.new image.entry.file.name.now) (O.contents out.old) (O.contents out.new)) }
+    ensures replaces { IfOk result (λ answer. Replaces answer image.entry.file (H.file host.old)) }
     ensures kept { EndsUnmade result → KeepsFiles (H.file host.old) (H.file host.new) }
-    ensures others { KeepsApart (H.apart host.old image.entry.name.now)
+    ensures others { KeepsApart (H.apart host.old image.entry.file.name.now)
         (H.file host.old) (H.file host.new) }
     ensures opened { H.opened host.new ≡ H.opened host.old }
 {

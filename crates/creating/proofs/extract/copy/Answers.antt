@@ -16,7 +16,7 @@ use Rattle.creating.proofs.extract.copy.Goals as goal
 -- The slot of the flash of these bytes begins with no image.
 pub returns-in-Err-clause-copied : goal.returns-in-Err-clause-copied
 returns-in-Err-clause-copied g c =
-    subst (λ chip. IsFrontFault (slot_bytes c.args.map.now chip c.args.copying.image c.args.copying.side) c.in-Err.fault)
+    subst (λ chip. IsFrontFault (slot_bytes c.args.map.now chip c.args.to.copying.image c.args.to.copying.side) c.in-Err.fault)
     c.flash_of-flash.ensures.chip c.in-Err.ensures.fault
 
 -- The image lies in the flash.
@@ -33,13 +33,13 @@ inside map old new image side at long all laid there fits same start lent = omeg
 
 pub overflow_add-at : goal.overflow_add-at
 overflow_add-at g c =
-    let end = inside c.args.map.now _ _ c.args.copying.image c.args.copying.side _ c.in-Ok.length _
+    let end = inside c.args.map.now _ _ c.args.to.copying.image c.args.to.copying.side _ c.in-Ok.length _
     c.flash_of-flash.ensures.laid_out c.requires.there c.in-Ok.ensures.fits c.in-Ok.ensures.same
     c.slot_start-at.ensures c.bytes.ensures in
     omega (arith, end, c.bytes.type_inv.0)
 
 pub slice_bounds-replace-end : goal.slice_bounds-replace-end
-slice_bounds-replace-end g c = inside c.args.map.now _ _ c.args.copying.image c.args.copying.side _ c.in-Ok.length _
+slice_bounds-replace-end g c = inside c.args.map.now _ _ c.args.to.copying.image c.args.to.copying.side _ c.in-Ok.length _
     c.flash_of-flash.ensures.laid_out c.requires.there c.in-Ok.ensures.fits c.in-Ok.ensures.same
     c.slot_start-at.ensures c.bytes.ensures
 
@@ -47,12 +47,12 @@ slice_bounds-replace-end g c = inside c.args.map.now _ _ c.args.copying.image c.
 pub returns-clause-copied : goal.returns-clause-copied
 returns-clause-copied g c =
     let map = c.args.map.now in
-    let image = c.args.copying.image in
-    let side = c.args.copying.side in
+    let image = c.args.to.copying.image in
+    let side = c.args.to.copying.side in
     let chip = chip_of c.flash_of-flash.result in
     let long = c.in-Ok.length in
     let at = c.slot_start-at.result in
-    let held = g.H.Host.file c.replace.new.host c.args.copying.out.name.now in
+    let held = g.H.Host.file c.replace.new.host c.args.to.copying.out.name.now in
     let lent : c.bytes.result.now ≡ chip.bytes = c.bytes.ensures ∙ ap (λ one. one.bytes) c.in-Ok.ensures.same in
     let same = ap (λ all. slice_range all at (at + long)) lent
     ∙ ap (λ from. slice_range chip.bytes from (from + long)) c.slot_start-at.ensures

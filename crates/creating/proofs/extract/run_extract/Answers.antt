@@ -20,7 +20,8 @@ pub returns-clause-replaces : goal.returns-clause-replaces
 returns-clause-replaces g c =
     IfOk-weaker c.tell_copied.result _ _
     (λ answer told. copied_replaces answer c.in_ok-copied.copied c.args.copying.out _ _ _ _
-    (KeepsFiles-twice _ _ _ c.in_ok-of_device.ensures.files c.in_ok-bytes.ensures.files)
+    (KeepsFiles-twice _ _ _ (KeepsFiles-twice _ _ _ c.in_ok-of_device.ensures.files c.in_ok-bytes.ensures.files)
+    c.hold_output-held.ensures.files)
     c.in_ok-copied.ensures.replaces told)
     c.tell_copied.ensures.told
 
@@ -31,22 +32,24 @@ returns-in_err-bytes-clause-kept g c = λ ends.
 
 pub returns-in_err-refuse_input-clause-kept : goal.returns-in_err-refuse_input-clause-kept
 returns-in_err-refuse_input-clause-kept g c = λ ends.
-    KeepsFiles-twice _ _ _ c.in_ok-of_device.ensures.files c.in_ok-bytes.ensures.files
+    KeepsFiles-twice _ _ _ (KeepsFiles-twice _ _ _ c.in_ok-of_device.ensures.files c.in_ok-bytes.ensures.files)
+    c.hold_output-held.ensures.files
 
 pub returns-in_err-refuse_input-2-clause-kept : goal.returns-in_err-refuse_input-2-clause-kept
 returns-in_err-refuse_input-2-clause-kept g c = λ ends.
-    KeepsFiles-twice _ _ _ c.in_ok-of_device.ensures.files c.in_ok-bytes.ensures.files
+    KeepsFiles-twice _ _ _ (KeepsFiles-twice _ _ _ c.in_ok-of_device.ensures.files c.in_ok-bytes.ensures.files)
+    c.hold_output-held.ensures.files
 
 -- The image was refused, or its file could not be replaced.
 pub returns-in_err-copied-clause-kept : goal.returns-in_err-copied-clause-kept
 returns-in_err-copied-clause-kept g c = λ ends.
     KeepsFiles-twice _ _ _ c.in_ok-of_device.ensures.files
-    (KeepsFiles-twice _ _ _ c.in_ok-bytes.ensures.files c.in_err-copied.ensures.failed)
+    (KeepsFiles-twice _ _ _ (KeepsFiles-twice _ _ _ c.in_ok-bytes.ensures.files c.hold_output-held.ensures.files) c.in_err-copied.ensures.failed)
 
 pub returns-clause-kept : goal.returns-clause-kept
 returns-clause-kept g c = λ ends.
     KeepsFiles-twice _ _ _ c.in_ok-of_device.ensures.files
-    (KeepsFiles-twice _ _ _ c.in_ok-bytes.ensures.files
+    (KeepsFiles-twice _ _ _ (KeepsFiles-twice _ _ _ c.in_ok-bytes.ensures.files c.hold_output-held.ensures.files)
     (copied_told c.tell_copied.result c.in_ok-copied.copied _ _ _ _ c.tell_copied.ensures.told c.tell_copied.ensures.late
     c.in_ok-copied.ensures.refused ends))
 
@@ -66,21 +69,25 @@ returns-in_err-bytes-clause-inputs g c = both_kept c.args.device c.args.flash _ 
 
 pub returns-in_err-refuse_input-clause-inputs : goal.returns-in_err-refuse_input-clause-inputs
 returns-in_err-refuse_input-clause-inputs g c = both_kept c.args.device c.args.flash _ _
-    (KeepsFiles-twice _ _ _ c.in_ok-of_device.ensures.files c.in_ok-bytes.ensures.files)
+    (KeepsFiles-twice _ _ _ (KeepsFiles-twice _ _ _ c.in_ok-of_device.ensures.files c.in_ok-bytes.ensures.files)
+    c.hold_output-held.ensures.files)
 
 pub returns-in_err-refuse_input-2-clause-inputs : goal.returns-in_err-refuse_input-2-clause-inputs
 returns-in_err-refuse_input-2-clause-inputs g c = both_kept c.args.device c.args.flash _ _
-    (KeepsFiles-twice _ _ _ c.in_ok-of_device.ensures.files c.in_ok-bytes.ensures.files)
+    (KeepsFiles-twice _ _ _ (KeepsFiles-twice _ _ _ c.in_ok-of_device.ensures.files c.in_ok-bytes.ensures.files)
+    c.hold_output-held.ensures.files)
 
 -- A file apart from the inputs was replaced, so the inputs are kept.
 pub returns-in_err-copied-clause-inputs : goal.returns-in_err-copied-clause-inputs
 returns-in_err-copied-clause-inputs g c = both_apart c.args.device c.args.flash c.args.copying.out.name.now
-    (g.H.Host.apart c.read_flash.new.host) _ _ _
-    (KeepsFiles-twice _ _ _ c.in_ok-of_device.ensures.files c.in_ok-bytes.ensures.files)
+    (g.H.Host.apart c.hold_output-held.new.self) _ _ _
+    (KeepsFiles-twice _ _ _ (KeepsFiles-twice _ _ _ c.in_ok-of_device.ensures.files c.in_ok-bytes.ensures.files)
+    c.hold_output-held.ensures.files)
     c.in_ok-refuse_input.ensures c.in_ok-refuse_input-2.ensures c.in_err-copied.ensures.others
 
 pub returns-clause-inputs : goal.returns-clause-inputs
 returns-clause-inputs g c = both_apart c.args.device c.args.flash c.args.copying.out.name.now
-    (g.H.Host.apart c.read_flash.new.host) _ _ _
-    (KeepsFiles-twice _ _ _ c.in_ok-of_device.ensures.files c.in_ok-bytes.ensures.files)
+    (g.H.Host.apart c.hold_output-held.new.self) _ _ _
+    (KeepsFiles-twice _ _ _ (KeepsFiles-twice _ _ _ c.in_ok-of_device.ensures.files c.in_ok-bytes.ensures.files)
+    c.hold_output-held.ensures.files)
     c.in_ok-refuse_input.ensures c.in_ok-refuse_input-2.ensures c.in_ok-copied.ensures.others

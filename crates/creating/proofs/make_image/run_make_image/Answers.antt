@@ -19,22 +19,25 @@ returns-clause-answers g c =
 pub returns-clause-replaces : goal.returns-clause-replaces
 returns-clause-replaces g c =
     IfOk-weaker c.make.result _ _
-    (λ answer may. Replaces-before answer c.args.image _ _ c.in_ok-body.ensures.files may)
+    (λ answer may. Replaces-before answer c.args.image _ _
+    (KeepsFiles-twice _ _ _ c.in_ok-body.ensures.files c.hold_output-held.ensures.files) may)
     c.make.ensures.replaces
 
 -- The image was refused, or its file could not be replaced.
 pub returns-clause-kept : goal.returns-clause-kept
 returns-clause-kept g c = λ ends.
-    KeepsFiles-twice _ _ _ c.in_ok-body.ensures.files (c.make.ensures.kept ends)
+    KeepsFiles-twice _ _ _ (KeepsFiles-twice _ _ _ c.in_ok-body.ensures.files c.hold_output-held.ensures.files)
+    (c.make.ensures.kept ends)
 
 -- The body is kept: nothing was written yet, or a file that isn't that of the body.
 pub returns-in_err-body-clause-input : goal.returns-in_err-body-clause-input
 returns-in_err-body-clause-input g c = KeepsSource-kept c.args.body _ _ c.in_err-body.ensures.files
 
 pub returns-in_err-refuse_input-clause-input : goal.returns-in_err-refuse_input-clause-input
-returns-in_err-refuse_input-clause-input g c = KeepsSource-kept c.args.body _ _ c.in_ok-body.ensures.files
+returns-in_err-refuse_input-clause-input g c = KeepsSource-kept c.args.body _ _
+    (KeepsFiles-twice _ _ _ c.in_ok-body.ensures.files c.hold_output-held.ensures.files)
 
 pub returns-clause-input : goal.returns-clause-input
-returns-clause-input g c = KeepsSource-apart c.args.body c.args.image.name.now (g.H.Host.apart c.read.new.host) _ _ _
-    c.in_ok-body.ensures.files
+returns-clause-input g c = KeepsSource-apart c.args.body c.args.image.name.now (g.H.Host.apart c.hold_output-held.new.self) _ _ _
+    (KeepsFiles-twice _ _ _ c.in_ok-body.ensures.files c.hold_output-held.ensures.files)
     c.in_ok-refuse_input.ensures c.make.ensures.others
