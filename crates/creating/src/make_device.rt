@@ -19,8 +19,12 @@ use std::io::Write;
 /// The number of boots of a trial if the arguments don't give one.
 const USUAL_TRIAL_BOOTS: u8 = 1;
 
-/// Writes a device file to `out`, and then the parts of the device's flash to `err`. If the sizes
-/// make no map, writes the reason to `out` instead.
+/// The note on a vendor without a name.
+const NO_VENDOR: &str = "note: `--vendor` is empty: the vendor ID is made from a domain name, and \
+     each device without one has the same\n";
+
+/// Writes a device file to `out`, and then the parts of the device's flash to `err`, after a note if
+/// the vendor's name is empty. If the sizes make no map, writes the reason to `out` instead.
 ///
 /// Both texts are made in memory of `alloc` before the first is written. The device file is read
 /// back before it is written. `out` is flushed before anything is written to `err`.
@@ -52,6 +56,9 @@ pub fn run_make_device<O: Write, E: Write>(
     };
     expect_file(alloc, text.as_bytes(), &device)?;
     tell(text.as_bytes(), out)?;
+    if asked.vendor.is_empty() {
+        tell(NO_VENDOR.as_bytes(), err)?;
+    }
     tell(parts.as_bytes(), err)?;
     Ok(Answer::Done)
 }

@@ -13,7 +13,7 @@ ghost use Rattle.manifest.specs.Codes.{code_of, name_of};
 
 use crate::manifest_json::manifest_json;
 use crate::new_components::read_components;
-use crate::next_boot::write_decisions;
+use crate::next_boot::{write_decisions, write_intake};
 use crate::precursors::{Precursors, Running, read_precursors};
 use crate::telling::tell;
 use command_line::{NewComponent, NewManifest};
@@ -30,9 +30,9 @@ use std::io::Write;
 /// The device file, each file to upload, and the flash of the precursors, if one is given, are read
 /// from `host`. The manifest is made in memory of `alloc` and read back before it is written.
 ///
-/// After the manifest, notes are written to `err`: which of the files the device will not take, and
-/// whether it boots files on trial that are requested permanently. `out` is flushed before. With
-/// `--strict` the answer is `Refused` if there is a note.
+/// After the manifest, notes are written to `err`: whether the device refuses the manifest or is on
+/// trial, which of the files it will not take, and whether it boots files on trial that are requested
+/// permanently. `out` is flushed before. With `--strict` the answer is `Refused` if there is a note.
 ///
 /// # Errors
 /// `DeviceFile`, `FlashSize`, `FlashInUse` or `OfSource` for an input that is wrong, in use or
@@ -117,8 +117,9 @@ pub(crate) fn is_named(asked: &[NewComponent<'_>], image: u8) -> bool
 }
 
 /// Reads the files to upload, writes to `out` the manifest that admits them, with these precursors,
-/// and writes notes to `err`: which of the files the device or its next boot will not take, and
-/// whether it boots files on trial that are requested permanently. Returns whether there is no note.
+/// and writes notes to `err`: whether the device refuses it or is on trial, which of the files the
+/// device or its next boot will not take, and whether it boots files on trial that are requested
+/// permanently. Returns whether there is no note.
 fn write_manifest<H: Host, O: Write, E: Write>(
     alloc: Global,
     device: &DeviceFile,
@@ -138,7 +139,14 @@ fn write_manifest<H: Host, O: Write, E: Write>(
     ensures opened { H.opened host.new ≡ H.opened host.old }
 {
     let mut notes = String::new(alloc);
-    let Running { digests, mut table } = running;
+    let Running {
+        digests,
+        mut table,
+        intake,
+    } = running;
+    let Ok(()) = write_intake(&mut notes, asked.sequence, &intake) else {
+        return Err(Refusal::NoMemory);
+    };
     let (map, files, follow) = (&device.map, asked.components.as_slice(), digests.as_slice());
     let components = read_components(alloc, map, files, follow, host, &mut table, &mut notes)?;
     let Ok(()) = write_decisions(&mut notes, files, &table) else {

@@ -8,6 +8,7 @@ use crate::next_boot::{request, write_lack};
 use arrayvec::ArrayVec;
 use certificate::Table;
 use command_line::NewComponent;
+use diagnostics::explain_own_need;
 use host::{Host, MOST_FILE, Refusal, Source, SourceFault};
 use image_reading::{Desc, ImageError, describe};
 use manifest::{Component, MOST_COMPONENTS};
@@ -72,7 +73,7 @@ fn read_component<H: Host>(
         return Err(source.refused(alloc, SourceFault::TooLong(MOST_FILE)));
     };
     let described = describe(&file);
-    if write_notes(notes, map, asked.image, source, &file, &described).is_err() {
+    if write_notes(notes, map, asked, &file, &described).is_err() {
         return Err(Refusal::NoMemory);
     }
     // If there is a table, the decision over it reports this reason too.
@@ -89,21 +90,24 @@ fn read_component<H: Host>(
     })
 }
 
-/// Adds to the notes why a device with this map will not take a file for an image, with a line for
-/// each reason.
+/// Adds to the notes why a device with this map will not take a file, with a line for each reason, and
+/// that its image needs an image of its own number.
 fn write_notes(
     notes: &mut String,
     map: &SectorMap,
-    image: u8,
-    source: Source<'_>,
+    asked: &NewComponent<'_>,
     file: &[u8],
     described: &Result<Desc, ImageError>,
 ) -> Result<(), AllocError>
-    requires { image < map.now.images }
+    requires { asked.now.image < map.now.images }
 {
-    if let Err(fault) = described {
-        let (code, name) = (fault.code(), fault.name());
-        writeln!(notes, "note: {source} is no intact image: {code} {name}")?;
+    let (source, image) = (Source::named(asked.file), asked.image);
+    match described {
+        Ok(description) => explain_own_need(notes, asked.file, image, description)?,
+        Err(fault) => {
+            let (code, name) = (fault.code(), fault.name());
+            writeln!(notes, "note: {source} is no intact image: {code} {name}")?;
+        }
     }
     let (long, slot) = (file.len(), map.slot_length(image));
     if long > slot as usize {

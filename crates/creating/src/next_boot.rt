@@ -1,4 +1,4 @@
-//! Predicts what boots decide about the files of a manifest, for its notes.
+//! Predicts what a device and its boots decide about a manifest and its files, for its notes.
 
 use crate::make_manifest::is_named;
 use certificate::{Reason, Request, Table, is_valid};
@@ -6,6 +6,7 @@ use chooser::choose;
 use command_line::NewComponent;
 use decision::entry_of;
 use image_reading::{Desc, ImageError};
+use inputs::Intake;
 use std::alloc::AllocError;
 use version_order::Dependency;
 
@@ -21,6 +22,32 @@ pub fn request(table: &mut Option<Table>, image: u8, file: Result<Desc, ImageErr
     if let Some(row) = table.images.get_mut(usize::from(image)) {
         row.request = request;
     }
+}
+
+/// Adds to the notes why a device takes no manifest of this sequence number: it accepted a higher one,
+/// or is on trial.
+pub fn write_intake(
+    notes: &mut String,
+    sequence: u32,
+    intake: &Option<Intake>,
+) -> Result<(), AllocError> {
+    let Some(intake) = intake else {
+        return Ok(());
+    };
+    let last = intake.sequence;
+    if sequence < last {
+        writeln!(
+            notes,
+            "note: the device accepted a manifest of sequence number {last}, and refuses a lower one"
+        )?;
+    }
+    if intake.is_on_trial {
+        notes.push_str(
+            "note: a set of images is on trial: the device takes no uploads until a boot ends the \
+             trial\n",
+        )?;
+    }
+    Ok(())
 }
 
 /// Adds to the notes what a boot decides about the files: that it boots some on trial that are

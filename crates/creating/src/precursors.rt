@@ -16,7 +16,7 @@ use device_texts::flash_of;
 use flash_model::Flash;
 use host::{Access, Host, Refusal, Source};
 use image_reading::describe_slot;
-use inputs::{read_flash, table_on};
+use inputs::{Intake, intake_on, read_flash, table_on};
 use manifest::MOST_COMPONENTS;
 use sector_map::{SectorMap, Side};
 use std::alloc::Global;
@@ -30,6 +30,8 @@ pub struct Running {
     pub digests: ArrayVec<Option<[u8; 32]>, MOST_COMPONENTS>,
     /// The running and requested images, if a flash has them. Only notes use it.
     pub table: Option<Table>,
+    /// Which manifests the device of the flash takes, if its log has a state. Only notes use it.
+    pub intake: Option<Intake>,
 }
 
 /// The result of reading the precursors.
@@ -79,8 +81,12 @@ fn any_precursors(asked: &[NewComponent<'_>]) -> Result<Precursors, Refusal>
         }
         digests.push(None);
     }
-    let table = None;
-    Ok(Precursors::Are(Running { digests, table }))
+    let (table, intake) = (None, None);
+    Ok(Precursors::Are(Running {
+        digests,
+        table,
+        intake,
+    }))
 }
 
 /// The precursors of these files on a flash of these bytes.
@@ -112,6 +118,7 @@ fn precursors_on<F: Flash>(
     ensures { IfOk result (FindsPrecursors map.now (F.chip flash.old) asked.now) }
 {
     let table = table_on(flash, map);
+    let intake = intake_on(flash, map);
     let mut digests = ArrayVec::new();
     for component in asked {
         let Some(digest) = running_digest(flash, map, component.image) else {
@@ -122,7 +129,11 @@ fn precursors_on<F: Flash>(
         }
         digests.push(Some(digest));
     }
-    Ok(Precursors::Are(Running { digests, table }))
+    Ok(Precursors::Are(Running {
+        digests,
+        table,
+        intake,
+    }))
 }
 
 /// The digest of the running image of this number, on a flash that has power. `None` if it isn't

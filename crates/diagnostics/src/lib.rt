@@ -28,7 +28,7 @@ mod versions;
 pub use device_notes::{explain_asked_map, explain_device, explain_map};
 pub use image_notes::{add_digits, explain_image};
 pub use manifest_notes::explain_manifest;
-pub use needs_notes::explain_running;
+pub use needs_notes::{explain_own_need, explain_running};
 pub use places::{Place, line_at};
 pub use plan_notes::{explain_planned, explain_row};
 pub use refusal_notes::explain_refusals;

@@ -3,7 +3,9 @@
 use crate::Result;
 use crate::versions::{NEEDS, NEEDS_ONE, Versions, is_taken};
 use certificate::{Entry, Request, Table};
-use version_order::Version;
+use common::texts::Escaped;
+use image_reading::Desc;
+use version_order::{Dependency, Version};
 
 /// Adds a sentence for each dependency and group of the running images of a table that the running
 /// versions don't meet.
@@ -43,6 +45,41 @@ fn explain_entry(notes: &mut String, versions: &Versions, number: usize, entry: 
         }
     }
     Ok(())
+}
+
+/// Adds that the image in a file needs an image of the number that the file is for: `number`. Files of
+/// two images that need each other do so if they changed places.
+///
+/// # Errors
+/// `AllocError` if memory is refused. Then `notes` has a part of the text.
+pub fn explain_own_need(notes: &mut String, file: &str, number: u8, description: &Desc) -> Result {
+    if !needs_image(description, number) {
+        return Ok(());
+    }
+    let file = Escaped(file);
+    writeln!(
+        notes,
+        "note: {file} is for image {number} and needs image {number}, which is itself: it may be \
+         the file of another image"
+    )
+}
+
+/// Whether an image needs the image of this number, also as one of a group.
+fn needs_image(description: &Desc, number: u8) -> bool {
+    if name_image(description.dependencies.as_slice(), number) {
+        return true;
+    }
+    for group in description.groups.iter() {
+        if name_image(group.alternatives.as_slice(), number) {
+            return true;
+        }
+    }
+    false
+}
+
+/// Whether one of these dependencies is on the image of this number.
+fn name_image(needs: &[Dependency], number: u8) -> bool {
+    needs.iter().any(|need| need.image == number)
 }
 
 /// Adds the start of a sentence on the version of an image.

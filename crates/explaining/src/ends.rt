@@ -1,7 +1,7 @@
 //! Explains how a command ended.
 
 use crate::answers::explain_answer;
-use crate::choices::explain_choice;
+use crate::done::explain_done;
 use crate::ended::Ended;
 use crate::files::{explain_flash, explain_lock, explain_source};
 use crate::fleets::explain_fleet;
@@ -34,7 +34,7 @@ pub fn explain_end<H: Host, E: Write>(
     let ended = Ended { alloc, order, host };
     // If memory runs out, the notes so far are written.
     let _ = match outcome {
-        Ok(Answer::Done) => explain_choice(&mut notes, &ended),
+        Ok(Answer::Done) => explain_done(&mut notes, &ended),
         Ok(Answer::Refused) => explain_answer(&mut notes, &ended),
         Ok(Answer::Cut) => Ok(()),
         Err(refusal) => explain_refusal(&mut notes, &ended, refusal),
@@ -63,7 +63,7 @@ fn explain_refusal<H: Host>(
             Ok(table) => explain_running(notes, &table),
             Err(_) => Ok(()),
         },
-        Refusal::DeviceFile => explain_device(notes, ended.alloc, ended.device_bytes()),
+        Refusal::DeviceFile => explain_device_file(notes, ended),
         Refusal::ScriptLine(number) => explain_line(notes, order, number, host),
         Refusal::OfSource(ref refused) => explain_source(notes, order, refused, host),
         Refusal::FlashFile => explain_flash(notes, order, host),
@@ -73,4 +73,15 @@ fn explain_refusal<H: Host>(
             explain_size(notes, ended, refusal),
         _ => Ok(()),
     }
+}
+
+/// Adds which file is no device file, and why.
+fn explain_device_file<H: Host>(
+    notes: &mut String,
+    ended: &Ended<'_, '_, '_, H>,
+) -> Result<(), AllocError> {
+    if let Some(device) = ended.sources().device {
+        writeln!(notes, "note: {device} is no device file:")?;
+    }
+    explain_device(notes, ended.alloc, ended.device_bytes())
 }

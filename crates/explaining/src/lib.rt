@@ -17,6 +17,7 @@
 
 mod answers;
 mod choices;
+mod done;
 mod ended;
 mod ends;
 mod faults;

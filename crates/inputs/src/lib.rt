@@ -30,6 +30,6 @@ pub use file_flash::FileFlash;
 pub use flash_file::FlashFile;
 pub use lines::Lines;
 pub use loading::{load, read_script};
-pub use resting_table::{has_state, table_on};
+pub use resting_table::{Intake, has_state, intake_on, table_on};
 pub use run_notes::{NoNotes, RunNotes};
 pub use sources::Sources;
