@@ -1,5 +1,5 @@
 -- The exit status and the answer of an order. A flush after the answer changes nothing.
-use Rattle.std.proofs.Common.{◌≡◌, ℕ, Bool, List, Ok, Option, Result, false, true}
+use Rattle.std.proofs.Common.{◌≡◌, ℕ, Bool, List, Ok, Option, Result, false, refl, true}
 use Rattle.std.specs.Prelude.{IfOk}
 use Rattle.std.specs.Io.KnownBytes.{Keeps}
 use Rattle.command_line.specs.declared.orders.Order.{Order}
@@ -45,7 +45,7 @@ AnswersOrder-kept (order.Extract device flash image side out) input file then ol
 )
 AnswersOrder-kept (order.Sweep device script images choices) input file then old mid new answered kept =
     (answered.0, answered.1, answered.2, answered.3, answered.4)
-AnswersOrder-kept (order.MergeSweeps outputs picture) input file then old mid new answered kept = answered
+AnswersOrder-kept (order.MergeSweeps outputs picture forced) input file then old mid new answered kept = answered
 AnswersOrder-kept (order.Device asked) input file then old mid new answered kept =
     AnswersCore-kept asked input file then old mid new answered kept
 AnswersOrder-kept (order.Plan asked) input file then old mid new answered kept =
@@ -80,3 +80,9 @@ pub cut_after : (is_json : Bool) (asked : Order) (outcome : Result Answer Refusa
 cut_after is_json asked outcome status input file then old mid new answers ends kept three =
     let is_cut = only_cut outcome status ends three in
     record { written = mid; answered = rw is_cut at answers; kept = kept }
+
+-- What holds of an answer that is done holds if the status is 0.
+pub used_after : (outcome : Result Answer Refusal) (status : ℕ) (Used : Type 0)
+    → IfOk outcome (λ answer. answer ≡ Done → Used) → (status ≡ 0 → outcome ≡ Ok Done)
+    → status ≡ 0 → Used
+used_after outcome status Used used is_done zero = let one = rw (is_done zero) at used in one refl

@@ -35,20 +35,20 @@ no_json text (name ∷ []) few = refl
 no_json text (name ∷ other ∷ words) few = absurd (omega (arith, few))
 
 -- Arguments that give no order end by the answer to them.
-pub EndsProgram-error : (words : List Text) (error : OrderError) (status : ℕ) (input : Option (List ℕ)) (file : FileBytes)
+pub EndsProgram-error : (words : List Text) (error : OrderError) (status : ℕ) (Uses : Order → Type 0) (input : Option (List ℕ)) (file : FileBytes)
     (old new : Option (List ℕ)) → IsRefusal words error → EndsWords error status
-    → EndsProgram words status input file file old new
-EndsProgram-error words error status input file old new refusal ends =
+    → EndsProgram words status Uses input file file old new
+EndsProgram-error words error status Uses input file old new refusal ends =
     EndsWith-error words _ (IsFault words) _ _ error status file (helped words) refusal ends
 
 -- Arguments that ask for an order end by its answer.
-pub EndsProgram-order : (words : List Text) (asked : Order) (wanted : Bool) (status : ℕ)
+pub EndsProgram-order : (words : List Text) (asked : Order) (wanted : Bool) (status : ℕ) (Uses : Order → Type 0)
     (input : Option (List ℕ)) (file after : FileBytes) (old new : Option (List ℕ)) → AskFor words asked
     → wanted ≡ is_json words
     → (status ≡ 0 → AnswersIn wanted Done asked input file after old new) → status ≢ 2
-    → (status ≡ 3 → EndsByCut wanted asked input file after old new)
-    → EndsProgram words status input file after old new
-EndsProgram-order words asked wanted status input file after old new asks same answered other ends =
+    → (status ≡ 3 → EndsByCut wanted asked input file after old new) → (status ≡ 0 → Uses asked)
+    → EndsProgram words status Uses input file after old new
+EndsProgram-order words asked wanted status Uses input file after old new asks same answered other ends used =
     EndsWith-order words _ _ _ _ asked status file after asks
-    (λ zero. rw same at (answered zero)) other
+    (λ zero. (rw same at (answered zero), used zero)) other
     (λ three. rw same at (ends three))

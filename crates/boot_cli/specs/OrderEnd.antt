@@ -1,9 +1,10 @@
 -- The answer to an order, and which files a sweep keeps.
-use Rattle.std.specs.Prelude.{◌≤◌, ℕ, List, Option}
+use Rattle.std.specs.Prelude.{◌≤◌, ℕ, Bool, List, Option}
 use Rattle.command_line.specs.declared.orders.Order.{Order}
 use Rattle.command_line.specs.declared.orders.Order.TheVariants as order
 use Rattle.host.specs.declared.answer.Answer.{Answer}
 use Rattle.host.specs.declared.source.Source.{Source}
+use Rattle.host.specs.Doings.{Openings}
 use Rattle.host.specs.Input.{AreNamed, FileBytes, IsNamed}
 use Rattle.host.specs.Status.{status_of_answer}
 use Rattle.creating.specs.CopyEnd.{AnswersCopy}
@@ -14,6 +15,7 @@ use Rattle.creating.specs.NewManifestEnd.{AnswersNewManifest}
 use Rattle.inspecting.specs.PlanAnswers.{AnswersPlan}
 use Rattle.inspecting.specs.ReadingEnd.{AnswersReading}
 use Rattle.device_commands.specs.CoreEnd.{AnswersCore}
+use Rattle.device_commands.specs.CoreEnd as core
 use Rattle.boot_cli.specs.SweepEnd.{AnswersSweep, KeepsInputs, KeepsOutputs}
 
 -- The answer to an order of this command. The files hold `then` after it.
@@ -36,7 +38,7 @@ AnswersOrder answer (order.Sweep device script images choices) input file then o
     (one other : Source) × AreNamed device.now script.now one other
     × AnswersSweep answer one other input file old new
     × KeepsInputs one other images.items choices.picture file then
-AnswersOrder answer (order.MergeSweeps outputs picture) input file then old new =
+AnswersOrder answer (order.MergeSweeps outputs picture forced) input file then old new =
     (status_of_answer answer ≤ 1) × KeepsOutputs outputs.items picture file then
 AnswersOrder answer (order.Device asked) input file then old new =
     AnswersCore answer asked input file then old new
@@ -51,6 +53,12 @@ abbrev pub KeepsSwept : Order → FileBytes → FileBytes → Type 0
 KeepsSwept (order.Sweep device script images choices) file then =
     (one other : Source) × AreNamed device.now script.now one other
     × KeepsInputs one other images.items choices.picture file then
-KeepsSwept (order.MergeSweeps outputs picture) file then =
+KeepsSwept (order.MergeSweeps outputs picture forced) file then =
     KeepsOutputs outputs.items picture file then
 KeepsSwept asked file then = Unit {0}
+
+-- How an order that is done used its flash: a run opened it to be written, durably if `--durable` is
+-- given, and all that it wrote is on the medium. Other orders promise nothing here.
+abbrev pub UsesFlash : Order → Openings → Openings → Bool → Type 0
+UsesFlash (order.Device asked) old new synced = core.UsesFlash asked old new synced
+UsesFlash asked old new synced = Unit {0}

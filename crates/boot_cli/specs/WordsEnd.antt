@@ -29,10 +29,11 @@ abbrev pub EndsByCut : Bool → Order → Option (List ℕ) → FileBytes → Fi
 EndsByCut is_json asked input file then old new = IsCutAnswer
     (λ answer written. AnswersIn is_json answer asked input file then old written) new
 
--- What the exit status says about the arguments. The answer is JSON if they have `--json`.
-abbrev pub EndsProgram : List Text → ℕ → Option (List ℕ) → FileBytes → FileBytes
-    → Option (List ℕ) → Option (List ℕ) → Type 0
-EndsProgram words status input file then old new =
+-- What the exit status says about the arguments. The answer is JSON if they have `--json`. An order
+-- that is done used its flash so.
+abbrev pub EndsProgram : List Text → ℕ → (Order → Type 0) → Option (List ℕ) → FileBytes
+    → FileBytes → Option (List ℕ) → Option (List ℕ) → Type 0
+EndsProgram words status Uses input file then old new =
     EndsWith words (AskFor words) (IsFault words)
-    (λ asked. AnswersIn (is_json words) Done asked input file then old new)
+    (λ asked. AnswersIn (is_json words) Done asked input file then old new × Uses asked)
     (λ asked. EndsByCut (is_json words) asked input file then old new) status file then

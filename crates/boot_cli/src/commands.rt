@@ -1,6 +1,6 @@
 //! Runs the command that an order names.
 ghost use Rattle.std.specs.Prelude.{◌≡◌, IfOk};
-ghost use Rattle.boot_cli.specs.OrderEnd.{AnswersOrder, KeepsSwept};
+ghost use Rattle.boot_cli.specs.OrderEnd.{AnswersOrder, KeepsSwept, UsesFlash};
 
 use crate::merging::run_merge;
 use crate::sweeping::{Named, run_sweep};
@@ -33,6 +33,8 @@ pub fn run_command<H: Host, O: Write, E: Write>(
         (H.input host.old) (H.file host.old) (H.file host.new)
         (O.contents out.old) (O.contents out.new)) }
     ensures swept { KeepsSwept order.now (H.file host.old) (H.file host.new) }
+    ensures used { IfOk result (λ answer. answer ≡ Answer.Done
+        → UsesFlash order.now (H.opened host.old) (H.opened host.new) (H.synced host.new)) }
 {
     match *order {
         Order::Read(order) => run_inspection(alloc, order, host, out),
@@ -70,7 +72,8 @@ pub fn run_command<H: Host, O: Write, E: Write>(
         Order::MergeSweeps {
             ref outputs,
             picture,
-        } => run_merge(alloc, outputs, picture, host, out),
+            forced,
+        } => run_merge(alloc, outputs, picture, forced, host, out),
     }
 }
 

@@ -1,7 +1,7 @@
 //! Runs an order whose answer `--explain` explains.
 ghost use Rattle.std.specs.Prelude.{◌≡◌, ◌≢◌, IfOk};
 ghost use Rattle.boot_cli.specs.JsonEnd.{AnswersIn, AnswersObject};
-ghost use Rattle.boot_cli.specs.OrderEnd.{AnswersOrder};
+ghost use Rattle.boot_cli.specs.OrderEnd.{AnswersOrder, UsesFlash};
 ghost use Rattle.boot_cli.specs.WordsEnd.{EndsByCut};
 
 use crate::commands::run_command;
@@ -61,6 +61,8 @@ pub fn run_explained<'o, H: Host, O: Write, E: Write>(
         (H.input host.old) (H.file host.old) (H.file host.new)
         (O.contents out.entry.now) (O.contents result.out.now) }
     ensures other { result.status ≢ 2 }
+    ensures used { result.status ≡ 0 → UsesFlash request.entry.order (H.opened host.old)
+        (H.opened host.new) (H.synced host.new) }
 {
     let asked = Asked {
         alloc,
@@ -85,6 +87,8 @@ fn run_remembering<'o, H: Host, O: Write, E: Write>(
         asked.entry.request.order (H.input host) (H.file host) (H.file result.0)
         (O.contents asked.entry.out.now) (O.contents result.1.out.now) }
     ensures other { result.1.status ≢ 2 }
+    ensures used { result.1.status ≡ 0 → UsesFlash asked.entry.request.order (H.opened host)
+        (H.opened result.0) (H.synced result.0) }
 {
     let Asked {
         alloc,
@@ -118,9 +122,11 @@ fn answer_noted<H: Host, O: Write, E: Write>(
     err: &mut E,
     notes: &mut Vec<u8>,
 ) -> Result<Answer, Refusal>
-    ensures { IfOk result (λ answer. AnswersIn request.now.is_json answer request.now.order
+    ensures answers { IfOk result (λ answer. AnswersIn request.now.is_json answer request.now.order
         (H.input host.old.host) (H.file host.old.host) (H.file host.new.host)
         (O.contents out.old) (O.contents out.new)) }
+    ensures used { IfOk result (λ answer. answer ≡ Answer.Done → UsesFlash request.now.order
+        (H.opened host.old.host) (H.opened host.new.host) (H.synced host.new.host)) }
 {
     if !request.is_json {
         return run_noted(alloc, &request.order, host, out, err);
@@ -152,9 +158,11 @@ fn answer_noted_object<H: Host, O: Write, E: Write>(
     err: &mut E,
     notes: &mut Vec<u8>,
 ) -> Result<Answer, Refusal>
-    ensures { IfOk result (λ answer. AnswersObject answer order.now
+    ensures answers { IfOk result (λ answer. AnswersObject answer order.now
         (H.input host.old.host) (H.file host.old.host) (H.file host.new.host)
         (O.contents out.old) (O.contents out.new)) }
+    ensures used { IfOk result (λ answer. answer ≡ Answer.Done → UsesFlash order.now
+        (H.opened host.old.host) (H.opened host.new.host) (H.synced host.new.host)) }
 {
     let mut text = Vec::new(alloc);
     let outcome = outcome_in_memory(run_command(alloc, order, host, &mut text, err));
@@ -176,9 +184,11 @@ fn run_noted<H: Host, O: Write, E: Write>(
     out: &mut O,
     err: &mut E,
 ) -> Result<Answer, Refusal>
-    ensures { IfOk result (λ answer. AnswersOrder answer order.now
+    ensures answers { IfOk result (λ answer. AnswersOrder answer order.now
         (H.input host.old.host) (H.file host.old.host) (H.file host.new.host)
         (O.contents out.old) (O.contents out.new)) }
+    ensures used { IfOk result (λ answer. answer ≡ Answer.Done → UsesFlash order.now
+        (H.opened host.old.host) (H.opened host.new.host) (H.synced host.new.host)) }
 {
     match *order {
         Order::Device(ref order) => {

@@ -44,7 +44,10 @@ fn has_notes<H: Host>(alloc: Global, refusal: &Refusal, host: &H) -> bool {
         | Refusal::ScriptLine(_)
         | Refusal::FlashFile => true,
         Refusal::OfSource(refused) => match refused.fault {
-            SourceFault::CannotRead | SourceFault::NoImage | SourceFault::CannotMerge(_) => true,
+            SourceFault::CannotRead
+            | SourceFault::NoImage
+            | SourceFault::NoPicture
+            | SourceFault::CannotMerge(_) => true,
             SourceFault::CannotReplace => !is_in_use(alloc, refused, host),
             SourceFault::TooLong(_) => false,
         },

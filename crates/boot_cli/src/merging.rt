@@ -5,8 +5,8 @@ ghost use Rattle.host.specs.Input.{KeepsFiles};
 ghost use Rattle.host.specs.Status.{status_of_answer};
 ghost use Rattle.boot_cli.specs.SweepEnd.{KeepsOutputs};
 
-use crate::sweeping::{check_picture, tell_found};
-use host::{Answer, Host, MOST_FILE, Refusal, Source, SourceFault, refuse_input};
+use crate::sweeping::{check_picture, hold_picture, tell_found};
+use host::{Answer, FlashFault, Host, MOST_FILE, Refusal, Source, SourceFault, refuse_input};
 use std::alloc::Global;
 use std::io::Write;
 use sweep::{Found, add_output};
@@ -15,7 +15,8 @@ use sweep::{Found, add_output};
 /// runs.
 ///
 /// `outputs` has the names of the outputs, and `picture` that of the picture to make, if there is
-/// one. All outputs are read before the picture is made. No other file changes. The outputs keep
+/// one. All outputs are read before the picture's file is looked up. It may be replaced if it is a
+/// picture of a sweep or empty, or if `is_forced` is set. No other file changes. The outputs keep
 /// their bytes on every path: none of them may be the picture.
 ///
 /// # Errors
@@ -26,30 +27,46 @@ pub fn run_merge<H: Host, O: Write>(
     alloc: Global,
     outputs: &[&str],
     picture: Option<&str>,
+    is_forced: bool,
     host: &mut H,
     out: &mut O,
 ) -> Result<Answer, Refusal>
     ensures answers { IfOk result (λ answer. status_of_answer answer ≤ 1) }
     ensures outputs { KeepsOutputs outputs.now picture.entry (H.file host.old) (H.file host.new) }
 {
-    let found = sum_of(alloc, outputs, host)?;
-    // Not earlier: while the host reads, a name may become that of another file.
-    refuse_outputs(alloc, host, picture, outputs)?;
+    let Sum { found, held } = sum_of(alloc, outputs, picture, host)?;
+    refuse_outputs(alloc, host, picture, is_forced, held, outputs)?;
     let Some(found) = found else {
         return Ok(Answer::Done);
     };
     tell_found(alloc, &found, picture, host, out)
 }
 
-/// The sum of these outputs. `None` if there are none.
-fn sum_of<H: Host>(alloc: Global, outputs: &[&str], host: &mut H) -> Result<Option<Found>, Refusal>
+/// What outputs add up to.
+#[derive(Drop)]
+struct Sum {
+    /// Their sum. `None` if there are none.
+    found: Option<Found>,
+    /// Why the picture can't be made or replaced, if it can't.
+    held: Result<(), FlashFault>,
+}
+
+/// Adds up these outputs, and then looks up the picture.
+fn sum_of<H: Host>(
+    alloc: Global,
+    outputs: &[&str],
+    picture: Option<&str>,
+    host: &mut H,
+) -> Result<Sum, Refusal>
     ensures { KeepsFiles (H.file host.old) (H.file host.new) }
 {
-    let mut sum = None;
+    let mut found = None;
     for output in outputs {
-        add_file(alloc, Source::named(output), &mut sum, host)?;
+        add_file(alloc, Source::named(output), &mut found, host)?;
     }
-    Ok(sum)
+    // Not earlier: while the host reads, a name may become that of another file.
+    let held = hold_picture(alloc, picture, host);
+    Ok(Sum { found, held })
 }
 
 /// Adds the findings of an output to `sum`.
@@ -74,6 +91,8 @@ fn refuse_outputs<H: Host>(
     alloc: Global,
     host: &H,
     named: Option<&str>,
+    is_forced: bool,
+    held: Result<(), FlashFault>,
     outputs: &[&str],
 ) -> Result<(), Refusal>
     ensures { OnOk result (IfSome named.entry (λ picture.
@@ -86,5 +105,5 @@ fn refuse_outputs<H: Host>(
         let output = Source::named(output);
         refuse_input(alloc, host, picture, output, Refusal::PictureIsInput)?;
     }
-    check_picture(alloc, host, picture)
+    check_picture(alloc, host, picture, is_forced, held)
 }

@@ -1,7 +1,7 @@
 //! Runs the order that the arguments give, and returns the exit status.
 ghost use Rattle.std.specs.Prelude.{◌≡◌, ◌≢◌, IfOk, map};
 ghost use Rattle.boot_cli.specs.JsonEnd.{AnswersIn, AnswersObject};
-ghost use Rattle.boot_cli.specs.OrderEnd.{KeepsSwept};
+ghost use Rattle.boot_cli.specs.OrderEnd.{KeepsSwept, UsesFlash};
 ghost use Rattle.boot_cli.specs.WordsEnd.{EndsByCut, EndsProgram};
 
 use crate::commands::run_command;
@@ -33,8 +33,10 @@ pub fn cli<S: AsStr, H: Host, O: Write, E: Write>(
     out: &mut O,
     err: &mut E,
 ) -> u8
-    ensures { EndsProgram (map S.text words.entry.now) result (H.input host.old)
-        (H.file host.old) (H.file host.new) (O.contents out.old) (O.contents out.new) }
+    ensures { EndsProgram (map S.text words.entry.now) result
+        (λ asked. UsesFlash asked (H.opened host.old) (H.opened host.new) (H.synced host.new))
+        (H.input host.old) (H.file host.old) (H.file host.new)
+        (O.contents out.old) (O.contents out.new) }
 {
     match request_in(alloc, words) {
         Ok(request) if request.is_explained => {
@@ -68,6 +70,8 @@ pub fn run_order<H: Host, O: Write, E: Write>(
         (O.contents out.old) (O.contents out.new) }
     ensures other { result ≢ 2 }
     ensures swept { KeepsSwept request.entry.order (H.file host.old) (H.file host.new) }
+    ensures used { result ≡ 0 → UsesFlash request.entry.order (H.opened host.old)
+        (H.opened host.new) (H.synced host.new) }
 {
     let mut err = UntilFailed::over(err);
     let outcome = answer_request(alloc, &request, host, out, &mut err);
@@ -90,6 +94,8 @@ fn answer_request<H: Host, O: Write, E: Write>(
         (H.input host.old) (H.file host.old) (H.file host.new)
         (O.contents out.old) (O.contents out.new)) }
     ensures swept { KeepsSwept request.now.order (H.file host.old) (H.file host.new) }
+    ensures used { IfOk result (λ answer. answer ≡ Answer.Done
+        → UsesFlash request.now.order (H.opened host.old) (H.opened host.new) (H.synced host.new)) }
 {
     if !request.is_json {
         return run_command(alloc, &request.order, host, out, err);
@@ -115,6 +121,8 @@ fn answer_object<H: Host, O: Write, E: Write>(
         (H.input host.old) (H.file host.old) (H.file host.new)
         (O.contents out.old) (O.contents out.new)) }
     ensures swept { KeepsSwept order.now (H.file host.old) (H.file host.new) }
+    ensures used { IfOk result (λ answer. answer ≡ Answer.Done
+        → UsesFlash order.now (H.opened host.old) (H.opened host.new) (H.synced host.new)) }
 {
     let mut text = Vec::new(alloc);
     let outcome = run_command(alloc, order, host, &mut text, err);

@@ -1,6 +1,7 @@
 //! Prints the progress of a sweep on standard error while it runs.
 
 use host::Host;
+use std::io;
 use std::io::Write;
 use sweep::{Cutting, Step, Watch};
 
@@ -47,20 +48,8 @@ impl<'a, H: Host, E: Write> Progress<'a, H, E> {
             }
             Step::Uncut => write!(self.err, "\rsweep: second run\x1b[K"),
             Step::Cutting(at) => {
-                let Cutting {
-                    done,
-                    all,
-                    runs,
-                    ..
-                } = at;
                 let went = now.saturating_sub(self.began.unwrap_or(now));
-                match seconds_left(at, went) {
-                    None => write!(self.err, "\rsweep: cuts {done} of {all}, {runs} runs\x1b[K"),
-                    Some(left) => write!(
-                        self.err,
-                        "\rsweep: cuts {done} of {all}, {runs} runs, {left} s left\x1b[K"
-                    ),
-                }
+                write_cutting(self.err, at, seconds_left(at, went))
             }
         };
         let _ = self.err.flush();
@@ -81,6 +70,27 @@ impl<H: Host, E: Write> Watch for Progress<'_, H, E> {
         self.told = Some(now);
         self.tell(step, now);
     }
+}
+
+/// Writes over the last line how far the runs with cuts are, the sums of the runs so far, and the
+/// seconds that are left.
+fn write_cutting<E: Write>(err: &mut E, at: Cutting, left: Option<u64>) -> io::Result<()> {
+    let Cutting {
+        done,
+        all,
+        runs,
+        others,
+        refused,
+        ..
+    } = at;
+    write!(
+        err,
+        "\rsweep: cuts {done} of {all}, {runs} runs, {others} other, {refused} refused"
+    )?;
+    if let Some(left) = left {
+        write!(err, ", {left} s left")?;
+    }
+    err.write_all(b"\x1b[K")
 }
 
 /// The estimated seconds of the other runs, if the runs so far took `went` seconds. `None` before a

@@ -20,7 +20,7 @@ use inputs::{Lines, load, read_device, read_script};
 use machine::Fault;
 use sector_map::SectorMap;
 use std::alloc::{AllocError, Global};
-use std::io::Write;
+use std::io::{ErrorKind, Write};
 use std::marker::Brand;
 use std::sync::ledger::{Blank, Ledger};
 use sweep::{Found, Part, Plan, Scenario, found_text, picture_of, sweep};
@@ -68,14 +68,24 @@ struct Script<'t, 'e> {
     events: &'e [Event<Vec<u8>>],
 }
 
+/// What a sweep begins with.
+#[derive(Drop)]
+struct Start {
+    /// The bytes of the flash before it is provisioned.
+    bytes: Vec<u8>,
+    /// Why the picture can't be made or replaced, if it can't.
+    held: Result<(), FlashFault>,
+}
+
 /// Runs a script on a device with power cuts, and writes to `out` how the runs ended.
 ///
 /// The device file, the script and the images are read from `host`. The flash is made and
 /// provisioned in memory of `alloc`. `named` says at which writes the power fails. At a terminal,
 /// the progress is written to `err`.
 ///
-/// All files are checked before the first run, and also that the picture can be made, if `named`
-/// has one. The picture is made or replaced after all runs. No other file changes. The device file,
+/// All files are checked before the first run. If `named` has a picture, its file is looked up then,
+/// and locked if it exists. It may be replaced if it is a picture of a sweep or empty, or if that is
+/// forced. The picture is made or replaced after all runs. No other file changes. The device file,
 /// the script, the files that its lines name and the images keep their bytes on every path: none of
 /// them may be the picture.
 pub fn run_sweep<H: Host, O: Write, E: Write>(
@@ -115,12 +125,13 @@ fn reads_standard_input(named: &Named<'_, '_>) -> bool {
 }
 
 /// Refuses a picture that can't be made, or whose file is an input. `text` is the text of the
-/// script.
+/// script, and `held` is the result of looking the picture up.
 fn refuse_inputs<H: Host>(
     alloc: Global,
     host: &H,
     named: &Named<'_, '_>,
     text: &[u8],
+    held: Result<(), FlashFault>,
 ) -> Result<(), Refusal>
     ensures { OnOk result (IfSome named.now.choices.picture (λ picture.
         IsNoInput (H.apart host.now) picture.now
@@ -136,7 +147,7 @@ fn refuse_inputs<H: Host>(
         let image = Source::named(image);
         refuse_input(alloc, host, picture, image, Refusal::PictureIsInput)?;
     }
-    check_picture(alloc, host, picture)
+    check_picture(alloc, host, picture, named.choices.is_forced, held)
 }
 
 /// Refuses a picture whose file a line of this script text names.
@@ -187,9 +198,8 @@ fn sweep_images<H: Host, O: Write, E: Write>(
         (IsNamedBy script.entry.text.now) named.now.choices.picture
         (H.file host.old) (H.file host.new) }
 {
-    let bytes = read_images(alloc, &device.map, named.images, host)?;
-    // Not earlier: while the host reads, a name may become that of another file.
-    refuse_inputs(alloc, host, named, script.text)?;
+    let Start { bytes, held } = prepare(alloc, &device.map, named, host)?;
+    refuse_inputs(alloc, host, named, script.text, held)?;
     let Ok(made) = provision_in_memory::<Brand>(alloc, Blank::new(2), &device.map, bytes) else {
         return Err(Refusal::NoMemory);
     };
@@ -205,6 +215,36 @@ fn sweep_images<H: Host, O: Write, E: Write>(
             };
             tell_sweep(alloc, &scenario, &named.choices, host, out, err)
         }
+    }
+}
+
+/// Reads the images, and then looks up the picture.
+fn prepare<H: Host>(
+    alloc: Global,
+    map: &SectorMap,
+    named: &Named<'_, '_>,
+    host: &mut H,
+) -> Result<Start, Refusal>
+    ensures whole { IfOk result (λ start. IsFlashOf map.now start.bytes.items) }
+    ensures kept { KeepsFiles (H.file host.old) (H.file host.new) }
+{
+    let bytes = read_images(alloc, map, named.images, host)?;
+    // Not earlier: while the host reads, a name may become that of another file.
+    let held = hold_picture(alloc, named.choices.picture, host);
+    Ok(Start { bytes, held })
+}
+
+/// Looks up the file of the picture, if it has a name.
+pub(crate) fn hold_picture<H: Host>(
+    alloc: Global,
+    picture: Option<&str>,
+    host: &mut H,
+) -> Result<(), FlashFault>
+    ensures { KeepsFiles (H.file host.old) (H.file host.new) }
+{
+    match picture {
+        Some(name) => host.hold_output(alloc, name, Replaced::PlainFile),
+        None => Ok(()),
     }
 }
 
@@ -325,24 +365,60 @@ fn replace<H: Host>(alloc: Global, name: &str, bytes: &[u8], host: &mut H) -> Re
     }
 }
 
-/// Refuses a picture that can neither be made nor replace a file, before the first run.
+/// Refuses a picture that can neither be made nor replace a file, before the first run. `held` is the
+/// result of looking it up.
 pub(crate) fn check_picture<H: Host>(
     alloc: Global,
     host: &H,
     picture: &str,
+    is_forced: bool,
+    held: Result<(), FlashFault>,
 ) -> Result<(), Refusal> {
-    match host.check_replaceable(alloc, picture) {
-        Ok(()) => Ok(()),
+    match held {
+        Ok(()) if is_forced => Ok(()),
+        Ok(()) => refuse_other(alloc, host, picture),
         Err(fault) => Err(picture_refusal(alloc, picture, fault)),
     }
+}
+
+/// Refuses to replace a file that exists and neither is empty nor begins as a picture of a sweep.
+fn refuse_other<H: Host>(alloc: Global, host: &H, picture: &str) -> Result<(), Refusal> {
+    let file = Source::File(picture);
+    match host.is_plain(picture) {
+        Ok(true) => {}
+        Err(error) if error.kind() == ErrorKind::NotFound => return Ok(()),
+        Ok(false) | Err(_) => return Err(file.refused(alloc, SourceFault::CannotReplace)),
+    }
+    match host.read_again(alloc, picture, MOST_START) {
+        Ok(start) if start.is_empty() || begins_as_picture(&start) => Ok(()),
+        Ok(_) => Err(file.refused(alloc, SourceFault::NoPicture)),
+        Err(error) => Err(file.refusal(alloc, error)),
+    }
+}
+
+/// The most bytes that are read of a file to see whether it is a picture.
+const MOST_START: u32 = 512;
+
+/// Whether a file with these first bytes begins as [`picture_of`] begins a picture.
+fn begins_as_picture(start: &[u8]) -> bool {
+    let Ok(text) = str::from_utf8(start) else {
+        return false;
+    };
+    let Some((head, rest)) = text.split_once('\n') else {
+        return false;
+    };
+    head.starts_with("<svg xmlns=\"http://www.w3.org/2000/svg\" width=\"")
+        && head.ends_with("\" font-family=\"sans-serif\" font-size=\"12\">")
+        && rest.starts_with("<rect width=\"100%\" height=\"100%\" fill=\"white\"/>\n")
 }
 
 /// The refusal of a picture that can neither be made nor replace a file.
 fn picture_refusal(alloc: Global, name: &str, fault: FlashFault) -> Refusal {
     match fault {
         FlashFault::NoMemory => Refusal::NoMemory,
-        FlashFault::InUse | FlashFault::WrongLength | FlashFault::Failed(_) => {
-            Source::File(name).refused(alloc, SourceFault::CannotReplace)
-        }
+        FlashFault::InUse
+        | FlashFault::WrongLength
+        | FlashFault::OnlyReadable(_)
+        | FlashFault::Failed(_) => { Source::File(name).refused(alloc, SourceFault::CannotReplace) }
     }
 }

@@ -61,6 +61,10 @@ pub struct Cutting {
     pub seconds: u64,
     /// The number of runs so far.
     pub runs: u64,
+    /// The number of them with an unexpected end.
+    pub others: u64,
+    /// The number of them in which a boot was refused.
+    pub refused: u64,
 }
 
 /// A step of a sweep.

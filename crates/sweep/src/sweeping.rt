@@ -91,6 +91,8 @@ pub fn sweep<W: Watch>(
             seconds_done: 0,
             seconds: 0,
             runs: 0,
+            others: 0,
+            refused: 0,
         },
     };
     runs.run_uncut()?;
@@ -263,6 +265,8 @@ impl<W: Watch> Runs<'_, '_, W> {
         }
         self.found.count_run(Some(cuts), end)?;
         self.at.runs = self.found.runs;
+        self.at.others = self.found.others.runs;
+        self.at.refused = self.found.refused.runs;
         self.watch.see(Step::Cutting(self.at));
         Ok(writes)
     }

@@ -1,6 +1,6 @@
 //! Runs an order to a device, and writes an object for each reply.
-ghost use Rattle.std.specs.Prelude.{IfOk, None};
-ghost use Rattle.device_commands.specs.CoreEnd.{AnswersCore};
+ghost use Rattle.std.specs.Prelude.{◌≡◌, IfOk, None};
+ghost use Rattle.device_commands.specs.CoreEnd.{AnswersCore, UsesFlash};
 
 use crate::json::replies::{PendingNotes, ReplyObjects};
 use command_line::DeviceOrder;
@@ -19,8 +19,10 @@ pub fn answer_replies<H: Host, O: Write>(
     host: &mut H,
     out: &mut O,
 ) -> Result<Answer, Refusal>
-    ensures { IfOk result (λ answer. AnswersCore answer order.now
+    ensures answers { IfOk result (λ answer. AnswersCore answer order.now
         (H.input host.old) (H.file host.old) (H.file host.new) None None) }
+    ensures used { IfOk result (λ answer. answer ≡ Answer.Done
+        → UsesFlash order.now (H.opened host.old) (H.opened host.new) (H.synced host.new)) }
 {
     let notes = Cell::new(Vec::new(alloc));
     let mut replies = ReplyObjects::over(alloc, out, &notes);
@@ -36,8 +38,10 @@ pub fn answer_noted_replies<H: Host, O: Write>(
     host: &mut Remembering<H>,
     out: &mut O,
 ) -> Result<Answer, Refusal>
-    ensures { IfOk result (λ answer. AnswersCore answer order.now
+    ensures answers { IfOk result (λ answer. AnswersCore answer order.now
         (H.input host.old.host) (H.file host.old.host) (H.file host.new.host) None None) }
+    ensures used { IfOk result (λ answer. answer ≡ Answer.Done → UsesFlash order.now
+        (H.opened host.old.host) (H.opened host.new.host) (H.synced host.new.host)) }
 {
     let notes = Cell::new(Vec::new(alloc));
     answer_through(alloc, order, host, out, &notes)
@@ -52,8 +56,10 @@ fn answer_through<H: Host, O: Write>(
     out: &mut O,
     notes: &Cell<Vec<u8>>,
 ) -> Result<Answer, Refusal>
-    ensures { IfOk result (λ answer. AnswersCore answer order.now
+    ensures answers { IfOk result (λ answer. AnswersCore answer order.now
         (H.input host.old.host) (H.file host.old.host) (H.file host.new.host) None None) }
+    ensures used { IfOk result (λ answer. answer ≡ Answer.Done → UsesFlash order.now
+        (H.opened host.old.host) (H.opened host.new.host) (H.synced host.new.host)) }
 {
     let mut replies = ReplyObjects::over(alloc, out, notes);
     let mut pending = PendingNotes::to(alloc, notes);

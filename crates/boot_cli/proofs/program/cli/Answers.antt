@@ -6,7 +6,8 @@ use Rattle.boot_cli.proofs.WordsLaws.{EndsProgram-order}
 pub returns-in-Ok : goal.returns-in-Ok
 returns-in-Ok g c =
     let same = c.run_explained.ensures.same_out in
-    let ends = EndsProgram-order _ c.in-Ok.request.order c.in-Ok.request.is_json _ _ _ _ _ _
+    let ends = EndsProgram-order _ c.in-Ok.request.order c.in-Ok.request.is_json _ _ _ _ _ _ _
     c.in-Ok.ensures.order c.in-Ok.ensures.json
-    c.run_explained.ensures.done c.run_explained.ensures.other c.run_explained.ensures.cut in
+    c.run_explained.ensures.done c.run_explained.ensures.other c.run_explained.ensures.cut
+    c.run_explained.ensures.used in
     search rules

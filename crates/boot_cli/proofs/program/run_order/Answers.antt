@@ -1,5 +1,5 @@
 use Rattle.boot_cli.proofs.program.run_order.Goals as goal
-use Rattle.boot_cli.proofs.OrderLaws.{cut_after, done_after}
+use Rattle.boot_cli.proofs.OrderLaws.{cut_after, done_after, used_after}
 use Rattle.device_commands.proofs.WordsLaws.{never_usage}
 
 -- The status is 0 only after `Done`.
@@ -17,3 +17,8 @@ returns-clause-cut g c =
 -- No command ends as a usage fault does.
 pub returns-clause-other : goal.returns-clause-other
 returns-clause-other g c = never_usage c.answer_request-outcome.result c.finish-status.result c.finish-status.ensures.ends
+
+-- A run that ends with status 0 was done.
+pub returns-clause-used : goal.returns-clause-used
+returns-clause-used g c =
+    used_after c.answer_request-outcome.result c.finish-status.result _ c.answer_request-outcome.ensures.used c.finish-status.ensures.status
