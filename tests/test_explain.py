@@ -385,7 +385,7 @@ class ExplainFileTest(ProgramTest):
         """`--explain` gives the wrong key of a device file, its value, and the values that are accepted."""
         flash_of(self)
         for text, why in DEVICES:
-            message = b"error: device file\n" + note_lines(*why)
+            message = b"error: device file\n" + note_lines(b"device is no device file:", *why)
             for command in ("show", "slots"):
                 arguments = [command, self.file("device", text), "flash", "--explain"]
                 self.expect(f"explained: {command}: {text[:60]!r}", arguments, 1, b"", message)

@@ -1,6 +1,5 @@
 """What `--explain` notes about outputs that aren't made, about the state of a device, and about flash files."""
 
-import ctypes
 import fcntl
 import os
 
@@ -9,7 +8,7 @@ from support.commands import make_manifest
 from support.files import ONE, PAIR, read
 from support.flashes import flash_of
 from support.printed import note_lines
-from support.program import ProgramTest, short
+from support.program import ProgramTest, obey_permissions, short
 from support.stories import new_device, script_of
 from support.worked import PLAIN, numbered
 
@@ -98,15 +97,34 @@ def one_of(*numbers):
     return 0xA0, b"".join(on(it)[1] for it in numbers)
 
 
-# Images for image 0 of a device of two images, and why no boot can take them.
+# Images for image 0 of a device of two images, whether they need this image, and why no boot can take them.
 NEVER_TAKEN = [
-    ("it needs image 2", needing(on(2)), b"no-such-image 2"),
-    ("it needs images 1 and 255", needing(on(1), on(255), on(2)), b"no-such-image 255"),
-    ("it needs itself in a higher version", needing(on(0, 3)), b"needs 0 3.0.0+0"),
-    ("it needs one of images 2 and 7", needing(one_of(1, 0), one_of(2, 7)), b"needs-one 2 1.0.0+0 7 1.0.0+0"),
-    ("it needs itself as it is", needing(on(0, 2)), None),
-    ("it needs image 1 in any version", needing(on(1, 255)), None),
-    ("it needs one of images 1 and 2", needing(one_of(2, 1)), None),
+    ("it needs image 2", needing(on(2)), False, b"no-such-image 2"),
+    ("it needs images 1 and 255", needing(on(1), on(255), on(2)), False, b"no-such-image 255"),
+    ("it needs itself in a higher version", needing(on(0, 3)), True, b"needs 0 3.0.0+0"),
+    ("it needs one of images 2 and 7", needing(one_of(1, 0), one_of(2, 7)), True, b"needs-one 2 1.0.0+0 7 1.0.0+0"),
+    ("it needs itself as it is", needing(on(0, 2)), True, None),
+    ("it needs image 1 in any version", needing(on(1, 255)), False, None),
+    ("it needs one of images 1 and 2", needing(one_of(2, 1)), False, None),
+]
+
+# The note on a file whose image needs the image that the file is for.
+OWN = b"%s is for image %d and needs image %d, which is itself: it may be the file of another image"
+
+# Bodies of images, and the notes.
+BODIES = [
+    ("nothing", b"", [b"body is empty: the image has no code"]),
+    (
+        "an ELF file",
+        b"\x7fELF\2\1\1",
+        [
+            b"body is an ELF file: a device runs the bytes of the body as they are, such as `objcopy -O binary` makes"
+            b" them"
+        ],
+    ),
+    ("an image", image([]), [b"body begins as an image does: the new image has its header before that of the body"]),
+    ("half of a word", b"\x7fEL", []),
+    ("a vector table", little(0x20001000, 4) + little(0x101, 4), []),
 ]
 
 
@@ -175,9 +193,10 @@ class ExplainOutputTest(ProgramTest):
     def test_files_that_no_boot_takes(self):
         """`make-manifest` notes once that no boot can take a file, with a flash and without one."""
         flash_of(self)
-        for name, one, reason in NEVER_TAKEN:
+        for name, one, is_own, reason in NEVER_TAKEN:
             arguments = make_manifest(f"--test=0={self.file('one', one)}")
-            note = b"" if reason is None else b"note: a boot would refuse image 0: %s\n" % reason
+            note = note_lines(*[OWN % (b"one", 0, 0)] * is_own)
+            note += b"" if reason is None else b"note: a boot would refuse image 0: %s\n" % reason
             status, out, err = self.run_program(arguments)
             is_so = (status, err) == (0, note) and out.startswith(b'{"manifest-version":1')
             self.case(f"make-manifest: {name}", [] if is_so else [short((status, out, err))])
@@ -185,6 +204,28 @@ class ExplainOutputTest(ProgramTest):
                 status, _, err = self.run_program([*arguments, "--precursor=flash"])
                 is_so = (status, err) == (0, note)
                 self.case(f"make-manifest: {name}, beside a flash", [] if is_so else [short((status, err))])
+
+
+class ExplainDoneTest(ProgramTest):
+    """Commands that are done, perhaps with another file than was meant."""
+
+    def test_bodies(self):
+        """`--explain` says that a body is empty, an ELF file or an image. The image is made all the same."""
+        for name, body, why in BODIES:
+            arguments = ["make-image", "made", self.file("body", body), "--version=1"]
+            expect_notes(self, f"make-image: a body that is {name}", arguments, b"done\n", why, 0)
+
+    def test_changed_places(self):
+        """`--explain` names each new image that needs the image of its own place, as two do that changed places."""
+        self.file("a.img", needing(on(1)))
+        self.file("b.img", needing(on(0)))
+        self.file("boot", b"boot\n")
+        why = [OWN % (b"b.img", 0, 0), OWN % (b"a.img", 1, 1)]
+        for name, arguments in [("provision", [PAIR, "flash"]), ("sweep", [PAIR, "boot"])]:
+            for images, notes in [(["b.img", "a.img"], why), (["a.img", "b.img"], [])]:
+                given = [name, *arguments, *images]
+                out = self.run_program(given)[1]
+                expect_notes(self, f"{name}: {' '.join(images)}", given, out, notes, 0)
 
 
 NO_IMAGE = b"there is no image %d; there are 2, from 0 on"
@@ -226,12 +267,6 @@ STATES = [
 ]
 
 HELD = b"another program holds %s, or is replacing it: one that writes it holds it alone"
-
-
-def obey_permissions():
-    """Makes the program of a superuser obey the permissions of files."""
-    drop_from_bound, override = 24, 1
-    ctypes.CDLL(None, use_errno=True).prctl(drop_from_bound, override, 0, 0, 0)
 
 
 TRIED = (
@@ -386,13 +421,11 @@ class ExplainStateTest(ProgramTest):
         path = f"{self.folder}/flash"
         os.chmod(path, 0o444)
         arguments = ["run", PAIR, "flash", "-"]
-        script = b"boot\naccept examples/manifests/trial.json\n"
-        out = numbered([PLAIN, "cut"])
         why = [
             b"flash can't be opened for writing: its permissions, or those of its file system, allow only reading"
         ]
-        how = {"given": script, "preexec_fn": obey_permissions}
-        expect_notes(self, "a flash that can't be written", arguments, out, why, 4, b"error: flash file\n", **how)
+        how = {"given": b"boot\n", "preexec_fn": obey_permissions}
+        expect_notes(self, "a flash that can't be written", arguments, b"", why, 4, b"error: flash file\n", **how)
 
     def test_mixed_trials(self):
         """When a set begins its trial and when it reverts, `--explain` names each image that was requested

@@ -10,14 +10,8 @@ from support.commands import ABC_MANIFEST
 from support.files import EXAMPLES, ONE, PAIR, read
 from support.flashes import flash_of
 from support.printed import CANNOT_MAKE, IN_USE
-from support.program import LIMIT, ProgramTest, short, shown
+from support.program import LIMIT, ProgramTest, is_written_by_one, obey_permissions, short, shown
 from support.stories import flash_in, new_device
-
-
-def is_written_by_one(path):
-    """Whether a program holds a file exclusively, by the locks that the system lists."""
-    of_file = f":{os.stat(path).st_ino} "
-    return any("FLOCK" in it and "WRITE" in it and of_file in it for it in read("/proc/locks").decode().splitlines())
 
 
 RUN, MADE = ["run", PAIR, "flash", "-"], ["provision", PAIR, "flash", ONE, ONE]
@@ -98,6 +92,29 @@ class FlashFileTest(ProgramTest):
         with open(f"{self.folder}/flash", "rb") as held:
             fcntl.flock(held, fcntl.LOCK_EX)
             self.expect("a flash file of 8193 bytes that is written: show", ["show", PAIR, "flash"], 1, err=IN_USE)
+
+    def test_flash_that_can_only_be_read(self):
+        """A run on a flash file that can't be opened for writing ends before its first event."""
+        whole, path = flash_of(self), f"{self.folder}/flash"
+        os.chmod(path, 0o444)
+        script = f"boot\naccept {ABC_MANIFEST}\n".encode()
+        rows = [
+            ("a script that writes", "flash", script, 4, CANNOT_MAKE),
+            ("a script that writes nothing", "flash", b"boot\n", 4, CANNOT_MAKE),
+            ("no event", "flash", b"", 4, CANNOT_MAKE),
+            ("a wrong line", "flash", b"frob\n", 4, CANNOT_MAKE),
+            ("a flash of another length", "short", b"boot\n", 1, b"error: flash size\n"),
+        ]
+        self.file("short", whole[1:])
+        os.chmod(f"{self.folder}/short", 0o444)
+        for how in ([], ["--durable"]):
+            for name, flash, given, status, err in rows:
+                arguments = ["run", *how, PAIR, flash, "-"]
+                title = f"a flash file that can only be read: {name} {' '.join(how)}"
+                self.expect(title, arguments, status, err=err, given=given, preexec_fn=obey_permissions)
+        is_read = self.run_program(["show", PAIR, "flash"], preexec_fn=obey_permissions)[0] == 0
+        faults = [] if is_read and read(path) == whole else ["it was changed, or can't be shown"]
+        self.case("a flash file that can only be read: its bytes", faults)
 
     def test_written_in_place(self):
         """A run writes the flash file in place, by any of its names, and changes only the bytes that differ."""

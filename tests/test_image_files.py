@@ -18,17 +18,21 @@ def expect_made(test, name, arguments, status, out, err, others, **how):
     test.case(f"a file of make-image: {name}", faults + sorted(changed ^ set(others)))
 
 
-# The 32 bytes of an accepted header, and of three others: with another magic number, with 31 bytes, and with an
-# unknown flag.
+# The 32 bytes of an accepted header, and files that are no intact image. A flash begins with one.
 HEADER = bytes.fromhex("3db8f396" "00000000" "2000" "0000" "04000000" "00000000" "0100000000000000" "00000000")
 
-NO_HEADERS = {
+NO_IMAGES = {
     "of text": b"old",
     "of a byte": b"\n",
     "of a header but for its last byte": HEADER[:-1],
     "of another magic number": b"\x3c" + HEADER[1:],
     "of a header size of 31": HEADER[:8] + b"\x1f\0" + HEADER[10:],
     "of a flag that isn't accepted": HEADER[:16] + b"\2\0\0\0" + HEADER[20:],
+    "of a header alone": HEADER,
+    "of an image but for its last byte": read(ONE)[:-1],
+    "of an image and a byte": read(ONE) + b"\xff",
+    "of an image and an erased slot": read(ONE) + 1000 * b"\xff",
+    "of a damaged image": read(ONE)[:-1] + bytes([read(ONE)[-1] ^ 1]),
 }
 
 
@@ -75,7 +79,8 @@ class ImageFileTest(ProgramTest):
         path = lambda name: f"{self.folder}/{name}"
         one = read(ONE)
         arguments = ["own", self.file("body", b"ABCD"), "--version=1.0.0+0"]
-        for old, more in ((None, []), (b"", []), (one[:-1], []), (1000 * b"Z", ["--force"]), (b"short", ["--force"])):
+        other = read(f"{EXAMPLES}/images/counted.img")
+        for old, more in ((None, []), (b"", []), (other, []), (one[:-1], ["--force"]), (1000 * b"Z", ["--force"])):
             if os.path.exists(path("own")):
                 os.remove(path("own"))
             if old is not None:
@@ -109,7 +114,7 @@ class ImageFileTest(ProgramTest):
         path = lambda name: f"{self.folder}/{name}"
         one = read(ONE)
         self.file("body", b"ABCD")
-        for name, old in NO_HEADERS.items():
+        for name, old in NO_IMAGES.items():
             self.file("own", old)
             arguments = ["own", "body", "--version=1.0.0"]
             expect_made(self, f"{name} stays", arguments, 1, b"", b"error: own is no image\n", [])
@@ -117,8 +122,6 @@ class ImageFileTest(ProgramTest):
             self.case(
                 f"a file of make-image: {name}, by force: it is whole", [] if read(path("own")) == one else ["no"]
             )
-        self.file("own", HEADER)
-        expect_made(self, "of a header alone", ["own", "body", "--version=1.0.0"], 0, b"done\n", b"", ["own"])
         swapped, message = ["body", "own", "--version=1.0.0"], b"error: body is no image\n"
         expect_made(self, "that is a body", swapped, 1, b"", message, [])
         message += b"note: OUT comes first, then BODY: `--force` replaces body by an image of own\n"

@@ -56,11 +56,11 @@ def making(test):
     new_device(test)
     test.file("body", b"ABCD")
     cannot = lambda name: (1, b"", f"error: cannot write {name}\n".encode())
-    yield ["provision", PAIR, "made", ONE, ONE], "made", (4, b"", CANNOT_MAKE), (1, b"", IN_USE)
+    yield ["provision", PAIR, "made", ONE, ONE, "--force"], "made", (4, b"", CANNOT_MAKE), (1, b"", IN_USE)
     image_in_use = (1, b"", b"error: image in use\n")
     yield ["make-image", "own", "body", "--version=1", "--force"], "own", cannot("own"), image_in_use
     yield ["extract", PAIR, "flash", "0", "primary", "copy", "--force"], "copy", cannot("copy"), image_in_use
-    sweep = ["sweep", "--sample=1", "--svg", "picture", PAIR, BOOT, ONE, ONE]
+    sweep = ["sweep", "--sample=1", "--svg", "picture", "--force", PAIR, BOOT, ONE, ONE]
     yield sweep, "picture", cannot("picture"), cannot("picture")
 
 
@@ -123,9 +123,7 @@ class NewFileTest(ProgramTest):
             faults = [] if is_done(got) and made == [*fresh, "sync FOLDER"] else [short(got), *made]
             self.case(f"a file that isn't there: {arguments[0]}: the order of its calls", faults)
             for mode in MODES:
-                # `sweep` checks before its work whether it can replace the file.
-                opened = [f"open {name}", f"lock {name}"] if arguments[0] == "sweep" else []
-                opened += [f"open {name}", f"lock {name}", "folder FOLDER", f"make NEW {mode & 0o600:o}", "lock NEW"]
+                opened = [f"open {name}", f"lock {name}", "folder FOLDER", f"make NEW {mode & 0o600:o}", "lock NEW"]
                 wanted = [*opened, "write NEW", f"change NEW {mode:o}", "sync NEW", f"rename NEW {name}", "sync FOLDER"]
                 path = put(self, name, b"old", mode)
                 got = self.run_program(arguments, env=staged(self))
@@ -305,9 +303,7 @@ class ReplacedFileTest(ProgramTest):
             link = f"{self.folder}/by-link"
             os.symlink(name, link)
             by_link = ["by-link" if it == name else it for it in arguments]
-            # `sweep` opens the file once before its work, and closes it again.
-            opened = f"folder {folder_of(self)}" if arguments[0] == "sweep" else f"open {name}"
-            got = self.run_program(by_link, env=staged(self, at=opened, do="ln -sf other by-link"))
+            got = self.run_program(by_link, env=staged(self, at=f"open {name}", do="ln -sf other by-link"))
             is_right = is_done(got) and contents(path) not in (None, b"old") and read(other) == b"another's"
             self.case(f"{arguments[0]} by a link that is changed meanwhile", [] if is_right else [short(got)])
             os.remove(link)

@@ -25,6 +25,15 @@ def parts_of(sector, slots):
     return "\n".join([*lines, f"flash {at}", ""]).encode()
 
 
+# The note before the parts if the vendor's name is empty.
+NO_VENDOR = b"note: `--vendor` is empty: the vendor ID is made from a domain name, and each device without one has the same\n"
+
+
+def err_of(sector, slots, vendor):
+    """What `make-device` prints on standard error."""
+    return (b"" if vendor else NO_VENDOR) + parts_of(sector, slots)
+
+
 # Devices of one image and of eight, at the limits of their sizes: sectors, slots, vendors, classes, and boots
 # of a trial.
 NEW_DEVICES = [
@@ -107,7 +116,7 @@ class MakeDeviceTest(ProgramTest):
             vendor_id = uuid.uuid5(uuid.NAMESPACE_DNS, vendor)
             ids = {"vendor-id": str(vendor_id), "class-id": str(uuid.uuid5(vendor_id, name))}
             wanted = {"sector": sector, "sectors": slots, **ids, **({"trial-boots": boots[0]} if boots else {})}
-            is_right = status == 0 and err == parts_of(sector, slots) and out.endswith(b"}\n")
+            is_right = status == 0 and err == err_of(sector, slots, vendor) and out.endswith(b"}\n")
             is_right = is_right and json.loads(out) == wanted
             title = f"make-device: {sector} bytes, slots of {slots}"
             self.case(title, [] if is_right else [f"{status} {short(out)} {short(err)}"])
@@ -144,7 +153,7 @@ class MakeDeviceTest(ProgramTest):
             out = f'{{"sector":{sector},"sectors":[{slots_text}],\n {ids}{last}}}\n'
             arguments = make_device(sector, slots, vendor, name, *boots)
             title = f"the text of a device file: {sector} bytes, slots of {slots}, {vendor}, {name!r}, boots {boots}"
-            self.expect(title, arguments, 0, out.encode(), parts_of(sector, slots))
+            self.expect(title, arguments, 0, out.encode(), err_of(sector, slots, vendor))
         for sector, slots, refusal in NO_MAPS:
             out = f"refused map {refusal}\n".encode()
             self.expect(f"no map: {sector} bytes, slots of {slots}", make_device(sector, slots, "v", "c"), 1, out)

@@ -210,10 +210,23 @@ class RefusedNewManifestTest(ProgramTest):
         self.expect("make-manifest: the device and a file as -", make_manifest("--test=0=-", of="-"), 2, b"", err)
 
 
+# The notes on the state of a device.
+TRYING = b"note: a set of images is on trial: the device takes no uploads until a boot ends the trial\n"
+LOWER = b"note: the device accepted a manifest of sequence number %d, and refuses a lower one\n"
+
 # Events that request image 0, and events that raise its floor to 5.
 FIRST_COMES = "boot, accept first.json, piece 0 needing.img, finish 0"
 
 FLOOR_RAISED = "boot, accept patched.json, piece 0 patched.img, finish 0, boot"
+
+
+def own_note(name, number):
+    """The note on a file whose image needs the image that it is."""
+    name = name.encode()
+    return (
+        b"note: %s is for image %d and needs image %d, which is itself: it may be the file of another image\n"
+        % (name, number, number)
+    )
 
 
 def refused_note(number, reason):
@@ -232,7 +245,18 @@ NEXT_BOOTS = [
     ("an older one", "", ["--test=0=older.img"], refused_note(0, "older")),
     ("a counter below the floor", FLOOR_RAISED, ["--test=0=stale.img"], refused_note(0, "counter")),
     ("a damaged file", "", ["--test=0=abc"], NO_IMAGE),
-    ("both on a trial", f"{UPLOADED}, boot", ["--test=0=older.img"], b""),
+    ("both on a trial", f"{UPLOADED}, boot", ["--test=0=older.img"], TRYING),
+]
+
+# Events, a sequence number, the notes, and the device's reply to the manifest after its next boot.
+STATES = [
+    ("a lower number", "boot, accept for-good.json", 6, LOWER % 7, "refused upload 1 OldSequence"),
+    ("the same number", "boot, accept for-good.json", 7, b"", "done"),
+    ("a higher number", "boot, accept for-good.json", 8, b"", "done"),
+    ("a trial", f"{UPLOADED}, boot", 1, TRYING, "refused upload 8 WrongPrecursor"),
+    ("a trial, and a lower number", f"{UPLOADED}, boot", 0, LOWER % 1 + TRYING, "refused upload 1 OldSequence"),
+    ("a trial that is confirmed", f"{UPLOADED}, boot, confirm 0, confirm 1", 1, TRYING, "done"),
+    ("after a trial", f"{UPLOADED}, boot, boot", 1, b"", "done"),
 ]
 
 
@@ -276,8 +300,36 @@ class NoteOfManifestTest(ProgramTest):
         new_device(self)
         self.file("flash", IMAGES["needing.img"] + flash_in(self)[96:])
         status, _, err = self.run_program(make_manifest("--test=1=needing.img", "--precursor=flash"))
-        faults = [] if (status, err) == (0, b"") else [f"{status} {short(err)}"]
+        faults = [] if (status, err) == (0, own_note("needing.img", 1)) else [f"{status} {short(err)}"]
         self.case("make-manifest: the next boot: what runs doesn't fit", faults)
+
+    def test_states(self):
+        """With a flash, `make-manifest` notes that its device accepted a higher sequence number, and that it is on
+        trial. The device replies as the note says."""
+        for name, events, sequence, note, reply in STATES:
+            new_device(self)
+            run_of(self, events)
+            got = self.run_program(make_manifest("--test=0=newer.img", "--precursor=flash", sequence=sequence))
+            alone = self.run_program(make_manifest("--test=0=newer.img", sequence=sequence))
+            faults = [] if (got[0], got[2]) == (0, note) and alone[::2] == (0, b"") else [short((got, alone))]
+            self.file("made.json", got[1])
+            out = self.run_program(["run", PAIR, "flash", "-"], given=b"boot\naccept made.json\n")[1]
+            faults += [] if out.decode().splitlines()[-1] == f"2 {reply}" else [short(out)]
+            self.case(f"make-manifest: the state of the device: {name}", faults)
+
+    def test_changed_places(self):
+        """`make-manifest` notes a file whose image needs the image that it is for, as those of two images that
+        changed places do."""
+        new_device(self)
+        for name, options, note in [
+            ("changed", ["--test=0=partner.img", "--test=1=needing.img"],
+             own_note("partner.img", 0) + own_note("needing.img", 1)),
+            ("right", ["--test=0=needing.img", "--test=1=partner.img"], b""),
+        ]:
+            for more in ([], ["--precursor=flash"]):
+                status, _, err = self.run_program(make_manifest(*options, *more))
+                faults = [] if (status, err) == (0, note) else [short((status, err))]
+                self.case(f"make-manifest: the places of two images: {name} {more}", faults)
 
     def test_strict(self):
         """With `--strict`, the status is 1 if there is a note. Nothing else changes."""

@@ -30,7 +30,7 @@ class ProvisionTest(ProgramTest):
         patched = f"{EXAMPLES}/images/patched.img"
         log = lambda floor: little(1, 8) + little(floor, 4) + bytes(44) + FLAG
         wanted = placed(8192, {0: one, 1536: one, 6656: log(0), 8184: FLAG})
-        self.file("flash", 9000 * b"x")
+        self.file("flash", 8192 * b"x")
         self.expect("provision", ["provision", PAIR, "flash", ONE, ONE], 0, b"done\n")
         same = lambda name, bytes: expect_flash(self, f"provision: {name}", bytes)
         same("the file is that of a new device, whatever it held", wanted)
@@ -87,7 +87,7 @@ class ProvisionTest(ProgramTest):
         """If `provision` failed, it can make the flash afterwards."""
         whole = new_device(self)
         arguments = [PAIR, "made", "one.img", "one.img"]
-        for name, old in [("a new one", None), ("an old one", b"old")]:
+        for name, old in [("a new one", None), ("an old one", 8192 * b"o")]:
             if old is not None:
                 self.file("made", old)
             expect_no_change(self, f"a flash that can't be written: {name}", arguments, 4, err=CANNOT_MAKE, most=4096)
@@ -116,21 +116,60 @@ class ReplacedFlashTest(ProgramTest):
 
         os.remove(path("flash"))
         expect_replaced("a file that isn't there", [])
-        self.file("flash", b"old")
+        self.file("flash", 8192 * b"o")
         os.link(path("flash"), path("second"))
         os.chmod(path("flash"), 0o640)
         expect_replaced("a file with a second name", [])
-        is_right = read(path("second")) == b"old" and stat.S_IMODE(os.stat(path("flash")).st_mode) == 0o640
+        is_right = read(path("second")) == 8192 * b"o" and stat.S_IMODE(os.stat(path("flash")).st_mode) == 0o640
         self.case("provision: the second name and the permissions", [] if is_right else ["they changed"])
         os.remove(path("second"))
-        self.file("flash", b"old")
+        self.file("flash", b"")
         os.symlink("flash", path("link"))
         expect_replaced("a file by a link", [], ["provision", PAIR, "link", ONE, ONE])
         left = f".bootswap-{16 * '0'}"
         self.file(left, b"another's")
         os.symlink("another", path(left.replace("0", "f")))
-        self.file("flash", b"old")
+        self.file("flash", 100 * b"\xff")
         expect_replaced("a file beside others that are named as new ones", [])
+
+    def test_other_files(self):
+        """`provision` replaces a file that may be a flash. Any other stays, unless `--force` is given."""
+        whole, path = flash_of(self), f"{self.folder}/made"
+        arguments, size = ["provision", PAIR, "made", ONE, ONE], b"error: flash size\n"
+        notes = "note: the device's flash has 8192 bytes, and made %d\n"
+        others = {
+            "text": b"notes of a meeting\n",
+            "an image": read(ONE),
+            "a byte too many": whole + b"\xff",
+            "a byte too few": whole[:-1],
+            "erased but for its last byte": 9000 * b"\xff" + b"\0",
+            "erased but for its first byte": b"\0" + 9000 * b"\xff",
+            "a zero": b"\0",
+        }
+        for name, old in others.items():
+            for how, made in ((["--force"], True), ([], False)):
+                self.file("made", old)
+                wanted = (0, b"done\n", b"") if made else (1, b"", size)
+                got = self.run_program([*arguments, *how])
+                faults = [] if got == wanted else [short(got)]
+                faults += [] if read(path) == (whole if made else old) else ["the file is another"]
+                self.case(f"provision over {name} {' '.join(how)}", faults)
+            _, _, err = self.run_program([*arguments, "--explain"])
+            self.case(f"provision over {name}: its note", [] if f"{len(old)}".encode() in err else [short(err)])
+        flashes = {
+            "an empty file": b"",
+            "an erased byte": b"\xff",
+            "more erased bytes": 9000 * b"\xff",
+            "a file of the length of the flash": 8192 * b"x",
+            "a flash": whole,
+        }
+        for name, old in flashes.items():
+            self.file("made", old)
+            self.expect(f"provision over {name}", arguments, 0, b"done\n")
+            self.case(f"provision over {name}: it is a flash", [] if read(path) == whole else ["it isn't"])
+        self.file("image", read(ONE))
+        forgotten = ["provision", PAIR, "image", ONE, ONE]
+        self.expect("provision: FLASH is forgotten", forgotten, 1, err=size)
 
     def test_kept_files(self):
         """A file that `provision` can't replace stays as it was."""

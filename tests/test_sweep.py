@@ -14,7 +14,7 @@ import xml.etree.ElementTree
 from support.builders import component, device, image, manifest, version
 from support.files import EXAMPLES, ONE, PAIR, ROOT, read
 from support.flashes import flash_of
-from support.program import ProgramTest, short
+from support.program import ProgramTest, is_written_by_one, short
 from support.worked import SUM_OF_WRITES, TORN, WORKED, WRITES
 
 SCRIPT = f"{EXAMPLES}/scripts/{WORKED}.txt"
@@ -79,6 +79,17 @@ def upload_events(test, sequence, kind, files):
     return [f"accept {accepted}\n", *pieces, *(f"finish {number}\n" for number in range(len(files)))]
 
 
+def replaced_requests(test):
+    """The events that request two images, then two others in place of these, and boot."""
+    two, three = (
+        [test.file(f"image-{major}-{number}", image((), own=version(major, number))) for number in (0, 1)]
+        for major in (2, 3)
+    )
+    return [
+        "boot\n", *upload_events(test, 1, "permanent", two), *upload_events(test, 2, "permanent", three), "boot\n"
+    ]
+
+
 # What runs if one of two requests is left.
 ONE_LEFT = [(b"1.0.0+0", b"2.1.0+0"), (b"2.0.0+0", b"1.0.0+0")]
 
@@ -123,13 +134,7 @@ class SweepTest(ProgramTest):
         """A power cut in a manifest that replaces two requests may leave one of them, which no cut next to it
         does."""
         whole = flash_of(self)
-        two, three = (
-            [self.file(f"image-{major}-{number}", image((), own=version(major, number))) for number in (0, 1)]
-            for major in (2, 3)
-        )
-        events = [
-            "boot\n", *upload_events(self, 1, "permanent", two), *upload_events(self, 2, "permanent", three), "boot\n"
-        ]
+        events = replaced_requests(self)
         arguments = ["sweep", PAIR, self.file("script", "".join(events).encode()), ONE, ONE]
         status, out, err = self.run_program(arguments)
         other = re.search(r"^other \d+ cut (\d+) (keep|done|hex:\S+)$", out.decode(), re.M)
@@ -356,7 +361,7 @@ class PictureTest(ProgramTest):
     def test_picture(self):
         """The picture has a square for each write, with the text of its character."""
         picture = f"{self.folder}/sweep.svg"
-        self.file("sweep.svg", b"old")
+        self.file("sweep.svg", b"")
         got = self.run_program(["sweep", "--svg", "sweep.svg", *SWEEP[1:]])
         tree = xml.etree.ElementTree.parse(picture).getroot()
         titles = [it.find(f"{SVG}title").text for it in tree.iter(f"{SVG}rect") if it.find(f"{SVG}title") is not None]
@@ -367,6 +372,64 @@ class PictureTest(ProgramTest):
         faults += [] if read(picture) == read(f"{ROOT}/docs/sweep.svg") else ["it isn't the one of docs/"]
         faults += [] if labels[:10] == [f"{at} {it}" for at, it in enumerate(EVENTS, 1)] else [short(labels)]
         self.case("sweep: the picture", faults)
+
+    def test_other_files(self):
+        """A sweep replaces a file that is a picture of a sweep or empty. Any other stays without `--force`."""
+        arguments = ["sweep", "--sample=0", "--svg=made", PAIR, SCRIPT, ONE, ONE]
+        made, ours = f"{self.folder}/made", read(f"{ROOT}/docs/sweep.svg")
+        text, _, rest = ours.partition(b"\n")
+        others = {
+            "text": b"notes of a meeting\n",
+            "an image": read(ONE),
+            "another picture": text.replace(b' font-family="sans-serif"', b"") + b"\n" + rest,
+            "a picture without a background": text + b"\n</svg>\n",
+            "a picture in another element": b"<?xml version='1.0'?>\n" + ours,
+        }
+        merged = ["sweep", "--merge", "--svg=made", self.file("part", self.run_program(SWEEP)[1])]
+        for name, old in others.items():
+            for how in (arguments, merged):
+                self.file("made", old)
+                self.expect(f"sweep: {how[1]}: a picture over {name}", how, 1, err=b"error: made is no picture\n")
+                self.case(f"sweep: {how[1]}: {name} stays", [] if read(made) == old else ["it is another"])
+                status, _, err = self.run_program([*how, "--force"])
+                is_made = (status, err) == (0, b"") and read(made).startswith(text[:60])
+                self.case(f"sweep: {how[1]}: a picture over {name}, by force", [] if is_made else [short(err)])
+        for name, old in {"an empty file": b"", "a picture": ours}.items():
+            self.file("made", old)
+            status, _, err = self.run_program(arguments)
+            is_made = (status, err) == (0, b"") and read(made) not in (b"", ours)
+            self.case(f"sweep: a picture over {name}", [] if is_made else [short(err)])
+
+    def test_held_picture(self):
+        """The file of a picture is looked up once. What takes its name while a sweep runs stays."""
+        path = lambda name: f"{self.folder}/{name}"
+        old = read(f"{ROOT}/docs/sweep.svg")
+        self.file("device", read(PAIR))
+        for name, first in (("a link that is changed", "link"), ("a file of another program", "new")):
+            for it in ("link", "new"):
+                with contextlib.suppress(FileNotFoundError):
+                    os.remove(path(it))
+            self.file("picture", old)
+            os.symlink("picture", path("link"))
+            streams = {"stdin": subprocess.PIPE, "stdout": subprocess.PIPE, "stderr": subprocess.PIPE}
+            arguments = ["sweep", "--twice", f"--svg={first}", "device", SCRIPT, ONE, ONE]
+            ran = subprocess.Popen([self.program, *arguments], cwd=self.folder, **streams)
+            tries = iter(range(200))
+            while not is_written_by_one(path("picture")) and next(tries, None) is not None and ran.poll() is None:
+                time.sleep(0.05 if first == "link" else 0.001)
+            is_early = ran.poll() is None
+            if first == "link":
+                os.remove(path("link"))
+                os.symlink("device", path("link"))
+            else:
+                self.file("new", b"another program's")
+            ran.communicate()
+            is_right = read(path("device")) == read(PAIR) and is_early
+            if first == "link":
+                is_right &= ran.returncode == 0 and read(path("picture")) != old
+            else:
+                is_right &= ran.returncode == 1 and read(path("new")) == b"another program's"
+            self.case(f"sweep: a picture by {name}", [] if is_right else [f"status {ran.returncode}"])
 
     def test_size(self):
         """A row of the picture has at most 120 squares, and the picture shows each of them and the legend."""
@@ -419,7 +482,8 @@ class PictureTest(ProgramTest):
 
 
 # What the progress line says after its first event.
-DOING = rb"first run, event \d+ of \d+|second run|cuts 0 of \d+, \d+ runs|cuts \d+ of \d+, \d+ runs, \d+ s left"
+SUMS = rb"\d+ runs, \d+ other, \d+ refused"
+DOING = rb"first run, event \d+ of \d+|second run|cuts 0 of \d+, " + SUMS + rb"|cuts \d+ of \d+, " + SUMS + rb", \d+ s left"
 
 
 def big_device(test):
@@ -488,12 +552,31 @@ class SweepProgressTest(ProgramTest):
             self.case(f"sweep: how far it is, from its start: {name}", faults)
 
 
+    def test_sums(self):
+        """The progress line has the sums so far, which a killed sweep leaves on the terminal. They are those of a
+        sweep of as many runs."""
+        script = self.file("script", "".join(replaced_requests(self)).encode())
+        sample = lambda number: ["sweep", "--sample", str(number), PAIR, script, ONE, ONE]
+        line = rb"\rsweep: cuts \d+ of 1000000, (\d+) runs, ([1-9]\d*) other, 0 refused(?:, \d+ s left)?\x1b\[K$"
+        printed, _ = printed_until(self, sample(1000000), 60, line)
+        shown = re.search(line, printed)
+        faults = [] if shown else [short(printed)]
+        if shown:
+            runs, other = map(int, shown.groups())
+            # The run without a cut counts too.
+            out = self.run_program(sample(runs - 1))[1]
+            is_so = b"\nruns %d\n" % runs in out and b"\nother %d cut " % other in out and b"\nrefused" not in out
+            faults += [] if is_so else [f"{runs} runs and {other} other", short(out)]
+        self.case("sweep: the sums of the runs so far", faults)
+
+
 class RefusedSweepTest(ProgramTest):
     """Scripts, files and pictures that `sweep` refuses."""
 
     def test_refusals(self):
         """`sweep` reports what it can't sweep, and makes or changes no picture."""
-        files = {"abc": b"abc", "picture": b"old", "cuts": b"cut 3 keep\nboot\n", "frob": b"boot\nfrob\n"}
+        old = read(f"{ROOT}/docs/sweep.svg")
+        files = {"abc": b"abc", "picture": old, "cuts": b"cut 3 keep\nboot\n", "frob": b"boot\nfrob\n"}
         files |= {"accepts": b"boot\naccept nothing\n", "no-map.json": device(sector=0)}
         for name, contents in files.items():
             self.file(name, contents)
@@ -523,7 +606,7 @@ class RefusedSweepTest(ProgramTest):
         ]
         for name, arguments, out, err in rows:
             self.expect(f"sweep: {name}", arguments, 1, out, err)
-        is_kept = (read(f"{self.folder}/picture"), read(f"{self.folder}/abc")) == (b"old", b"abc")
+        is_kept = (read(f"{self.folder}/picture"), read(f"{self.folder}/abc")) == (old, b"abc")
         self.case("sweep: no picture is made of what is refused", [] if is_kept else ["a file was changed"])
 
     def test_early_refusals(self):

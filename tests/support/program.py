@@ -1,5 +1,6 @@
 """Runs the built program, and counts each case of a test."""
 
+import ctypes
 import os
 import resource
 import shutil
@@ -10,7 +11,7 @@ import threading
 import time
 import unittest
 
-from support.files import EXAMPLES, ROOT
+from support.files import EXAMPLES, ROOT, read
 
 sys.path.insert(0, f"{ROOT}/tools")
 
@@ -28,6 +29,18 @@ class CaseTest(unittest.TestCase):
         with self.subTest(name):
             if faults:
                 self.fail("\n".join(map(str, faults)))
+
+
+def is_written_by_one(path):
+    """Whether a program holds a file exclusively, by the locks that the system lists."""
+    of_file = f":{os.stat(path).st_ino} "
+    return any("FLOCK" in it and "WRITE" in it and of_file in it for it in read("/proc/locks").decode().splitlines())
+
+
+def obey_permissions():
+    """Makes the program of a superuser obey the permissions of files."""
+    drop_from_bound, override = 24, 1
+    ctypes.CDLL(None, use_errno=True).prctl(drop_from_bound, override, 0, 0, 0)
 
 
 class ProgramTest(CaseTest):
