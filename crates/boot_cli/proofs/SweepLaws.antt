@@ -1,5 +1,5 @@
 -- The result of a sweep from what it read in turn, and the files that it keeps.
-use Rattle.std.proofs.Common.{◌≡◌, ◌⊎◌, ◌≤◌, ℕ, Bool, List, [], ◌∷◌, None, Option, Some, arith, inl, inr, subst, sym}
+use Rattle.std.proofs.Common.{◌⊎◌, ◌≤◌, ℕ, Bool, List, [], ◌∷◌, None, Option, Some, arith, inl, inr, subst, sym}
 use Rattle.common.specs.Lines.{lines_of}
 use Rattle.device_texts.specs.LineText.{IsLineText}
 use Rattle.device_texts.specs.Said.{Said, said}
