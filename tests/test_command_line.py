@@ -120,6 +120,8 @@ FLASHES = [
     ["provision", "--", PAIR, "flash", ONE, ONE],
     ["provision", "--", "--device", "--made", "--image", "--image"],
     ["provision", PAIR, "flash", ONE, "--", "--image"],
+    ["provision", "--force", PAIR, "flash", ONE, ONE],
+    ["provision", PAIR, "flash", ONE, ONE, "--force", "--explain"],
 ]
 
 # Spellings of versions, and how each version is printed.
@@ -161,8 +163,8 @@ class SpellingTest(ProgramTest):
         for several, wanted in ((IMAGES, counted), (FLASHES, whole)):
             for arguments in several:
                 made = next(it for it in arguments if it in ("made", "--made", "flash"))
-                # `make-image` replaces a file that is no image only with `--force`.
-                self.file(made, b"" if arguments[0] == "make-image" and "--force" not in arguments else b"old")
+                # Only `--force` replaces a file that is neither empty nor of the kind that is made.
+                self.file(made, b"old" if "--force" in arguments else b"")
                 self.expect(f"spelled: {shown(arguments)}", arguments, 0, b"done\n", given=b"ABCD")
                 is_same = read(f"{self.folder}/{made}") == wanted
                 self.case(f"spelled: {shown(arguments)}: the file", [] if is_same else ["it holds other bytes"])
