@@ -28,8 +28,15 @@ fn play<L: Ledger>(
     let mut flash = OverlayFlash::<L>::new(blank, base, 8, journal);
     let are_right = are_answered(&mut flash, calls);
     flash.restart();
-    let is_read = flash.read(0, out).is_ok();
-    (are_right && is_read, flash.used())
+    let are_read = are_read(&mut flash, out);
+    (are_right && are_read, flash.used())
+}
+
+/// Reads all bytes of a flash of four sectors of eight bytes, and returns whether that succeeded.
+fn are_read<F: Flash>(flash: &mut F, out: &mut [u8]) -> bool
+    requires { length out.old ≡ 32 }
+{
+    flash.sector_size() == 8 && flash.sectors() == 4 && flash.read(0, out).is_ok()
 }
 
 /// A row: the calls on a flash of bytes 7, the length of the journal, how many of its bytes they
