@@ -461,7 +461,7 @@ class Devices(unittest.TestCase):
 
     def test_a_saved_state_opens_no_call_over_an_interrupted_boot(self):
         for before, phases in ((self.requested(), {Phase.SWAP, Phase.SETTLE}), (self.on_trial(), {Phase.BACK, Phase.BACK_SETTLE})):
-            kept, flash, seen = bytes(before._saved), bytes(before.flash), set()
+            before.raises_refusals, kept, flash, seen = False, bytes(before._saved), bytes(before.flash), set()
             for write in range(1, before.boot().writes + 1):
                 before.flash[:], before._saved = flash, type(before._saved).from_buffer_copy(kept)
                 before.boot([Cut(write)])
