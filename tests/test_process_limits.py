@@ -90,9 +90,11 @@ class FileLimitTest(ProgramTest):
         for arguments, name, refusal in ALL_MAKING:
             flash_of(self)
             usual = self.run_program(arguments)
-            size = os.path.getsize(f"{self.folder}/{name}")
-            # Each command replaces an image.
-            for old in (None, read(ONE)):
+            made = read(f"{self.folder}/{name}")
+            size = len(made)
+            # What each command replaces: a flash, a picture, an image.
+            replaced = {"provision": bytes(size), "sweep": made + b"\n"}.get(arguments[0], read(ONE))
+            for old in (None, replaced):
                 if old is None:
                     os.remove(f"{self.folder}/{name}")
                 else:
