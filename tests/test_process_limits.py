@@ -10,7 +10,7 @@ import subprocess
 import threading
 import time
 
-from support.commands import MAKING
+from support.commands import MAKING, replaced_by
 from support.files import EXAMPLES, ONE, PAIR, read
 from support.flashes import flash_of, log_record, placed
 from support.program import LIMIT, ProgramTest, short, shown
@@ -92,9 +92,7 @@ class FileLimitTest(ProgramTest):
             usual = self.run_program(arguments)
             made = read(f"{self.folder}/{name}")
             size = len(made)
-            # What each command replaces: a flash, a picture, an image.
-            replaced = {"provision": bytes(size), "sweep": made + b"\n"}.get(arguments[0], read(ONE))
-            for old in (None, replaced):
+            for old in (None, replaced_by(arguments, made)):
                 if old is None:
                     os.remove(f"{self.folder}/{name}")
                 else:

@@ -4,7 +4,7 @@ import json
 import os
 import subprocess
 
-from support.commands import MAKING
+from support.commands import MAKING, replaced_by
 from support.compiled import needs_compiler, preloaded
 from support.files import EXAMPLES, ONE, PAIR, read, report, table
 from support.flashes import flash_of
@@ -232,7 +232,7 @@ class MakingFaultTest(ProgramTest):
             self.run_program(arguments)
             whole = read(path)
             others = {*os.listdir(self.folder), *COUNTS, "faults.so"} - {file}
-            for old in (None, read(f"{EXAMPLES}/images/counted.img")):
+            for old in (None, replaced_by(arguments, whole)):
                 kept, made = {} if old is None else {file: old}, {file: whole}
 
                 def run(env=os.environ):

@@ -1,6 +1,6 @@
 """The arguments of commands that several tests run."""
 
-from support.files import EXAMPLES, ONE, PAIR
+from support.files import EXAMPLES, ONE, PAIR, read
 
 
 def make_device(sector, slots, vendor, name, *boots):
@@ -31,3 +31,10 @@ MAKING = [
 ]
 
 ABC_MANIFEST = f"{EXAMPLES}/manifests/abc.json"
+
+
+def replaced_by(arguments, made):
+    """Returns other contents of a file that the command of these arguments replaces: it makes a flash, a picture or an image,
+    and made these bytes."""
+    image = read(f"{EXAMPLES}/images/counted.img")
+    return {"provision": bytes(len(made)), "sweep": made + b"\n"}.get(arguments[0], image)
