@@ -295,6 +295,11 @@ def outputs_without_file():
             yield numbered(replies)
 
 
+def is_unopened(fault, wrong, got):
+    """Whether a run ended before its first event, since the flash file couldn't be opened for writing."""
+    return (fault, wrong, got) == ("fail", "open", (4, b"", FAULT))
+
+
 def is_run_after(fault, wrong, got, kept, flashes):
     """Whether the worked run may end so, with these bytes in the flash file.
 
@@ -304,6 +309,8 @@ def is_run_after(fault, wrong, got, kept, flashes):
     status, out, err = got
     if (got, kept) == ((0, numbered(USUAL), b""), flashes[-1]):
         return wrong not in NEEDED
+    if is_unopened(fault, wrong, got):
+        return kept == flashes[0]
     if fault == "fail" and wrong in ("sync", "write") and (status, err) != (4, b"error: flash file\n"):
         return False
     message = max(at for at in range(len(USUAL)) if out.startswith(numbered(USUAL[:at])))
@@ -345,9 +352,9 @@ OTHER_ENDS = [
 ]
 
 
-def is_other_end_after(fault, got, usual):
+def is_other_end_after(fault, wrong, got, usual):
     """Whether a run that usually ends so may end in this other way after a fault: it printed its replies so
-    far, and then the fault."""
+    far, and then the fault. `wrong` is what the call with the fault was to do."""
     status, out, err = got
     lines = usual[1].splitlines(keepends=True)
     is_beginning = out in [b"".join(lines[:count]) for count in range(len(lines) + 1)]
@@ -360,7 +367,7 @@ def is_other_end_after(fault, got, usual):
     is_untold = status == 1 and usual[1].startswith(out) and usual[2].startswith(err)
     is_unread = status == 1 and err.startswith(b"error: cannot read ") and is_beginning
     is_unwritten = bool(out) and got == (4, usual[1], b"error: flash file\n")
-    return is_untold or is_unread or is_unwritten
+    return is_untold or is_unread or is_unwritten or is_unopened(fault, wrong, got)
 
 
 def text_of_reply(line):
@@ -465,9 +472,10 @@ class RunFaultTest(ProgramTest):
             for fault in ("fail", "short", "memory"):
                 faults = []
                 for at, got in each_fault(self, fault, run):
-                    is_right = is_other_end_after(fault, got, usual) or got == usual and wrong_call(self) not in NEEDED
+                    wrong = wrong_call(self)
+                    is_right = is_other_end_after(fault, wrong, got, usual) or got == usual and wrong not in NEEDED
                     if not is_right or not boots_after(self):
-                        faults.append(f"at call {at}: {short(got)}")
+                        faults.append(f"at call {at}, to {wrong}: {short(got)}")
                 self.case(f"{fault}: a run that ends with {name}, {at} calls", faults[:5])
 
     def test_durable_arguments(self):
