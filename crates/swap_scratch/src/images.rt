@@ -7,7 +7,7 @@ use crate::steps::take_step;
 use crate::used::used_sectors;
 use flash_model::{Flash, Result};
 use sector_map::{SectorMap, Side};
-use trailer::status_count;
+use trailer::{status_count, status_count_from};
 
 /// Swaps the slots of one image, from any place of the swap. If all its steps are counted, nothing
 /// is touched, since scratch may hold a sector of a later image.
@@ -24,7 +24,7 @@ pub(crate) fn swap_image<F: Flash>(
     let mut status = status_count(flash, map, image, side)?;
     while status < 3 * used {
         take_step(flash, map, image, side, used, status)?;
-        status = status_count(flash, map, image, side)?;
+        status = status_count_from(flash, map, image, side, status)?;
     }
     Ok(())
 }

@@ -60,5 +60,5 @@ pub(crate) fn take_step<F: Flash>(
     ensures { TakesStep map.now image side status (F.chip flash.old) (F.chip flash.new) result }
 {
     move_sector(flash, map, image, used, status)?;
-    push_status(flash, map, image, side)
+    push_status(flash, map, image, side, status)
 }

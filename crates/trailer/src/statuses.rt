@@ -33,8 +33,34 @@ pub fn status_count<F: Flash>(flash: &mut F, map: &SectorMap, image: u8, side: S
     ensures { Tells (status_count_of map.now (F.chip flash.old) image side)
         (F.chip flash.old) (F.chip flash.new) result }
 {
+    status_count_from(flash, map, image, side, 0)
+}
+
+/// Returns what `status_count` does, and reads no unit before number `known`, counted from 0. The
+/// caller knows that the units before it are set. It is the number of a unit of the trailer.
+///
+/// A swap continues so from the count that it has read: otherwise each step would read the units of
+/// all steps before it.
+///
+/// The map is laid out on the flash. Images are numbered from 0, and the map has this image.
+///
+/// # Errors
+/// `Off` if the flash was off. The flash never changes.
+pub fn status_count_from<F: Flash>(
+    flash: &mut F,
+    map: &SectorMap,
+    image: u8,
+    side: Side,
+    known: u32,
+) -> Result<u32>
+    requires image { HasImage map.now image (F.chip flash.old) }
+    requires known { known ≤ status_count_of map.now (F.chip flash.old) image side }
+    requires unit { known < 3 * slot_sectors map.now image }
+    ensures { Tells (status_count_of map.now (F.chip flash.old) image side)
+        (F.chip flash.old) (F.chip flash.new) result }
+{
     let all = status_units(map, image);
-    for status in 0..all {
+    for status in known..all {
         if is_range_erased(flash, map, image, side, UNIT * status, UNIT)? {
             return Ok(status);
         }
@@ -43,7 +69,8 @@ pub fn status_count<F: Flash>(flash: &mut F, map: &SectorMap, image: u8, side: S
 }
 
 /// Sets the first erased status unit of a trailer. There has to be one: the status count is below
-/// three for each sector of the slot.
+/// three for each sector of the slot. The units before number `known` are set, as for
+/// `status_count_from`. The unit is read before it is set.
 ///
 /// The map is laid out on the flash. Images are numbered from 0, and the map has this image.
 ///
@@ -51,12 +78,19 @@ pub fn status_count<F: Flash>(flash: &mut F, map: &SectorMap, image: u8, side: S
 /// - `Cut` if power failed: the unit holds any bytes, so it may count or not. All other bytes are
 ///   unchanged.
 /// - `Off` if the flash was off before: nothing changed.
-pub fn push_status<F: Flash>(flash: &mut F, map: &SectorMap, image: u8, side: Side) -> Result<()>
+pub fn push_status<F: Flash>(
+    flash: &mut F,
+    map: &SectorMap,
+    image: u8,
+    side: Side,
+    known: u32,
+) -> Result<()>
     requires image { HasImage map.now image (F.chip flash.old) }
+    requires known { known ≤ status_count_of map.now (F.chip flash.old) image side }
     requires room { status_count_of map.now (F.chip flash.old) image side
         < 3 * slot_sectors map.now image }
     ensures { PushesStatus map.now image side (F.chip flash.old) (F.chip flash.new) result }
 {
-    let count = status_count(flash, map, image, side)?;
+    let count = status_count_from(flash, map, image, side, known)?;
     set_unit(flash, map.trailer_start(image, side) + UNIT * count)
 }

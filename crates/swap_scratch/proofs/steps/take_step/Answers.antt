@@ -36,6 +36,10 @@ pub push_status-requires-clause-room : goal.push_status-requires-clause-room
 push_status-requires-clause-room g c =
     step_room _ _ _ _ _ _ _ _ c.requires.image c.requires.step c.move_sector.ensures
 
+pub push_status-requires-clause-known : goal.push_status-requires-clause-known
+push_status-requires-clause-known g c =
+    move_forward _ _ _ _ _ _ _ _ c.requires.image c.requires.step c.move_sector.ensures
+
 pub returns : goal.returns
 returns g c =
     let moved = c.in_ok-move_sector.ensures.moved in

@@ -1,10 +1,20 @@
-use Rattle.std.proofs.Common.{rules, arith, ◌≡◌, true, sym}
+use Rattle.std.proofs.Common.{rules, arith, ◌≡◌, ◌*◌, true, sym}
+use Rattle.sector_map.specs.Map.{slot_sectors}
 use Rattle.flash_model.specs.Units.{are_erased}
 use Rattle.trailer.specs.Fields.{trailer_bytes}
 use Rattle.trailer.specs.Status.{status_unit}
-use Rattle.trailer.proofs.StatusUnits.{units_are}
+use Rattle.trailer.proofs.StatusUnits.{set_below, units_are}
 use Rattle.trailer.proofs.FailedCalls.{refuses_first}
-use Rattle.trailer.proofs.statuses.status_count.Goals as goal
+use Rattle.trailer.proofs.statuses.status_count_from.Goals as goal
+
+pub loop-status-init : goal.loop-status-init
+loop-status-init g c = record {
+  same = search rules;
+  set = λ j lt. set_below (trailer_bytes c.args.map.now (g.F.Flash.chip c.args.flash.now) c.args.image c.args.side)
+      (3 * slot_sectors c.args.map.now c.args.image) j (omega (arith, lt, c.requires.known));
+  past = omega arith;
+  on = λ lt. absurd (omega (arith, lt));
+}
 
 pub returns-then-branch : goal.returns-then-branch
 returns-then-branch g c =
