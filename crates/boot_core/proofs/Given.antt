@@ -6,6 +6,7 @@ use Rattle.flash_model.specs.Chip.{Chip}
 use Rattle.flash_model.specs.declared.error.FlashError.TheVariants as flash
 use Rattle.sector_map.specs.declared.layout.SectorMap.{SectorMap}
 use Rattle.set_log.specs.declared.state.State.{State}
+use Rattle.set_log.specs.declared.state.RecordKind.{RecordKind}
 use Rattle.set_log.specs.declared.state.RecordKind.TheVariants as log
 use Rattle.manifest.specs.declared.identity.Identity.{Identity}
 use Rattle.manifest.specs.declared.manifest.Manifest as given
@@ -24,7 +25,7 @@ use Rattle.machine.specs.declared.error.Fault.TheVariants as no
 use Rattle.machine.proofs.Uploading.{TakesRow, rest_steady}
 use Rattle.boot_core.specs.Answers.{is_stop}
 use Rattle.boot_core.specs.Device.{StaysHeld, seen}
-use Rattle.boot_core.specs.Ready.{IsReadiness, LogsRest, RefusesManifest}
+use Rattle.boot_core.specs.Ready.{IsReadiness, LogsRest, RefusesManifest, kind_refusal, log_refusal}
 use Rattle.boot_core.proofs.Stopping.{IsStopped, error_is, holds_down, not_tried}
 
 -- ---- what is held
@@ -120,3 +121,67 @@ ready_not up recorded on no.InvalidSet is powered here rests = is
 ready_not up recorded on no.NoMemory is powered here rests = is
 ready_not up recorded on (no.Manifest error) is powered here rests = is
 ready_not up recorded on (no.Upload error) is powered here rests = is
+
+-- A log at rest refuses nothing.
+pub rest_refuses : (recorded : Option State) (fault : Fault) → LogsRest recorded → log_refusal recorded ≡ Some fault
+    → ⊥
+rest_refuses recorded fault rests refuses =
+    let is : recorded ≡ Some rests.0 = rests.1 in
+    let kind : rests.0.kind ≡ log.Steady = rests.2 in
+    let none : log_refusal recorded ≡ None = ap log_refusal is ∙ ap kind_refusal kind in
+    let both : None ≡ Some fault = sym none ∙ refuses in
+    cc
+
+interrupted_kind : (kind : RecordKind) → (kind ≡ log.Steady → ⊥) → (kind ≡ log.Trial → ⊥)
+    → kind_refusal kind ≡ Some no.NotBooted
+interrupted_kind log.Steady steady trial = absurd (steady refl)
+interrupted_kind log.Trial steady trial = absurd (trial refl)
+interrupted_kind log.Swap steady trial = refl
+interrupted_kind log.Settle steady trial = refl
+interrupted_kind log.Back steady trial = refl
+interrupted_kind log.BackSettle steady trial = refl
+
+some_is : (one other : Fault) → Some one ≡ Some other → one ≡ other
+some_is one other same = cc
+
+some_own : (one other : Fault) → Some one ≡ Some other → is_stop one ≡ false → is_stop other ≡ false
+some_own one other same own = sym (ap is_stop (some_is one other same)) ∙ own
+
+kind_own : (kind : RecordKind) (fault : Fault) → kind_refusal kind ≡ Some fault → is_stop fault ≡ false
+kind_own log.Steady fault refuses = let none : None ≡ Some fault = refuses in absurd (cc)
+kind_own log.Trial fault refuses = some_own no.OnTrial fault refuses refl
+kind_own log.Swap fault refuses = some_own no.NotBooted fault refuses refl
+kind_own log.Settle fault refuses = some_own no.NotBooted fault refuses refl
+kind_own log.Back fault refuses = some_own no.NotBooted fault refuses refl
+kind_own log.BackSettle fault refuses = some_own no.NotBooted fault refuses refl
+
+-- What the log refuses isn't the flash's.
+pub log_own : (recorded : Option State) (fault : Fault) → log_refusal recorded ≡ Some fault → is_stop fault ≡ false
+log_own None fault refuses = some_own no.NotProvisioned fault refuses refl
+log_own (Some state) fault refuses = kind_own state.kind fault refuses
+
+same_refusal : (recorded : Option State) (one other : Fault) → log_refusal recorded ≡ Some one
+    → log_refusal recorded ≡ Some other → one ≡ other
+same_refusal recorded one other first second =
+    let both : Some one ≡ Some other = sym first ∙ second in
+    cc
+
+-- A booted device with power that takes no uploads says what its log refuses.
+pub ready_says : (up : Bool) (recorded : Option State) (on : Bool) (fault why : Fault)
+    → IsReadiness (Err fault) up recorded on → up ≡ true → on ≡ true → log_refusal recorded ≡ Some why → fault ≡ why
+ready_says up recorded on no.NotBooted why is here powered refuses =
+    ⊎_elim (λ down. absurd (true≢false (sym here ∙ down)))
+    (λ boots. same_refusal recorded no.NotBooted why
+    (ap log_refusal boots.1.1 ∙ interrupted_kind boots.1.0.kind boots.1.2 boots.1.3) refuses) is
+ready_says up recorded on no.OnTrial why is here powered refuses =
+    same_refusal recorded no.OnTrial why (ap log_refusal is.1.1 ∙ ap kind_refusal is.1.2) refuses
+ready_says up recorded on no.NotProvisioned why is here powered refuses =
+    same_refusal recorded no.NotProvisioned why (ap log_refusal is.1) refuses
+ready_says up recorded on (no.Flash flash.Off) why is here powered refuses = absurd (true≢false (sym powered ∙ is.1))
+ready_says up recorded on (no.Flash flash.Cut) why is here powered refuses = absurd is
+ready_says up recorded on no.NotOnTrial why is here powered refuses = absurd is
+ready_says up recorded on (no.RunningDamaged image) why is here powered refuses = absurd is
+ready_says up recorded on no.InvalidSet why is here powered refuses = absurd is
+ready_says up recorded on no.NoMemory why is here powered refuses = absurd is
+ready_says up recorded on (no.Manifest error) why is here powered refuses = absurd is
+ready_says up recorded on (no.Upload error) why is here powered refuses = absurd is

@@ -22,6 +22,7 @@ use Rattle.machine.specs.Steps.{DeviceEvent}
 use Rattle.machine.specs.declared.error.Fault.{Fault}
 use Rattle.machine.specs.declared.error.Fault.TheVariants as no
 use Rattle.boot_core.specs.Answers.{IsNotBooted, is_stop, may_close}
+use Rattle.boot_core.proofs.Given.{log_own, ready_says}
 use Rattle.boot_core.proofs.Keeping.{all_stays, keeps_unstopped, up_stays}
 use Rattle.boot_core.specs.Device.{made, seen}
 use Rattle.boot_core.specs.Ready.{IsReadiness}
@@ -88,6 +89,9 @@ module _ (map : SectorMap) (old mid : Chip) (told tnew : List (Option Upload)) (
         ends = not_ready_ends (state_of map old) old mid told tnew up upn asked.same given fault after.is asked.ready
             (stops fault given told tnew up upn after);
       };
+      unready = λ here powered why refuses.
+          let says : given ≡ why = after.is ∙ ready_says up _ _ fault why asked.ready here powered refuses in
+          (ap (λ f. Err f) says, declined_all (ap is_stop says ∙ log_own _ why refuses));
       up = up_stays old mid mid told told tnew up upn fault given after.is (stops fault given told tnew up upn after);
       kept = λ keeps. all_stays old mid mid told told tnew up upn fault given after.is
           (stops fault given told tnew up upn after) asked.same refl (keeps_unstopped (may_close happened) given keeps);

@@ -32,8 +32,9 @@ use Rattle.machine.proofs.Uploading.{steps_accept, upload_refused}
 use Rattle.boot_core.specs.Answers.{IsOff, is_stop}
 use Rattle.boot_core.specs.Device.{made, seen}
 use Rattle.boot_core.specs.Ready.{HasNoComponent, RefusesManifest, RefusesText}
-use Rattle.boot_core.specs.Taking.{AcceptsHere, AsksReady, CanOpen, Named, OpensUploads, PassesOn, TakesManifestHere, Untouched}
-use Rattle.boot_core.proofs.Given.{held_down, held_failed, held_up, not_ready_told, ready_not}
+use Rattle.boot_core.specs.Taking.{AcceptsHere, AsksReady, CanOpen, Named, OpensUploads, PassesOn, RefusesByLog, TakesManifestHere}
+use Rattle.boot_core.specs.Taking.{Untouched}
+use Rattle.boot_core.proofs.Given.{held_down, held_failed, held_up, not_ready_told, ready_not, rest_refuses}
 use Rattle.boot_core.proofs.Keeping.{all_stays, own_error}
 use Rattle.boot_core.proofs.NotReady.{declined_all, declines, not_down, refused_after, stops}
 use Rattle.boot_core.proofs.OnMap.{keeps_any}
@@ -73,6 +74,7 @@ module _ (map : SectorMap) (identity : Identity) (old new : DeviceView) (fault :
           ends = declined.ends;
         };
         down = declined.down;
+        unready = declined.unready;
         lacks = λ on up rests more. absurd (ready_not _ _ _ fault asks.asked.ready on up rests);
         repeats = λ on up rests names twice. absurd (ready_not _ _ _ fault asks.asked.ready on up rests);
         empty = λ on up rests none. absurd (ready_not _ _ _ fault asks.asked.ready on up rests);
@@ -90,6 +92,7 @@ module _ (map : SectorMap) (identity : Identity) (old new : DeviceView) (fault :
         outside = declined.outside;
         named = Untouched asks.asked.same;
         down = declined.down;
+        unready = declined.unready;
         refused = declined.refused;
         kept = all_left;
         off = declined.off;
@@ -115,6 +118,9 @@ module _ (map : SectorMap) (identity : Identity) (before after : DeviceView)
   never_off : (result : Result Unit Fault) (new : DeviceView) → before.up ≡ true → before.flash.is_on ≡ false
       → IsOff result before.flash new.flash
   never_off result new up off = absurd (no_error tt _ (asks.asked.off up off))
+
+  never_unready : (result : Result Unit Fault) (new : DeviceView) → RefusesByLog map before new result
+  never_unready result new up powered why refuses = absurd (rest_refuses _ why asks.asked.ready.1 refuses)
 
   -- The manifest is refused for its components, and no text has its meaning. Nothing is touched.
   refused_untouched : (manifest : given.Manifest) (error : ManifestError)
@@ -146,6 +152,7 @@ module _ (map : SectorMap) (identity : Identity) (before after : DeviceView)
       (record {
         taken = refused_untouched manifest NoComponent lacks (λ text means. lacks means.meaning.images) laid opens;
         down = not_down (Err (no.Manifest NoComponent)) before before asks.asked.ready.0;
+        unready = never_unready (Err (no.Manifest NoComponent)) before;
         lacks = λ on up rests more. (refl, refl);
         repeats = λ on up rests names twice. absurd (lacks names);
         empty = λ on up rests none. absurd (lacks (λ k e within. absurd (omega (arith, within, none))));
@@ -162,6 +169,7 @@ module _ (map : SectorMap) (identity : Identity) (before after : DeviceView)
         taken = refused_untouched manifest RepeatedComponent (names, twice) (λ text means. twice means.meaning.once) laid
             opens;
         down = not_down (Err (no.Manifest RepeatedComponent)) before before asks.asked.ready.0;
+        unready = never_unready (Err (no.Manifest RepeatedComponent)) before;
         lacks = λ on up rests more. absurd (more names);
         repeats = λ on up rests present again. (refl, refl);
         empty = λ on up rests none. absurd (twice (λ i j e before within. absurd (omega (arith, within, none))));
@@ -179,6 +187,7 @@ module _ (map : SectorMap) (identity : Identity) (before after : DeviceView)
             (λ text means. let some : 0 < length manifest.components.items = means.meaning.spelled.some in
             omega (arith, some, none)) laid opens;
         down = not_down (Err (no.Manifest BadValue)) before before asks.asked.ready.0;
+        unready = never_unready (Err (no.Manifest BadValue)) before;
         lacks = λ on up rests more. absurd (more names);
         repeats = λ on up rests present twice. absurd (twice once);
         empty = λ on up rests no_one. (refl, refl);
@@ -211,6 +220,7 @@ module _ (map : SectorMap) (identity : Identity) (before after : DeviceView)
   manifest_opened manifest new result names once some opens = record {
     taken = opened_before manifest new result opens;
     down = not_down result before new asks.asked.ready.0;
+    unready = never_unready result new;
     lacks = λ on up rests more. absurd (more names);
     repeats = λ on up rests present twice. absurd (twice once);
     empty = λ on up rests none. absurd (some none);
@@ -229,6 +239,7 @@ module _ (map : SectorMap) (identity : Identity) (before after : DeviceView)
         outside = keeps_any opened.outside;
         named = Named manifest means opened.outside opened.journal;
         down = not_down result before new asks.asked.ready.0;
+        unready = never_unready result new;
         refused = opened.refused;
         kept = opened.kept;
         off = never_off result new;
@@ -248,6 +259,7 @@ module _ (map : SectorMap) (identity : Identity) (before after : DeviceView)
         outside = keeps_refl map any_part before.flash;
         named = Untouched refl;
         down = not_down (Err fault) before before ready.0;
+        unready = never_unready (Err fault) before;
         refused = λ own. refl;
         kept = λ own. refl;
         off = never_off (Err fault) before;

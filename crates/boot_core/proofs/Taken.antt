@@ -32,7 +32,8 @@ use Rattle.machine.proofs.Uploading.{TakesRow, row_steps, upload_refused}
 use Rattle.boot_core.specs.Answers.{IsOff, is_stop, keeps_all, may_close}
 use Rattle.boot_core.specs.Device.{made, seen}
 use Rattle.boot_core.specs.Ready.{LogsRest}
-use Rattle.boot_core.specs.Taking.{AsksReady, PassesOn, TakesCall, TakesHere, journal_of}
+use Rattle.boot_core.specs.Taking.{AsksReady, PassesOn, RefusesByLog, TakesCall, TakesHere, journal_of}
+use Rattle.boot_core.proofs.Given.{rest_refuses}
 use Rattle.boot_core.proofs.Keeping.{all_stays, keeps_unstopped, up_stays}
 use Rattle.boot_core.proofs.NotReady.{not_down, refused_after, stops}
 use Rattle.boot_core.proofs.Stopping.{done_ends, failed, failed_ends, finish_down, not_tried, opens_stopped, piece_down, withdraw_down}
@@ -126,6 +127,10 @@ module _ (map : SectorMap) (happened : DeviceEvent) (touched : Part → Bool) (b
   never_off : (result : Result Unit Fault) → up ≡ true → old.is_on ≡ false → IsOff result old new
   never_off result awake off = absurd (not_off map before (seen old told up) ready awake off)
 
+  never_unready : (new : DeviceView) (result : Result Unit Fault)
+      → RefusesByLog map (seen old told up) new result
+  never_unready new result awake powered why refuses = absurd (rest_refuses _ why now.1 refuses)
+
   by_result : (taken : Result Unit UploadError) (result : Result Unit Fault)
       → IsTaken map happened touched old new told tmid row taken → PassesOn taken tmid up tnew upn result
       → TakesCall map happened touched (seen old told up) (seen new tnew upn) result
@@ -143,6 +148,7 @@ module _ (map : SectorMap) (happened : DeviceEvent) (touched : Part → Bool) (b
           journal = call.journal;
           ends = done_ends old old new told tmid up refl call.ends;
         };
+        unready = never_unready (seen new tmid up) (Ok passed);
         up = tt;
         kept = tt;
       })
@@ -168,6 +174,7 @@ module _ (map : SectorMap) (happened : DeviceEvent) (touched : Part → Bool) (b
           journal = call.journal;
           ends = failed_ends old old new told tmid tnew up upn error refl call.ends stopped fault passed.is;
         };
+        unready = never_unready (seen new tnew upn) (Err fault);
         up = up_stays old new new told tmid tnew up upn (no.Upload error) fault passed.is stopped;
         kept = λ keeps.
             let own = subst (λ f. keeps_all (may_close happened) f ≡ true) passed.is keeps in

@@ -33,6 +33,7 @@ pub device_call : (event : DeviceEvent) (touched : Part → Bool) (map : SectorM
     → TakesEvent event touched (whole_of (made map identity boots) old) (whole_of (made map identity boots) new) result
 device_call event touched map identity boots old new result took = record {
   stepped = device_steps event touched map identity boots old new result took.here;
+  unready = took.unready;
   up = took.up;
   kept = took.kept;
 }

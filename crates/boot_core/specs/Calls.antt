@@ -46,6 +46,7 @@ use Rattle.boot_core.specs.Ready.{HasNoComponent, LogsBoot, LogsRest, LogsTrialO
 use Rattle.boot_core.specs.Confirming.{IsOkSet}
 use Rattle.boot_core.specs.Moving.{may_move, moved_parts}
 use Rattle.boot_core.specs.Over.{IsIdleTrial, IsTriedAgain}
+use Rattle.boot_core.specs.Taking.{RefusesByLog}
 use Rattle.boot_core.specs.Wear.{DoesNothing, IsWorn}
 
 -- A device is new: made over this flash, with this map, identity and number of boots per trial.
@@ -154,6 +155,9 @@ pub record TakesEvent (event : DeviceEvent) (touched : Part → Bool) (old new :
     (result : Result Unit Fault) : Type 0 where
   pub stepped : StepsDevice event touched old new result
   pub open stepped use *
+  -- With power, a booted device whose log takes no uploads says so, and is unchanged. It reports
+  -- NotProvisioned, OnTrial, or NotBooted if the log says that a boot was interrupted.
+  pub unready : RefusesByLog old.setup.map old.here new.here result
   -- Unless the flash stopped the call, a refusal leaves the device booted or not, as it was.
   pub up : IfErr result (λ fault. is_stop fault ≡ false → new.here.up ≡ old.here.up)
   -- A refusal leaves the device unchanged, unless the flash stopped it or it closes the upload.
@@ -185,6 +189,9 @@ pub record TakesManifest (manifest : given.Manifest) (old new : Whole) (result :
       old.here.flash new.here.flash
   -- A device that isn't booted says so, and nothing is changed.
   pub down : old.here.up ≡ false → IsNotBooted result old.here new.here
+  -- With power, a booted device whose log takes no uploads says so, and is unchanged. It reports
+  -- NotProvisioned, OnTrial, or NotBooted if the log says that a boot was interrupted.
+  pub unready : RefusesByLog old.setup.map old.here new.here result
   -- With power, a device that takes uploads and lacks an image of the manifest reports NoComponent,
   -- and nothing is changed.
   pub lacks : old.here.flash.is_on ≡ true → old.here.up ≡ true

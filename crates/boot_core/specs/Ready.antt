@@ -9,6 +9,7 @@ use Rattle.manifest.specs.declared.error.ManifestError.{ManifestError}
 use Rattle.manifest.specs.declared.error.ManifestError.TheVariants as text
 use Rattle.sector_map.specs.Part.{is_member}
 use Rattle.set_log.specs.declared.state.State.{State}
+use Rattle.set_log.specs.declared.state.RecordKind.{RecordKind}
 use Rattle.set_log.specs.declared.state.RecordKind.TheVariants as log
 use Rattle.machine.specs.declared.error.Fault.{Fault}
 use Rattle.machine.specs.declared.error.Fault.TheVariants as no
@@ -33,6 +34,20 @@ LogsRest recorded = (state : State) × (recorded ≡ Some state) × (state.kind 
 abbrev pub LogsBoot : Option State → Type 0
 LogsBoot recorded = (state : State) × (recorded ≡ Some state)
     × (state.kind ≡ log.Steady → ⊥) × (state.kind ≡ log.Trial → ⊥)
+
+-- Why a booted device takes no uploads, by the kind of the record in its log.
+abbrev pub kind_refusal : RecordKind → Option Fault
+kind_refusal log.Steady = None
+kind_refusal log.Trial = Some no.OnTrial
+kind_refusal log.Swap = Some no.NotBooted
+kind_refusal log.Settle = Some no.NotBooted
+kind_refusal log.Back = Some no.NotBooted
+kind_refusal log.BackSettle = Some no.NotBooted
+
+-- Why a booted device takes no uploads, by its log.
+abbrev pub log_refusal : Option State → Option Fault
+log_refusal None = Some no.NotProvisioned
+log_refusal (Some state) = kind_refusal state.kind
 
 -- Whether uploads are taken, by the first check that fails. They are taken if the device is booted
 -- and the log has a state at rest. A device isn't booted either if its log says that a boot was

@@ -36,6 +36,7 @@ use Rattle.upload.specs.Finishing.{WritesLastUnit}
 use Rattle.boot_core.specs.Confirming.{IsOkSet}
 use Rattle.boot_core.specs.Device.{StaysHeld, made}
 use Rattle.boot_core.specs.Ready.{HasNoComponent, IsReadiness, LogsBoot, LogsRest, LogsTrialOf, RefusesManifest}
+use Rattle.boot_core.specs.Ready.{log_refusal}
 
 -- A call checks whether uploads are taken.
 pub record ChecksReady (map : SectorMap) (is_booted : Bool) (old new : Chip)
@@ -78,6 +79,12 @@ PassesOn (Err error) old was_up new is_booted (Err fault) =
     Stops (no.Upload error) old was_up new is_booted fault
 PassesOn taken old was_up new is_booted result = ⊥
 
+-- A booted device whose flash has power, and whose log takes no uploads, returns what the log says,
+-- and nothing changes.
+abbrev pub RefusesByLog : SectorMap → DeviceView → DeviceView → Result Unit Fault → Type 0
+RefusesByLog map old new result = old.up ≡ true → old.flash.is_on ≡ true → (fault : Fault)
+    → log_refusal (state_of map old.flash) ≡ Some fault → (result ≡ Err fault) × (new ≡ old)
+
 -- The bytes that a call with this event asks a journal for, at most. The number for a manifest or a
 -- boot isn't used: a manifest is counted by its components.
 abbrev pub journal_of : DeviceEvent → ℕ
@@ -115,6 +122,8 @@ pub record TakesCall (map : SectorMap) (event : DeviceEvent) (touched : Part →
     (old new : DeviceView) (result : Result Unit Fault) : Type 0 where
   pub here : StepsHere map event touched old new result
   pub open here use *
+  -- If the log takes no uploads, the result says why, and nothing changes.
+  pub unready : RefusesByLog map old new result
   -- After a refusal that isn't the flash's, the device is booted if it was.
   pub up : IfErr result (λ fault. is_stop fault ≡ false → new.up ≡ old.up)
   -- Such a refusal leaves the uploads too, unless it closes the upload of its image.
@@ -179,6 +188,8 @@ pub record AcceptsHere (map : SectorMap) (identity : Identity) (text : Bor (List
   pub named : TouchesNamed map identity text.now old.flash new.flash
   -- If the device isn't booted, nothing is touched, and that is the result.
   pub down : old.up ≡ false → IsNotBooted result old new
+  -- If the log takes no uploads, the result says why, and nothing changes.
+  pub unready : RefusesByLog map old new result
   -- A refusal that isn't the flash's leaves the flash as it was.
   pub refused : IfErr result (λ fault. is_stop fault ≡ false → new.flash ≡ old.flash)
   -- Such a refusal leaves the uploads too, and whether the device is booted.
@@ -232,6 +243,8 @@ pub record TakesManifestHere (map : SectorMap) (identity : Identity) (manifest :
   pub open taken use *
   -- If the device isn't booted, nothing is touched, and that is the result.
   pub down : old.up ≡ false → IsNotBooted result old new
+  -- If the log takes no uploads, the result says why, and nothing changes.
+  pub unready : RefusesByLog map old new result
   -- If uploads are taken and the manifest names an image that the device lacks, that is the result,
   -- and nothing is touched.
   pub lacks : old.flash.is_on ≡ true → old.up ≡ true → LogsRest (state_of map old.flash)

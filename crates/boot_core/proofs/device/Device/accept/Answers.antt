@@ -33,6 +33,7 @@ returns-clause-taken g c =
           off = c.accept.ensures.off;
           ends = c.accept.ensures.ends;
         };
+        unready = c.accept.ensures.unready;
         up = if_err_as c.accept.result (λ fault kept own. ap (λ (d : DeviceView). d.up) (kept own)) c.accept.ensures.kept;
         kept = if_err_as c.accept.result (λ fault kept keeps. kept (keeps_unstopped false fault keeps))
             c.accept.ensures.kept;

@@ -17,6 +17,7 @@ returns g c =
       holds = c.accept_manifest.ensures.holds;
       outside = c.accept_manifest.ensures.outside;
       down = c.accept_manifest.ensures.down;
+      unready = c.accept_manifest.ensures.unready;
       lacks = c.accept_manifest.ensures.lacks;
       repeats = c.accept_manifest.ensures.repeats;
       empty = c.accept_manifest.ensures.empty;
