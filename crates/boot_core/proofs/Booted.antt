@@ -30,6 +30,7 @@ use Rattle.boot_core.specs.Booting.{BootsFrom}
 use Rattle.boot_core.specs.Deciding.{AnswersFinding}
 use Rattle.boot_core.specs.Found.{IsKeptFor, IsLostFor, IsSwapAloneFor, IsToldAgain, StartsFound}
 use Rattle.boot_core.specs.FromTrial.{HasTrial}
+use Rattle.boot_core.specs.Journal.{AsksToBoot}
 use Rattle.boot_core.specs.Moving.{is_recorded, may_move, moved_parts}
 use Rattle.boot_core.specs.Over.{IsIdleTrial, IsTriedAgain}
 use Rattle.boot_core.specs.Wear.{DoesNothing, IsWorn}
@@ -158,9 +159,10 @@ module _ (map : SectorMap) (state : State) (left : ℕ) (old new : Chip) (result
   pub boots_from : IfOk result (λ reply. (finding : Finding) (permanent : Bool) → reply ≡ reply_of finding permanent
       → StopsAs map kind state.mask state.floors old new finding)
       → IfOk result (λ reply. DoesNothing reply → IdlesAs map kind state old new reply)
-      → IfOk result (λ reply. TriesAs map kind state old new reply)
+      → IfOk result (λ reply. TriesAs map kind state old new reply) → AsksToBoot map state old new
       → BootsFrom map state left old new result
-  boots_from stops idles tries = record {
+  boots_from stops idles tries asks = record {
+    journal = asks;
     boot = boot_as (λ s stands. stands) (λ reply worn. λ s stands.
         subst (λ k. IsWorn map k state.mask old new reply) (sym is) (worn s stands)) boot;
     stops = IfOk-weaker result _ _ (λ reply stops. λ finding permanent told.
@@ -184,17 +186,17 @@ module _ (map : SectorMap) (state : State) (left : ℕ) (old new : Chip) (result
   pub boots_stop : IfOk result (λ reply. (finding : Finding) (permanent : Bool) → reply ≡ reply_of finding permanent
       → StopsAs map kind state.mask state.floors old new finding)
       → ((reply : Reply) → IdlesAs map kind state old new reply × TriesAs map kind state old new reply)
-      → BootsFrom map state left old new result
-  boots_stop stops none = boots_from stops (all_replies _ result (λ reply nothing. (none reply).0))
-      (all_replies _ result (λ reply. (none reply).1))
+      → AsksToBoot map state old new → BootsFrom map state left old new result
+  boots_stop stops none asks = boots_from stops (all_replies _ result (λ reply nothing. (none reply).0))
+      (all_replies _ result (λ reply. (none reply).1)) asks
 
   -- A boot from a record Steady or Trial.
   pub boots_idle : ((finding : Finding) → StopsAs map kind state.mask state.floors old new finding)
       → IfOk result (λ reply. DoesNothing reply → IdlesAs map kind state old new reply)
-      → IfOk result (λ reply. TriesAs map kind state old new reply)
+      → IfOk result (λ reply. TriesAs map kind state old new reply) → AsksToBoot map state old new
       → BootsFrom map state left old new result
-  boots_idle stops idles tries =
-      boots_from (all_replies _ result (λ reply finding permanent told. stops finding)) idles tries
+  boots_idle stops idles tries asks =
+      boots_from (all_replies _ result (λ reply finding permanent told. stops finding)) idles tries asks
 
 -- ---- a boot from a trial
 

@@ -37,3 +37,4 @@ mod Pieces
 mod Finished
 mod Opening
 mod Repeats
+mod Asking

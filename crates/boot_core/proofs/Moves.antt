@@ -67,6 +67,14 @@ pub mask_moves : (map : SectorMap) (old : Chip) (table : Table) (report : Report
 mask_moves map old table report mask held greatest each i member =
     taken_moves map old table report held greatest i (sym (each i) ∙ member)
 
+-- Each image of this set is requested.
+pub mask_asked : (map : SectorMap) (old : Chip) (table : Table) (report : Report) (mask : ℕ)
+    → AreRowsHeld (view map old) 0 table.images.items → IsGreatest table (taken_in report)
+    → ((i : ℕ) → is_member mask i ≡ taken_in report i) → (i : ℕ) → is_member mask i ≡ true
+    → is_some (request_in (view map old) i) ≡ true
+mask_asked map old table report mask held greatest each i member =
+    some_asked map old table report held greatest i (request_in (view map old) i) refl (sym (each i) ∙ member)
+
 -- After the record that a trial is over, a boot may move no other images.
 pub over_moves : (map : SectorMap) (old mid : Chip) (state : State) → Keeps map (only Log) old mid
     → state_of map mid ≡ Some state → state.mask ≡ 0 → (i : ℕ) → may_move map mid i ≡ true

@@ -1,5 +1,5 @@
 -- Lemmas for a boot from a record Steady: it writes nothing, or takes a chosen set.
-use Rattle.std.proofs.Common.{◌≡◌, ◌⊎◌, ℕ, ◌+◌, Bool, Ok, refl, subst, sym}
+use Rattle.std.proofs.Common.{◌≡◌, ◌⊎◌, ℕ, ◌+◌, Bool, Ok, ap, arith, refl, subst, sym}
 use Rattle.flash_model.specs.Chip.{Chip, Ends}
 use Rattle.sector_map.specs.declared.layout.SectorMap.{SectorMap}
 use Rattle.sector_map.specs.Map.{IsLaidOut}
@@ -18,6 +18,7 @@ use Rattle.machine.proofs.Upgrading.{begun_cut, chosen_decision, ended_cut, foun
 use Rattle.boot_core.specs.Answers.{IsBootReply}
 use Rattle.boot_core.specs.Deciding.{AreForGoodIn}
 use Rattle.boot_core.specs.FromSteady.{BootsFromSteady, HasChosen}
+use Rattle.boot_core.specs.Journal.{AsksAtMost}
 use Rattle.boot_core.specs.Wear.{IsSetMoved, TriesNone}
 use Rattle.boot_core.proofs.Booted.{boot_gives}
 use Rattle.boot_core.proofs.Measured.{fresh_none}
@@ -36,6 +37,7 @@ steady_gives {T} {value} {reply} map left old new mask laid same comes is told f
       (subst (λ chip. StartsBy (view map chip) reply) (sym same) starts) ends;
   idle = λ state stood kind nothing. same;
   fresh = fresh;
+  begins = AsksAtMost (omega (arith, ap (λ (chip : Chip). chip.journaled) same));
 }
 
 -- What is found of a decision isn't that a set is tried again.

@@ -23,6 +23,7 @@ use Rattle.machine.specs.declared.error.Fault.TheVariants.{NotProvisioned}
 use Rattle.machine.specs.declared.finding.Finding.{Finding}
 use Rattle.machine.specs.declared.reply.Reply.{Reply}
 use Rattle.machine.specs.declared.reply.Reply.TheVariants.{Refused, TrialAgain}
+use Rattle.boot_core.specs.Journal.{AsksToBoot}
 use Rattle.boot_core.specs.Answers.{EndsCall, IsBootReply, IsOff, is_stopped, reply_of_boot}
 use Rattle.boot_core.specs.BootEnds.{BootEnds, KeepsLayout}
 use Rattle.boot_core.specs.Device.{made}
@@ -45,6 +46,7 @@ pub record BootsFrom (map : SectorMap) (state : State) (left : ℕ) (old new : C
       → IfOk result (λ reply. DoesNothing reply → IsIdleTrial map state old new reply)
   pub again : state.kind ≡ log.Trial → IfOk result (λ reply. (set more : ℕ)
       → reply ≡ TrialAgain set more → IsTriedAgain map state old new set more)
+  pub journal : AsksToBoot map state old new
 
 -- A boot from any record, or from none.
 pub record BootsFromAny (map : SectorMap) (left : ℕ) (old new : Chip)
@@ -84,6 +86,8 @@ pub record BootsFromAny (map : SectorMap) (left : ℕ) (old new : Chip)
   pub again : IfOk result (λ reply. (state : State) (set more : ℕ)
       → state_of map old ≡ Some state → state.kind ≡ log.Trial
       → reply ≡ TrialAgain set more → IsTriedAgain map state old new set more)
+  -- On any flash, the boot asks a journal for no more than room to boot, or gets a step further.
+  pub journal : (state : State) → state_of map old ≡ Some state → AsksToBoot map state old new
   -- Whatever the flash holds, the primary slots begin with what the reply says.
   pub starts : IfOk result (StartsBy (view map new))
   pub told : IfOk result IsBootReply
@@ -139,6 +143,9 @@ pub record EndsUploadsAndBoots (map : SectorMap) (left : ℕ) (old new : DeviceV
   pub again : (state : State) (set more : ℕ) → state_of map old.flash ≡ Some state
       → state.kind ≡ log.Trial → reply_of_boot result ≡ TrialAgain set more
       → IsTriedAgain map state old.flash new.flash set more
+  -- On any flash, the boot asks a journal for no more than room to boot, or gets a step further.
+  pub journal : (state : State) → state_of map old.flash ≡ Some state
+      → AsksToBoot map state old.flash new.flash
   -- Whatever the flash holds, the primary slots begin with what the reply says.
   pub starts : StartsBy (view map new.flash) (reply_of_boot result)
   -- If the flash is off, that is the result.

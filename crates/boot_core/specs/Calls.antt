@@ -33,6 +33,7 @@ use Rattle.machine.specs.declared.error.Fault.TheVariants.{NotProvisioned}
 use Rattle.machine.specs.declared.finding.Finding.{Finding}
 use Rattle.machine.specs.declared.reply.Reply.{Reply}
 use Rattle.machine.specs.declared.reply.Reply.TheVariants.{TrialAgain}
+use Rattle.boot_core.specs.Journal.{AsksToBoot}
 use Rattle.boot_core.specs.Answers.{EndsCall, IsBootReply, IsNotBooted, IsOff, is_stop, is_stopped}
 use Rattle.boot_core.specs.Answers.{keeps_all, may_close}
 use Rattle.upload.specs.declared.error.UploadError.TheVariants.{SizeWrong}
@@ -122,6 +123,10 @@ pub record BootsDevice (old new : Whole) (result : Result Reply Fault) : Type 0 
       → state_of old.setup.map old.here.flash ≡ Some state → state.kind ≡ RecordKind.Trial
       → reply_of_boot result ≡ TrialAgain set left
       → IsTriedAgain old.setup.map state old.here.flash new.here.flash set left
+  -- On any flash, a boot that asks a journal for more than room to boot gets a step further: it counts
+  -- a step of its swap, records another state, or settles a set that was requested.
+  pub journal : (state : State) → state_of old.setup.map old.here.flash ≡ Some state
+      → AsksToBoot old.setup.map state old.here.flash new.here.flash
   -- If the flash is off, the result says so and the flash is unchanged.
   pub off : old.here.flash.is_on ≡ false → IsOff result old.here.flash new.here.flash
   -- A refusal during an upgrade or a revert reports what was found of it, and wrote at most the swap.

@@ -9,6 +9,7 @@ use Rattle.sector_map.specs.declared.layout.Side.TheVariants.{Secondary}
 use Rattle.set_log.specs.Log.{state_of}
 use Rattle.set_log.specs.declared.state.RecordKind.TheVariants as log
 use Rattle.set_log.specs.declared.state.State.{State}
+use Rattle.swap_scratch.specs.Steps.{AsksForSteps}
 use Rattle.swap_scratch.specs.Swap.{steps_done, steps_in_all}
 use Rattle.upload.specs.Device.{DeviceState, Trial}
 use Rattle.upload.specs.Steady.{IsSteadyAt}
@@ -20,6 +21,7 @@ use Rattle.machine.specs.Wear.{IsSettling, IsResumed, members}
 use Rattle.machine.specs.declared.finding.Finding.{Finding}
 use Rattle.machine.specs.declared.reply.Reply.{Reply}
 use Rattle.machine.specs.declared.reply.Reply.TheVariants.{Reverted}
+use Rattle.boot_core.specs.Journal.{AsksToBoot, LogsKind, ReturnsOn, is_reverting}
 use Rattle.boot_core.specs.BootEnds.{BootEndsForAny, Passes}
 use Rattle.boot_core.specs.Found.{IsLostFor}
 use Rattle.boot_core.specs.Moving.{settled_parts}
@@ -45,6 +47,14 @@ pub record SwapsBack (map : SectorMap) (state : State) (old new : Chip)
   pub stands : (s : DeviceState) (trial : Trial) → state.mask ≡ trial.set
       → IsSwappingBackSome map old s trial → IsSwappingBackSome map new s trial
   pub done : OnOk result (IsSwapBackDone map state old new)
+  -- It counts no step less, and asks a journal for no more than the steps that it counts, and one
+  -- more.
+  pub forward : steps_done map old Secondary state.mask ≤ steps_done map new Secondary state.mask
+  pub journal : AsksForSteps map (steps_done map old Secondary state.mask)
+      (steps_done map new Secondary state.mask + 1) old new
+  -- A call that succeeds asks for no more than the steps that it counts.
+  pub journal_ok : OnOk result (AsksForSteps map (steps_done map old Secondary state.mask)
+      (steps_done map new Secondary state.mask) old new)
   pub ends : Ends result old new
 
 -- The set of a trial is swapped back by a swap that counts as at its last step.
@@ -62,13 +72,17 @@ pub record IsBackRecorded (map : SectorMap) (state : State) (old new : Chip) (no
   -- At most one sector is erased.
   pub erases : new.erases ≤ old.erases + 1
 
--- From Back to BackSettle: a call records that the set of a record is swapped back. However it ends,
--- the device is on its way back.
-abbrev pub RecordsBack : SectorMap → State → Chip → Chip → Result State FlashError → Type 0
-RecordsBack map state old new result = Passes map (settled_parts state.mask) old new
-    ((s : DeviceState) (trial : Trial) → IsBackDone map state old s trial
-    → IsGoingBack map new s trial)
-    (IsBackRecorded map state old new) result
+-- From Back to BackSettle: a call records that the set of a record is swapped back.
+pub record RecordsBack (map : SectorMap) (state : State) (old new : Chip)
+    (result : Result State FlashError) : Type 0 where
+  -- However it ends, the device is on its way back.
+  pub passes : Passes map (settled_parts state.mask) old new
+      ((s : DeviceState) (trial : Trial) → IsBackDone map state old s trial
+      → IsGoingBack map new s trial)
+      (IsBackRecorded map state old new) result
+  pub open passes use *
+  -- On any flash, the log says so, or is as before.
+  pub returns : ReturnsOn map state old new
 
 -- After BackSettle has settled the set, a call records that the old images run.
 pub record RecordsReturned (map : SectorMap) (old new : Chip) (result : Result Unit FlashError)
@@ -81,6 +95,9 @@ pub record RecordsReturned (map : SectorMap) (old new : Chip) (result : Result U
       → AreSettled (view map old) trial.set true
       → IsSwappedBack (view map new) s trial log.BackSettle
       ⊎ IsSteadyAt (view map new) (reverted s trial)
+  -- On any flash, the log says what it said before, or that the device is at rest.
+  pub either : (state_of map new ≡ state_of map old)
+      ⊎ ((now : State) × (state_of map new ≡ Some now) × (now.kind ≡ log.Steady))
   -- If the call succeeds, the device is at rest.
   pub ok : OnOk result ((s : DeviceState) (trial : Trial)
       → IsSwappedBack (view map old) s trial log.BackSettle
@@ -110,6 +127,9 @@ pub record SettlesAndReturns (map : SectorMap) (state : State) (old new : Chip)
       ⊎ IsSteadyAt (view map new) (reverted s trial))
       (λ done. IsReturned map state old new) result
   pub open passes use *
+  -- On any flash, the log is as before, or says that the device is at rest.
+  pub either : (state_of map new ≡ Some state)
+      ⊎ ((now : State) × (state_of map new ≡ Some now) × (now.kind ≡ log.Steady))
   -- It asks a journal for at most 92 bytes for each image of the set, and 120.
   pub journal : new.journaled ≤ old.journaled + (92 * members map state.mask + 120)
 
@@ -120,13 +140,17 @@ pub record IsBackFinished (map : SectorMap) (state : State) (old new : Chip) : T
   pub erases : new.erases ≤ old.erases + 2 * members map state.mask + 2
 
 -- From Back to Steady, once the set of a record is swapped back: a call records that, settles the
--- set, and records that the old images run. However it ends, the device is on its way back, or at
--- rest.
-abbrev pub FinishesBack : SectorMap → State → Chip → Chip → Result Unit FlashError → Type 0
-FinishesBack map state old new result = Passes map (settled_parts state.mask) old new
-    ((s : DeviceState) (trial : Trial) → IsBackDone map state old s trial
-    → IsGoingBack map new s trial ⊎ IsSteadyAt (view map new) (reverted s trial))
-    (λ done. IsBackFinished map state old new) result
+-- set, and records that the old images run.
+pub record FinishesBack (map : SectorMap) (state : State) (old new : Chip)
+    (result : Result Unit FlashError) : Type 0 where
+  -- However it ends, the device is on its way back, or at rest.
+  pub passes : Passes map (settled_parts state.mask) old new
+      ((s : DeviceState) (trial : Trial) → IsBackDone map state old s trial
+      → IsGoingBack map new s trial ⊎ IsSteadyAt (view map new) (reverted s trial))
+      (λ done. IsBackFinished map state old new) result
+  pub open passes use *
+  -- On any flash, the log says so, or is as before.
+  pub returns : ReturnsOn map state old new
 
 -- A boot that carries a revert out from a record Back, wherever its swap is.
 abbrev pub CarriesBack : SectorMap → State → Chip → Chip → Result Reply FlashError → Type 0
@@ -140,6 +164,8 @@ pub record Reverts (map : SectorMap) (state : State) (old new : Chip)
   pub boot : CarriesBack map state old new result
   -- If it succeeds, it replies that the set reverted.
   pub is : IfOk result (λ reply. reply ≡ Reverted state.mask)
+  -- On any flash, the log says that the set reverts, or that the device is at rest.
+  pub reverting : LogsKind is_reverting (state_of map new)
 
 -- A boot from a record Back finishes its swap, and reverts its set if that is intact then.
 -- Otherwise it writes nothing more, and is refused for the lowest image of the set that isn't.
@@ -149,6 +175,8 @@ pub record BootsFromBack (map : SectorMap) (state : State) (old new : Chip)
   pub stops : IfOk result (λ reply. (finding : Finding) (permanent : Bool)
       → reply ≡ reply_of finding permanent → IsLostFor (view map new) state.mask finding
       × Keeps map (swap_of state.mask Secondary) old new)
+  -- It asks a journal for no more than room to boot, or gets a step further.
+  pub journal : AsksToBoot map state old new
 
 -- A boot that settles the set of a record BackSettle.
 abbrev pub SettlesBackFor : SectorMap → State → Chip → Chip → Result Reply FlashError → Type 0
@@ -165,3 +193,5 @@ pub record BootsFromBackSettle (map : SectorMap) (state : State) (old new : Chip
   pub stops : IfOk result (λ reply. (finding : Finding) (permanent : Bool)
       → reply ≡ reply_of finding permanent
       → IsLostFor (view map new) state.mask finding × (new ≡ old))
+  -- It asks a journal for no more than room to boot.
+  pub journal : AsksToBoot map state old new

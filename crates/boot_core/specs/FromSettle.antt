@@ -23,6 +23,7 @@ use Rattle.machine.specs.Reading.{CanRead, IsFoundAgain}
 use Rattle.machine.specs.Wear.{IsSettling, members, IsSetFound, IsSetOf}
 use Rattle.machine.specs.declared.finding.Finding.{Finding}
 use Rattle.machine.specs.declared.reply.Reply.{Reply}
+use Rattle.boot_core.specs.Journal.{AsksToBoot, LogsKind, SettlesOn, is_resting}
 use Rattle.boot_core.specs.BootEnds.{BootEnds, Passes}
 use Rattle.decision.specs.Found.{HasTable}
 use Rattle.boot_core.specs.Found.{IsKeptFor, IsToldAgain, StartsFound}
@@ -75,6 +76,8 @@ pub record RecordsTaken (map : SectorMap) (permanent : Bool) (left : ℕ) (floor
       → AreSettled (view map old) mask permanent
       → IsSwapped (view map new) s table log.Settle mask permanent
       ⊎ IsTakenAt (view map new) s mask permanent left floors
+  -- On any flash, the log says what it said before, or that the set is taken.
+  pub either : (state_of map new ≡ state_of map old) ⊎ LogsKind is_resting (state_of map new)
   -- If the call succeeds, the set is taken. The record of a trial isn't permanent.
   pub says : OnOk result (permanent ≡ false → IsTrialLogged (state_of map new))
   pub ok : OnOk result ((s : DeviceState) (table : Table) (mask : ℕ)
@@ -106,6 +109,8 @@ pub record SettlesAndRecords (map : SectorMap) (state : State) (left : ℕ) (flo
       ⊎ IsTakenAt (view map new) s state.mask state.permanent left floors)
       (λ done. IsSetTaken map state left floors old new) result
   pub open passes use *
+  -- On any flash, the log is as before, or the set is settled.
+  pub settles : SettlesOn map state new
   -- It asks a journal for at most 92 bytes for each image of the set, and 120.
   pub journal : new.journaled ≤ old.journaled + (92 * members map state.mask + 120)
 
@@ -134,16 +139,21 @@ pub record IsUpgradeSettled (map : SectorMap) (state : State) (left : ℕ) (old 
   pub erases : IsSettling map old new state.mask
   pub kept : IsKeptFor old new finding
 
--- A call finishes such an upgrade. However it ends, the set is swapped as before, or the upgrade is
--- done.
-abbrev pub SettlesUpgrade : SectorMap → State → ℕ → (Finding → Type 0) → Chip → Chip
-    → Result Finding FlashError → Type 0
-SettlesUpgrade map state left tells old new result = Passes map (settled_parts state.mask) old new
-    ((s : DeviceState) (table : Table)
-    → IsSwapped (view map old) s table log.Settle state.mask state.permanent
-    → IsSwapped (view map new) s table log.Settle state.mask state.permanent
-    ⊎ IsUpgraded left (view map new) s state.mask state.permanent)
-    (λ finding. IsUpgradeSettled map state left old new finding × tells finding) result
+-- A call finishes such an upgrade.
+pub record SettlesUpgrade (map : SectorMap) (state : State) (left : ℕ) (tells : Finding → Type 0)
+    (old new : Chip) (result : Result Finding FlashError) : Type 0 where
+  -- However it ends, the set is swapped as before, or the upgrade is done.
+  pub passes : Passes map (settled_parts state.mask) old new
+      ((s : DeviceState) (table : Table)
+      → IsSwapped (view map old) s table log.Settle state.mask state.permanent
+      → IsSwapped (view map new) s table log.Settle state.mask state.permanent
+      ⊎ IsUpgraded left (view map new) s state.mask state.permanent)
+      (λ finding. IsUpgradeSettled map state left old new finding × tells finding) result
+  pub open passes use *
+  -- On any flash, the log is as before, or the set is settled.
+  pub settles : SettlesOn map state new
+  -- It asks a journal for at most 92 bytes for each image of the set, and 120.
+  pub journal : new.journaled ≤ old.journaled + (92 * members map state.mask + 120)
 
 -- From Settle on: a call takes the set, on trial or permanent, if a decision was found. It returns
 -- what was found.
@@ -171,3 +181,5 @@ pub record BootsFromSettle (map : SectorMap) (state : State) (left : ℕ) (old n
   pub stops : IfOk result (λ reply. (finding : Finding) (permanent : Bool)
       → reply ≡ reply_of finding permanent
       → IsToldAgain (view map new) state.mask state.floors finding × IsKeptFor old new finding)
+  -- It asks a journal for no more than room to boot.
+  pub journal : AsksToBoot map state old new

@@ -1,5 +1,5 @@
 -- Contracts of a boot from a record Steady: one record for each function.
-use Rattle.std.specs.Prelude.{◌≡◌, ◌⊎◌, ◌+◌, ◌≤◌, ℕ, Bool, Some, Result, IfOk}
+use Rattle.std.specs.Prelude.{◌≡◌, ◌⊎◌, ◌+◌, ◌*◌, ◌≤◌, ℕ, Bool, Some, Result, IfOk, is_some}
 use Rattle.flash_model.specs.Chip.{Chip}
 use Rattle.flash_model.specs.declared.error.FlashError.{FlashError}
 use Rattle.sector_map.specs.declared.layout.SectorMap.{SectorMap}
@@ -9,13 +9,14 @@ use Rattle.set_log.specs.Log.{state_of}
 use Rattle.set_log.specs.declared.state.RecordKind.TheVariants as log
 use Rattle.set_log.specs.declared.state.State.{State}
 use Rattle.upload.specs.Device.{DeviceState}
-use Rattle.upload.specs.Steady.{IsSteadyAt}
+use Rattle.upload.specs.Steady.{IsSteadyAt, request_in}
 use Rattle.upload.specs.View.{view}
 use Rattle.sector_map.specs.Part.{is_member}
 use Rattle.machine.specs.Boots.{IsDecision, IsChosen}
 use Rattle.machine.specs.Passing.{IsSwappingSome}
 use Rattle.machine.specs.Wear.{members}
 use Rattle.machine.specs.declared.reply.Reply.{Reply}
+use Rattle.boot_core.specs.Journal.{Begins}
 use Rattle.boot_core.specs.BootEnds.{BootEnds, Passes}
 use Rattle.boot_core.specs.Moving.{may_move, moved_parts}
 use Rattle.boot_core.specs.Wear.{AreMeasured, DoesNothing, IsAfresh, TriesNone}
@@ -39,15 +40,18 @@ pub record IsSwapBegun (map : SectorMap) (state : State) (mask : ℕ) (permanent
   -- At most, a sector is erased for each image of the set, and one for the record.
   pub erases : new.erases ≤ old.erases + members map mask + 1
 
--- From Steady to Swap: a call begins the swap of a set. However it ends, the device is at rest, or
--- the swap of the decision has begun.
-abbrev pub BeginsSwap : SectorMap → State → ℕ → Bool → Chip → Chip → Result State FlashError
-    → Type 0
-BeginsSwap map state mask permanent old new result = Passes map (moved_parts (is_member mask)) old new
-    ((s : DeviceState) (table : Table)
-    → IsSteadyAt (view map old) s → IsDecision s table mask permanent
-    → IsSteadyAt (view map new) s ⊎ IsSwappingSome map new s table mask permanent)
-    (IsSwapBegun map state mask permanent old new) result
+-- From Steady to Swap: a call begins the swap of a set.
+pub record BeginsSwap (map : SectorMap) (state : State) (mask : ℕ) (permanent : Bool)
+    (old new : Chip) (result : Result State FlashError) : Type 0 where
+  -- However it ends, the device is at rest, or the swap of the decision has begun.
+  pub passes : Passes map (moved_parts (is_member mask)) old new
+      ((s : DeviceState) (table : Table)
+      → IsSteadyAt (view map old) s → IsDecision s table mask permanent
+      → IsSteadyAt (view map new) s ⊎ IsSwappingSome map new s table mask permanent)
+      (IsSwapBegun map state mask permanent old new) result
+  pub open passes use *
+  -- It asks a journal for at most 32 bytes for each image of the set, and 120.
+  pub journal : new.journaled ≤ old.journaled + (32 * members map mask + 120)
 
 -- The device is at rest, and the set is the one that is chosen.
 abbrev pub HasChosen : SectorMap → ℕ → Chip → DeviceState → Type 0
@@ -63,6 +67,8 @@ pub record Upgrades (map : SectorMap) (mask left : ℕ) (old new : Chip)
   pub some : IfOk result (λ reply. (s : DeviceState) → HasChosen map mask old s
       → DoesNothing reply → ⊥)
   pub fresh : IfOk result TriesNone
+  -- It asks a journal for at most 376 bytes before its swap is recorded.
+  pub begins : Begins map (is_member mask) 376 old new
 
 -- A boot from a record Steady makes the decision, and takes a chosen set. If none is chosen, or the
 -- boot is refused, nothing is written. That holds on any flash whose log says that the device is at
@@ -76,3 +82,5 @@ pub record BootsFromSteady (map : SectorMap) (left : ℕ) (old new : Chip)
       → state.kind ≡ log.Steady → DoesNothing reply → new ≡ old)
   -- No set is tried again.
   pub fresh : IfOk result TriesNone
+  -- It asks a journal for at most 376 bytes before the swap of requested images is recorded.
+  pub begins : Begins map (λ i. is_some (request_in (view map old) i)) 376 old new

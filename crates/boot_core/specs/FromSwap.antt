@@ -12,7 +12,7 @@ use Rattle.sector_map.specs.Part.{is_member}
 use Rattle.swap_scratch.specs.Swap.{steps_done, steps_in_all}
 use Rattle.upload.specs.Device.{DeviceState}
 use Rattle.upload.specs.View.{view}
-use Rattle.machine.specs.Holding.{IsSwapped, Stands}
+use Rattle.machine.specs.Holding.{AreSettled, IsSwapped, Stands}
 use Rattle.machine.specs.Passing.{IsSwappingSome, IsUpgraded, IsUpgrading, reply_of}
 use Rattle.machine.specs.Boots.{IsDecision}
 use Rattle.machine.specs.Reading.{CanRead, IsFoundAgain}
@@ -21,6 +21,7 @@ use Rattle.machine.specs.declared.finding.Finding.{Finding}
 use Rattle.machine.specs.declared.finding.Finding.TheVariants.{Damaged, Decided, Invalid}
 use Rattle.decision.specs.Found.{HasTable}
 use Rattle.machine.specs.declared.reply.Reply.{Reply}
+use Rattle.boot_core.specs.Journal.{AsksToBoot, LogsKind, is_moving}
 use Rattle.boot_core.specs.BootEnds.{BootEnds, Passes}
 use Rattle.boot_core.specs.Found.{IsSwapAloneFor, IsToldAgain, StartsFound}
 use Rattle.boot_core.specs.Moving.{moved_parts}
@@ -63,12 +64,20 @@ pub record IsSwapDone (map : SectorMap) (state : State) (old new : Chip) (findin
       ≤ old.erases + steps_in_all map old Primary state.mask + 1
 
 -- From Swap to Settle: a call finishes the swap of the set of a record, finds the decision again,
--- and records that. However it ends, the upgrade is under way.
-abbrev pub SwapsForth : SectorMap → State → Chip → Chip → Result Finding FlashError → Type 0
-SwapsForth map state old new result = Passes map (moved_parts (is_member state.mask)) old new
-    ((s : DeviceState) (table : Table) → IsSwappingSome map old s table state.mask state.permanent
-    → IsUpgrading map new s table state.mask state.permanent)
-    (IsSwapDone map state old new) result
+-- and records that.
+pub record SwapsForth (map : SectorMap) (state : State) (old new : Chip)
+    (result : Result Finding FlashError) : Type 0 where
+  -- However it ends, the upgrade is under way.
+  pub passes : Passes map (moved_parts (is_member state.mask)) old new
+      ((s : DeviceState) (table : Table)
+      → IsSwappingSome map old s table state.mask state.permanent
+      → IsUpgrading map new s table state.mask state.permanent)
+      (IsSwapDone map state old new) result
+  pub open passes use *
+  -- On any flash the log says so too.
+  pub moving : LogsKind is_moving (state_of map new)
+  -- It asks a journal for no more than room to boot, or gets a step further.
+  pub journal : AsksToBoot map state old new
 
 -- The upgrade of a record is done, by what is found.
 pub record IsSwapFinished (map : SectorMap) (state : State) (left : ℕ) (old new : Chip)
@@ -83,13 +92,22 @@ pub record IsSwapFinished (map : SectorMap) (state : State) (left : ℕ) (old ne
   pub tells : IsFoundSwapped map state old new finding
 
 -- From Swap on: a call finishes the swap, finds the decision again, and takes its set, on trial or
--- permanent. However it ends, the upgrade is under way, or is done.
-abbrev pub FinishesSwap : SectorMap → State → ℕ → Chip → Chip → Result Finding FlashError → Type 0
-FinishesSwap map state left old new result = Passes map (moved_parts (is_member state.mask)) old new
-    ((s : DeviceState) (table : Table) → IsSwappingSome map old s table state.mask state.permanent
-    → IsUpgrading map new s table state.mask state.permanent
-    ⊎ IsUpgraded left (view map new) s state.mask state.permanent)
-    (IsSwapFinished map state left old new) result
+-- permanent.
+pub record FinishesSwap (map : SectorMap) (state : State) (left : ℕ) (old new : Chip)
+    (result : Result Finding FlashError) : Type 0 where
+  -- However it ends, the upgrade is under way, or is done.
+  pub passes : Passes map (moved_parts (is_member state.mask)) old new
+      ((s : DeviceState) (table : Table)
+      → IsSwappingSome map old s table state.mask state.permanent
+      → IsUpgrading map new s table state.mask state.permanent
+      ⊎ IsUpgraded left (view map new) s state.mask state.permanent)
+      (IsSwapFinished map state left old new) result
+  pub open passes use *
+  -- On any flash, the log says that it is under way, or the set is settled.
+  pub settles : LogsKind is_moving (state_of map new)
+      ⊎ AreSettled (view map new) state.mask state.permanent
+  -- It asks a journal for no more than room to boot, or gets a step further.
+  pub journal : AsksToBoot map state old new
 
 -- A boot from a record Swap finishes the upgrade. If the decision isn't found again, the reply says
 -- why, and only the swap is written.
@@ -102,3 +120,5 @@ pub record BootsFromSwap (map : SectorMap) (state : State) (left : ℕ) (old new
       → reply ≡ reply_of finding permanent
       → IsToldAgain (view map new) state.mask state.floors finding
       × IsSwapAloneFor map state.mask old new finding)
+  -- It asks a journal for no more than room to boot, or gets a step further.
+  pub journal : AsksToBoot map state old new

@@ -1,6 +1,6 @@
 -- Contracts of a boot from a record Trial: one record for each function.
 use Rattle.std.specs.Prelude.{◌≡◌, ◌⊎◌, ◌+◌, ◌<◌, ◌≤◌, ℕ, Bool, true, false, List, Some, None, Result, IfOk}
-use Rattle.std.specs.Prelude.{Option, slice_index}
+use Rattle.std.specs.Prelude.{◌*◌, Option, is_some, slice_index}
 use Rattle.flash_model.specs.Chip.{Chip, Ends}
 use Rattle.flash_model.specs.declared.error.FlashError.{FlashError}
 use Rattle.sector_map.specs.Map.{Keeps}
@@ -12,7 +12,7 @@ use Rattle.set_log.specs.Log.{state_of}
 use Rattle.set_log.specs.declared.state.RecordKind.TheVariants as log
 use Rattle.set_log.specs.declared.state.State.{State}
 use Rattle.upload.specs.Device.{DeviceState, Trial}
-use Rattle.upload.specs.Steady.{IsSteadyAt, IsFront}
+use Rattle.upload.specs.Steady.{IsSteadyAt, IsFront, request_in}
 use Rattle.upload.specs.View.{View, view}
 use Rattle.machine.specs.Boots.{GoesBack, GoesOn}
 use Rattle.machine.specs.Holding.{IsTrialAt, IsTrialOpen, Stands}
@@ -27,6 +27,7 @@ use Rattle.machine.specs.Starting.{AreHeld, AreIntact, IsLost}
 use Rattle.machine.specs.declared.reply.Reply.{Reply}
 use Rattle.machine.specs.declared.reply.Reply.TheVariants.{Reverted, TrialAgain}
 use Rattle.decision.specs.Found.{IsLowestAt}
+use Rattle.boot_core.specs.Journal.{AsksToBoot, Begins}
 use Rattle.boot_core.specs.BootEnds.{BootEnds, BootEndsForAny, Passes}
 use Rattle.boot_core.specs.Moving.{may_move, moved_parts}
 use Rattle.boot_core.specs.Over.{IsIdleTrial, IsRecordedOver, IsTriedAgain, record_over}
@@ -106,6 +107,8 @@ pub record RecordsOver (map : SectorMap) (state : State) (floors : List ℕ) (ol
       → IsTrialAt (view map new) s trial ⊎ IsSteadyAt (view map new) (settled s floors)
   -- If the call succeeds, the trial is over.
   pub done : IfOk result (IsTrialOver map state floors old new)
+  -- It asks a journal for at most 120 bytes.
+  pub journal : new.journaled ≤ old.journaled + 120
   pub ends : Ends result old new
 
 -- The set of a record has begun to revert.
@@ -121,13 +124,17 @@ pub record IsBackBegun (map : SectorMap) (state : State) (old new : Chip) (now :
   -- At most, a sector is erased for each image of the set, and one for the record.
   pub erases : new.erases ≤ old.erases + members map state.mask + 1
 
--- From Trial to Back: a call begins the swap back of a set on trial. However it ends, the trial
--- goes on, or the set has begun to revert.
-abbrev pub BeginsBack : SectorMap → State → Chip → Chip → Result State FlashError → Type 0
-BeginsBack map state old new result = Passes map (moved_parts (is_member state.mask)) old new
-    ((s : DeviceState) (trial : Trial) → GoesBack s trial → IsTrialOpen (view map old) s trial
-    → IsTrialOpen (view map new) s trial ⊎ IsSwappingBackSome map new s trial)
-    (IsBackBegun map state old new) result
+-- From Trial to Back: a call begins the swap back of a set on trial.
+pub record BeginsBack (map : SectorMap) (state : State) (old new : Chip)
+    (result : Result State FlashError) : Type 0 where
+  -- However it ends, the trial goes on, or the set has begun to revert.
+  pub passes : Passes map (moved_parts (is_member state.mask)) old new
+      ((s : DeviceState) (trial : Trial) → GoesBack s trial → IsTrialOpen (view map old) s trial
+      → IsTrialOpen (view map new) s trial ⊎ IsSwappingBackSome map new s trial)
+      (IsBackBegun map state old new) result
+  pub open passes use *
+  -- It asks a journal for at most 32 bytes for each image of the set, and 120.
+  pub journal : new.journaled ≤ old.journaled + (32 * members map state.mask + 120)
 
 -- A set is on trial, at rest or about to revert, and this holds of the trial.
 abbrev pub HasTrial : (DeviceState → Trial → Type 0) → SectorMap → Chip → DeviceState → Type 0
@@ -144,6 +151,8 @@ pub record BootsConfirmed (map : SectorMap) (state : State) (left : ℕ) (old ne
   pub idle : IfOk result (λ reply. DoesNothing reply → IsRecordedOver map state old new)
   -- No set is tried again.
   pub fresh : IfOk result TriesNone
+  -- It asks a journal for at most 496 bytes before the swap of requested images is recorded.
+  pub begins : Begins map (λ i. is_some (request_in (view map old) i)) 496 old new
 
 -- A boot from a trial that goes on leaves one boot less.
 pub record BootsAgain (map : SectorMap) (state : State) (old new : Chip)
@@ -153,6 +162,8 @@ pub record BootsAgain (map : SectorMap) (state : State) (old new : Chip)
   pub acts : IfOk result (λ reply. DoesNothing reply → ⊥)
   pub again : IfOk result (λ reply. (set left : ℕ) → reply ≡ TrialAgain set left
       → IsTriedAgain map state old new set left)
+  -- It asks a journal for at most 120 bytes.
+  pub journal : new.journaled ≤ old.journaled + 120
 
 -- A boot from a trial that reverts swaps its set back.
 pub record BootsBack (map : SectorMap) (state : State) (old new : Chip)
@@ -162,6 +173,8 @@ pub record BootsBack (map : SectorMap) (state : State) (old new : Chip)
       old new result
   -- If it succeeds, it replies that the set reverted.
   pub is : IfOk result (λ reply. reply ≡ Reverted state.mask)
+  -- It asks a journal for no more than room to boot, or gets a step further.
+  pub journal : AsksToBoot map state old new
 
 -- A boot from a record Trial does one of these, or writes nothing because an old image isn't intact.
 pub record BootsFromTrial (map : SectorMap) (state : State) (left : ℕ) (old new : Chip)
@@ -171,3 +184,5 @@ pub record BootsFromTrial (map : SectorMap) (state : State) (left : ℕ) (old ne
   pub idle : IfOk result (λ reply. DoesNothing reply → IsIdleTrial map state old new reply)
   pub again : IfOk result (λ reply. (set left : ℕ) → reply ≡ TrialAgain set left
       → IsTriedAgain map state old new set left)
+  -- It asks a journal for no more than room to boot, or gets a step further.
+  pub journal : AsksToBoot map state old new

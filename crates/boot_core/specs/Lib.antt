@@ -13,6 +13,7 @@ pub mod SwapSize
 pub mod Provisioned
 pub mod FirstState
 pub mod Wear
+pub mod Journal
 pub mod Recorded
 pub mod Moving
 pub mod BootEnds

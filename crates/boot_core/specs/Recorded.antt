@@ -49,4 +49,6 @@ pub record RecordsState (map : SectorMap) (state : State) (old new : Chip)
   pub either : (state_of map new ≡ state_of map old) ⊎ (state_of map new ≡ Some state)
   -- If the call succeeds, the log says the state.
   pub done : IfOk result (IsStateRecorded map state old new)
+  -- It asks a journal for at most 120 bytes.
+  pub journal : new.journaled ≤ old.journaled + 120
   pub ends : Ends result old new

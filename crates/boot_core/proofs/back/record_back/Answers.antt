@@ -1,3 +1,4 @@
+use Rattle.std.proofs.Common.{◌∙◌, inl, inr, refl, ⊎_elim}
 use Rattle.std.proofs.lemmas.Result.{IfOk-weaker}
 use Rattle.machine.proofs.Returning.{back_settle_either, back_settle_ok}
 use Rattle.boot_core.proofs.Records.{fits_back_settle, has_state}
@@ -17,14 +18,18 @@ returns g c =
     let state = c.args.state.now in
     let records = c.append_state.ensures in
     record {
-      layout = layout_kept (log_settled state.mask) c.requires.laid_out records.outside;
-      stands = λ s trial was. back_settle_either map _ _ state c.requires.read records.outside c.requires.laid_out
-          records.either s trial was.1 was.2;
-      done = IfOk-weaker c.append_state.result _ _ (λ now recorded. record {
-        ok = λ s trial was. back_settle_ok map _ _ state c.requires.read records.outside recorded.says s trial was.2;
-        recorded = recorded.recorded;
-        is = recorded.is;
-        erases = recorded.erases;
-      }) records.done;
-      ends = records.ends;
+      returns = ⊎_elim (λ same. inr (same ∙ c.requires.read, records.outside, records.journal))
+          (λ said. inl (_, said, refl)) records.either;
+      passes = record {
+        layout = layout_kept (log_settled state.mask) c.requires.laid_out records.outside;
+        stands = λ s trial was. back_settle_either map _ _ state c.requires.read records.outside c.requires.laid_out
+            records.either s trial was.1 was.2;
+        done = IfOk-weaker c.append_state.result _ _ (λ now recorded. record {
+          ok = λ s trial was. back_settle_ok map _ _ state c.requires.read records.outside recorded.says s trial was.2;
+          recorded = recorded.recorded;
+          is = recorded.is;
+          erases = recorded.erases;
+        }) records.done;
+        ends = records.ends;
+      };
     }

@@ -1,4 +1,4 @@
-use Rattle.std.proofs.Common.{rules, refl}
+use Rattle.std.proofs.Common.{rules, inl, inr, refl, ⊎_elim}
 use Rattle.std.proofs.lemmas.Result.{on_ok_weaker}
 use Rattle.machine.proofs.Returning.{return_either, return_ok}
 use Rattle.boot_core.proofs.Records.{fits_steady}
@@ -12,6 +12,7 @@ pub returns : goal.returns
 returns g c = record {
   outside = search rules;
   stands = return_either c.args.map.now _ _ _ c.requires.read c.append.ensures.outside (rw c.steady.ensures at c.append.ensures.either);
+  either = ⊎_elim (λ same. inl same) (λ said. inr (_, said, refl)) (rw c.steady.ensures at c.append.ensures.either);
   ok = on_ok_weaker c.append.result
       (λ recorded. return_ok c.args.map.now _ _ _ c.requires.read c.append.ensures.outside recorded)
       (rw c.steady.ensures at c.append.ensures.ok);

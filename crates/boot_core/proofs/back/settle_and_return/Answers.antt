@@ -1,4 +1,4 @@
-use Rattle.std.proofs.Common.{arith, inl, refl, subst, true}
+use Rattle.std.proofs.Common.{◌∙◌, arith, inl, inr, refl, subst, true, ⊎_elim}
 use Rattle.std.proofs.lemmas.Result.{IfOk-weaker}
 use Rattle.sector_map.proofs.Parts.{laid_out_kept}
 use Rattle.upload.specs.View.{view}
@@ -23,6 +23,7 @@ returns-in_err-settle_set g c =
           c.settle_set.ensures.outside)
           (λ s trial is was. inl (returning_kept c.args.map.now _ _ _ s trial _ is c.settle_set.ensures.outside was))
           c.in_err-settle_set.ensures.ends;
+      either = inl (read_kept c.args.map.now _ _ _ c.args.state.now c.settle_set.ensures.outside refl c.requires.read);
       journal = omega (arith, c.settle_set.ensures.journal);
     })
 
@@ -46,5 +47,7 @@ returns g c =
         }) (ok_both _ _ c.record_returned.result returns.ok returns.erases);
         ends = then_ends settles.ends returns.ends;
       };
+      either = ⊎_elim (λ same. inl (same ∙ read_kept map _ _ _ c.args.state.now settles.outside refl c.requires.read))
+          (λ rests. inr rests) returns.either;
       journal = omega (arith, settles.journal, returns.journal);
     }

@@ -32,5 +32,8 @@ returns g c =
               (subst (λ mask. IsSwapAt map old Secondary mask was.0 was.1) (sym is) was.2.place),
         );
       }) swaps.swapped swaps.erases;
+      forward = swaps.forward;
+      journal = swaps.journal;
+      journal_ok = swaps.journal_ok;
       ends = swaps.ends;
     }

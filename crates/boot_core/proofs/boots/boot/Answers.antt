@@ -8,6 +8,7 @@ use Rattle.boot_core.proofs.OnMap.{layout_same}
 use Rattle.boot_core.proofs.Passed.{here_ends}
 use Rattle.decision.specs.Places.{read_as}
 use Rattle.boot_core.specs.Places.{reply_in}
+use Rattle.boot_core.proofs.Asking.{read_asks}
 use Rattle.boot_core.proofs.boots.boot.Goals as goal
 
 pub returns-in-Ok : goal.returns-in-Ok
@@ -32,6 +33,7 @@ returns-in-Ok g c =
       over = read_over map _ _ _ (read_as (reply_in c.boot_from.new.table c.boot_from.new.report) c.boot_from.result) found.0 booted.over;
       again = read_again map _ _ _ (read_as (reply_in c.boot_from.new.table c.boot_from.new.report) c.boot_from.result)
           found.0 booted.again;
+      journal = λ state stood. read_asks map _ _ _ state found.0 stood booted.journal;
       starts = IfOk-weaker (read_as (reply_in c.boot_from.new.table c.boot_from.new.report) c.boot_from.result) _ _
           (λ reply gives. gives.starts) booted.boot.done;
       off = λ off. absurd (true≢false (sym found.1 ∙ off));
@@ -56,6 +58,7 @@ returns-in-Err-NoLog g c =
       idle = λ state stood. absurd (stood_none c.args.map.now _ state stood none);
       over = λ state stood. absurd (stood_none c.args.map.now _ state stood none);
       again = λ state set more stood. absurd (stood_none c.args.map.now _ state stood none);
+      journal = λ state stood. absurd (stood_none c.args.map.now _ state stood none);
       starts = tt;
       off = λ off. absurd (true≢false (sym (rw c.in-Err-NoLog.field-0-is at c.in-Err-NoLog.ensures.answers).1 ∙ off));
       told = tt;

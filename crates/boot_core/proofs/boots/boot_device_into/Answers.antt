@@ -38,6 +38,7 @@ returns g c = record {
   answers = λ on uncut s stands sound.
       ap is_answer c.conclude.ensures.is ∙ c.in_ok-outcome.ensures.answers s stands sound;
   empty = c.boot.ensures.empty;
+  journal = c.boot.ensures.journal;
   refused = λ on none.
       unprovisioned (read_as (reply_in c.boot.new.table c.boot.new.report) c.conclude.result) c.conclude.ensures.answers
       (c.conclude.ensures.is ∙ c.in_ok-outcome.ensures.refused none);
@@ -80,6 +81,7 @@ returns-in_err-outcome g c =
       told = inr (flash_stopped_it error);
       answers = λ on uncut s stands sound. absurd (not_uncut old new error ends on uncut);
       empty = c.boot.ensures.empty;
+      journal = c.boot.ensures.journal;
       refused = λ on none. not_empty old new error ends on (c.boot.ensures.empty none) (Err (no.Flash error));
       erases = λ on uncut state s stood stands. stopped_worn c.args.map.now state old new error ends on uncut;
       stops = λ state finding permanent stood is.

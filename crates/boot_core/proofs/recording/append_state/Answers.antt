@@ -10,6 +10,7 @@ returns-in_err-append g c =
       outside = c.append.ensures.outside;
       either = c.append.ensures.either;
       done = tt;
+      journal = c.append.ensures.journal;
       ends = err_ends c.in_err-append.ensures.ends;
     })
 
@@ -24,5 +25,6 @@ returns g c = record {
     appended = c.in_ok-append.ensures;
     erases = one_erase _ _ _ c.in_ok-append.ensures.erases;
   };
+  journal = c.append.ensures.journal;
   ends = ok_ends c.in_ok-append.ensures.ends;
 }

@@ -1,4 +1,5 @@
-use Rattle.std.proofs.Common.{◌∙◌, sym}
+use Rattle.std.proofs.Common.{arith, ◌∙◌, sym}
+use Rattle.boot_core.proofs.Asking.{asks_few, members_few}
 use Rattle.machine.proofs.Standing.{settle_cut, settle_ends}
 use Rattle.upload.proofs.Ends.{err_passed}
 use Rattle.boot_core.proofs.Booted.{boot_fails, boot_replies}
@@ -15,6 +16,11 @@ returns-in_err-finding g c =
           c.finish_settle.ensures.stands)
           c.in_err-finding.ensures.ends;
       stops = tt;
+      journal = asks_few c.args.map.now c.args.state.now _ _ 856 (omega (
+        arith,
+        c.finish_settle.ensures.journal,
+        members_few c.args.map.now _ c.args.state.now.mask c.requires.recorded.laid_out,
+      )) (omega arith);
     })
 
 pub returns : goal.returns
@@ -30,4 +36,9 @@ returns g c = record {
   stops = λ finding permanent is. settle_stops c.args.map.now _ _ c.args.state.now.mask
       c.args.state.now.floors _ finding c.args.state.now.permanent permanent (sym (c.reply_to.ensures c.finish_settle.new.table c.finish_settle.new.report).is ∙ is)
       c.in_ok-finding.ensures.done.1.1 c.in_ok-finding.ensures.done.0.kept;
+  journal = asks_few c.args.map.now c.args.state.now _ _ 856 (omega (
+    arith,
+    c.finish_settle.ensures.journal,
+    members_few c.args.map.now _ c.args.state.now.mask c.requires.recorded.laid_out,
+  )) (omega arith);
 }

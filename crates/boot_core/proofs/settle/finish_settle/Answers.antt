@@ -1,4 +1,4 @@
-use Rattle.std.proofs.Common.{◌∙◌, ap, inl, refl, subst, sym}
+use Rattle.std.proofs.Common.{arith, ◌∙◌, ap, inl, refl, subst, sym}
 use Rattle.std.proofs.lemmas.Result.{IfOk-weaker}
 use Rattle.set_log.specs.Log.{state_of}
 use Rattle.upload.proofs.Ends.{err_passed}
@@ -28,8 +28,12 @@ settle_found-requires g c = record {
 pub returns-in_err-finding : goal.returns-in_err-finding
 returns-in_err-finding g c =
     rw (err_passed c.from_residual.result c.in_err-finding.field-0.0 c.from_residual.ensures.1)
-    (rw c.find_again.ensures.same (passes_err (layout_same c.requires.recorded.laid_out refl)
-    (λ s table was. inl was) (rw c.find_again.ensures.same at c.in_err-finding.ensures.ends)))
+    (rw c.find_again.ensures.same (record {
+      passes = passes_err (layout_same c.requires.recorded.laid_out refl)
+          (λ s table was. inl was) (rw c.find_again.ensures.same at c.in_err-finding.ensures.ends);
+      settles = inl c.requires.recorded.read;
+      journal = omega arith;
+    }))
 
 pub returns : goal.returns
 returns g c =
@@ -37,18 +41,22 @@ returns g c =
     let finds = c.in_ok-finding.ensures in
     let settles = rw c.find_again.ensures.same at c.settle_found.ensures in
     record {
-      layout = settles.layout;
-      stands = settles.stands;
-      done = IfOk-weaker (read_as (finding_in c.find_again.new.table c.find_again.new.report) c.settle_found.result) _ _ (λ answer done. (
-        done.0,
-        (
-          subst (λ found. IsSetFound mask found) (sym done.1) finds.set,
-          subst (λ found. IsToldAgain (view c.args.map.now (g.F.Flash.chip c.args.flash.now)) mask
-              c.args.state.now.floors found) (sym done.1) finds.told,
-          starts_settled c.args.map.now mask _ _ answer (layout_keeps settles.layout)
-              (subst (λ found. StartsFound (view c.args.map.now (g.F.Flash.chip c.args.flash.now)) found) (sym done.1)
-              finds.starts),
-        ),
-      )) settles.done;
-      ends = settles.ends;
+      settles = settles.settles;
+      journal = settles.journal;
+      passes = record {
+        layout = settles.layout;
+        stands = settles.stands;
+        done = IfOk-weaker (read_as (finding_in c.find_again.new.table c.find_again.new.report) c.settle_found.result) _ _ (λ answer done. (
+          done.0,
+          (
+            subst (λ found. IsSetFound mask found) (sym done.1) finds.set,
+            subst (λ found. IsToldAgain (view c.args.map.now (g.F.Flash.chip c.args.flash.now)) mask
+                c.args.state.now.floors found) (sym done.1) finds.told,
+            starts_settled c.args.map.now mask _ _ answer (layout_keeps settles.layout)
+                (subst (λ found. StartsFound (view c.args.map.now (g.F.Flash.chip c.args.flash.now)) found) (sym done.1)
+                finds.starts),
+          ),
+        )) settles.done;
+        ends = settles.ends;
+      };
     }

@@ -1,4 +1,4 @@
-use Rattle.std.proofs.Common.{rules, true≢false}
+use Rattle.std.proofs.Common.{rules, inl, inr, refl, true≢false, ⊎_elim}
 use Rattle.std.proofs.lemmas.Result.{on_ok_weaker}
 use Rattle.machine.proofs.Ending.{good_either, good_ok}
 use Rattle.boot_core.proofs.Records.{fits_steady}
@@ -13,6 +13,7 @@ returns g c = λ left. record {
   outside = search rules;
   stands = good_either c.args.map.now _ _ _ _ c.requires.recorded.read
       c.append.ensures.outside (rw c.steady.ensures at c.append.ensures.either);
+  either = ⊎_elim (λ same. inl same) (λ said. inr (_, said, refl)) (rw c.steady.ensures at c.append.ensures.either);
   says = on_ok_weaker c.append.result (λ recorded plain. absurd (true≢false plain)) c.append.ensures.ok;
   ok = on_ok_weaker c.append.result
       (λ recorded. good_ok c.args.map.now _ _ _ _ c.requires.recorded.read c.append.ensures.outside recorded)

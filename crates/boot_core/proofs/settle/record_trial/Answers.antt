@@ -1,4 +1,4 @@
-use Rattle.std.proofs.Common.{rules, refl, subst, sym}
+use Rattle.std.proofs.Common.{rules, inl, inr, refl, subst, sym, ⊎_elim}
 use Rattle.boot_core.specs.FromSettle.{IsTrialLogged}
 use Rattle.std.proofs.lemmas.Result.{on_ok_weaker}
 use Rattle.machine.proofs.Ending.{trial_either, trial_ok}
@@ -14,6 +14,7 @@ returns g c = λ floors. record {
   outside = search rules;
   stands = trial_either c.args.map.now _ _ _ c.args.left c.requires.recorded.read
       c.append.ensures.outside c.append.ensures.either;
+  either = ⊎_elim (λ same. inl same) (λ said. inr (_, said, refl)) c.append.ensures.either;
   says = on_ok_weaker c.append.result (λ recorded plain. subst IsTrialLogged (sym recorded) (refl, refl))
       c.append.ensures.ok;
   ok = on_ok_weaker c.append.result

@@ -29,6 +29,7 @@ returns-in_err-settle_set g c =
           c.settle_set.ensures.outside)
           (λ s table was. inl (settling_kept c.args.map.now _ _ _ c.settle_set.ensures.outside s table _ _ was))
           c.in_err-settle_set.ensures.ends;
+      settles = inl (read_kept c.args.map.now _ _ _ c.args.state.now c.settle_set.ensures.outside refl c.requires.recorded.read);
       journal = omega (arith, c.settle_set.ensures.journal);
     })
 
@@ -36,7 +37,7 @@ pub returns-then-state : goal.returns-then-state
 returns-then-state g c =
     let settles = c.in_ok-settle_set.ensures in
     settles_taken c.args.map.now _ _ _ c.args.state.now c.args.left c.args.floors c.record_taken.result
-    c.requires.recorded.laid_out settles.outside (settled_as c.args.map.now _ _ _ _ c.settling_for.ensures settles.ok)
+    c.requires.recorded.laid_out c.requires.recorded.read settles.outside (settled_as c.args.map.now _ _ _ _ c.settling_for.ensures settles.ok)
     settles.erases settles.journal settles.ends (subst
     (λ permanent. RecordsTaken c.args.map.now permanent c.args.left c.args.floors
     (g.F.Flash.chip c.settle_set.new.flash) (g.F.Flash.chip c.record_taken.new.flash) c.record_taken.result)
@@ -47,7 +48,7 @@ returns-else-state g c =
     let settles = c.in_ok-settle_set.ensures in
     let settled = settled_as c.args.map.now _ _ _ _ c.settling_for.ensures settles.ok in
     settles_taken c.args.map.now _ _ _ c.args.state.now c.args.left c.args.floors c.record_trial.result
-    c.requires.recorded.laid_out settles.outside settled settles.erases settles.journal settles.ends
+    c.requires.recorded.laid_out c.requires.recorded.read settles.outside settled settles.erases settles.journal settles.ends
     (subst
     (λ permanent. RecordsTaken c.args.map.now permanent c.args.left c.args.floors
     (g.F.Flash.chip c.settle_set.new.flash) (g.F.Flash.chip c.record_trial.new.flash) c.record_trial.result)

@@ -1,4 +1,4 @@
-use Rattle.std.proofs.Common.{rules, ◌≤◌, inl, refl, subst, sym}
+use Rattle.std.proofs.Common.{rules, arith, ◌≤◌, inl, refl, subst, sym}
 use Rattle.upload.proofs.Ends.{err_passed}
 use Rattle.machine.proofs.Resuming.{never_found, settle_reports, settle_stands}
 use Rattle.decision.specs.Found.{HasTable}
@@ -17,42 +17,54 @@ settle_and_record-requires-clause-rest g c = λ i le.
 pub returns-in_err-settle_and_record-in-Decided : goal.returns-in_err-settle_and_record-in-Decided
 returns-in_err-settle_and_record-in-Decided g c =
     rw (err_passed c.from_residual.result c.in_err-settle_and_record-in-Decided.field-0.0 c.from_residual.ensures.1)
-    (passes_err c.settle_and_record.ensures.layout
-    (settle_stands c.args.map.now _ _ _ _ c.args.left _ _ _ _ c.requires.read refl c.requires.found (decided_in c.args.table.now c.args.report.now _ c.in-Decided.is)
-    c.raised_floors-floors.ensures c.settle_and_record.ensures.stands)
-    c.in_err-settle_and_record-in-Decided.ensures.ends)
+    (record {
+      passes = passes_err c.settle_and_record.ensures.layout
+          (settle_stands c.args.map.now _ _ _ _ c.args.left _ _ _ _ c.requires.read refl c.requires.found (decided_in c.args.table.now c.args.report.now _ c.in-Decided.is)
+          c.raised_floors-floors.ensures c.settle_and_record.ensures.stands)
+          c.in_err-settle_and_record-in-Decided.ensures.ends;
+      settles = c.settle_and_record.ensures.settles;
+      journal = c.settle_and_record.ensures.journal;
+    })
 
 pub returns-in_ok-settle_and_record-in-Decided : goal.returns-in_ok-settle_and_record-in-Decided
 returns-in_ok-settle_and_record-in-Decided g c =
     let records = c.in_ok-settle_and_record-in-Decided.ensures in
     record {
-      layout = records.layout;
-      stands = settle_stands c.args.map.now _ _ _ _ c.args.left _ _ _ _ c.requires.read refl c.requires.found
-          (decided_in c.args.table.now c.args.report.now _ c.in-Decided.is) c.raised_floors-floors.ensures records.stands;
-      done = (
-        record {
-          ok = settle_reports c.args.map.now _ _ _ _ c.args.left _ _ _ _ c.requires.read refl c.requires.found
-              (decided_in c.args.table.now c.args.report.now _ c.in-Decided.is) c.raised_floors-floors.ensures records.done.ok;
-          erases = records.done.erases;
-          kept = tt;
-        },
-        sym (decided_in c.args.table.now c.args.report.now _ c.in-Decided.is),
-      );
-      ends = ok_ends records.ends;
+      settles = records.settles;
+      journal = records.journal;
+      passes = record {
+        layout = records.layout;
+        stands = settle_stands c.args.map.now _ _ _ _ c.args.left _ _ _ _ c.requires.read refl c.requires.found
+            (decided_in c.args.table.now c.args.report.now _ c.in-Decided.is) c.raised_floors-floors.ensures records.stands;
+        done = (
+          record {
+            ok = settle_reports c.args.map.now _ _ _ _ c.args.left _ _ _ _ c.requires.read refl c.requires.found
+                (decided_in c.args.table.now c.args.report.now _ c.in-Decided.is) c.raised_floors-floors.ensures records.done.ok;
+            erases = records.done.erases;
+            kept = tt;
+          },
+          sym (decided_in c.args.table.now c.args.report.now _ c.in-Decided.is),
+        );
+        ends = ok_ends records.ends;
+      };
     }
 
 pub returns-in_default : goal.returns-in_default
 returns-in_default g c = record {
-  layout = layout_same c.requires.laid_out refl;
-  stands = λ s table was. inl was;
-  done = (
-    record {
-      ok = λ s table was. absurd (never_again s c.args.state.now.mask _ (undecided_in c.args.table.now c.args.report.now _ c.in_default.not-Decided)
-          (never_found c.args.map.now _ _ _ _ c.requires.read c.requires.found refl s table was));
-      erases = search rules;
-      kept = kept_for _ (finding_in c.args.table.now c.args.report.now c.args.verdict);
-    },
-    refl,
-  );
-  ends = here_ends;
+  settles = inl c.requires.read;
+  journal = omega arith;
+  passes = record {
+    layout = layout_same c.requires.laid_out refl;
+    stands = λ s table was. inl was;
+    done = (
+      record {
+        ok = λ s table was. absurd (never_again s c.args.state.now.mask _ (undecided_in c.args.table.now c.args.report.now _ c.in_default.not-Decided)
+            (never_found c.args.map.now _ _ _ _ c.requires.read c.requires.found refl s table was));
+        erases = search rules;
+        kept = kept_for _ (finding_in c.args.table.now c.args.report.now c.args.verdict);
+      },
+      refl,
+    );
+    ends = here_ends;
+  };
 }

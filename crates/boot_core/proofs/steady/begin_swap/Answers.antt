@@ -20,10 +20,13 @@ append_state-requires-clause-fits g c = fits_swap c.args.map.now _ c.args.state.
 pub returns-in_err-prepare_set : goal.returns-in_err-prepare_set
 returns-in_err-prepare_set g c =
     rw (err_passed c.from_residual.result c.in_err-prepare_set.field-0.0 c.from_residual.ensures.1)
-    (passes_err (layout_kept (trailers_moved c.args.mask Primary) c.requires.laid_out c.prepare_set.ensures.outside)
-    (λ s table was decision.
-    inl (steady_kept c.args.map.now _ _ _ s c.prepare_set.ensures.outside (primary_aside c.args.mask) was))
-    c.in_err-prepare_set.ensures.ends)
+    (record {
+      passes = passes_err (layout_kept (trailers_moved c.args.mask Primary) c.requires.laid_out c.prepare_set.ensures.outside)
+          (λ s table was decision.
+          inl (steady_kept c.args.map.now _ _ _ s c.prepare_set.ensures.outside (primary_aside c.args.mask) was))
+          c.in_err-prepare_set.ensures.ends;
+      journal = omega (arith, c.prepare_set.ensures.journal);
+    })
 
 pub returns : goal.returns
 returns g c =
@@ -31,7 +34,10 @@ returns g c =
     let log = c.append_state.ensures in
     let begins = begin_ok c.args.map.now _ _ _ c.requires.laid_out _ _ c.args.permanent c.requires.read ready.outside
     ready.ok log.outside in
-    begun c.requires.laid_out ready log
-    (begin_either c.args.map.now _ _ _ c.requires.laid_out _ _ _ c.requires.read ready.outside ready.ok log.outside
-    log.either)
-    (λ now r moves wear. record { ok = begins r.says; recorded = r.recorded; is = r.is; moves = moves; erases = wear })
+    record {
+      passes = begun c.requires.laid_out ready log
+          (begin_either c.args.map.now _ _ _ c.requires.laid_out _ _ _ c.requires.read ready.outside ready.ok log.outside
+          log.either)
+          (λ now r moves wear. record { ok = begins r.says; recorded = r.recorded; is = r.is; moves = moves; erases = wear });
+      journal = omega (arith, ready.journal, log.journal);
+    }

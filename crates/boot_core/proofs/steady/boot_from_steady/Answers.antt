@@ -1,4 +1,4 @@
-use Rattle.std.proofs.Common.{◌+◌, ◌∙◌, ap, refl, subst, sym}
+use Rattle.std.proofs.Common.{◌+◌, ◌∙◌, ap, arith, refl, subst, sym}
 use Rattle.std.proofs.lemmas.Result.{IfOk-weaker}
 use Rattle.upload.proofs.Ends.{err_passed}
 use Rattle.upload.specs.Device.{DeviceState}
@@ -9,7 +9,10 @@ use Rattle.machine.proofs.Upgrading.{steady_cut}
 use Rattle.machine.specs.Wear.{IsSetIn}
 use Rattle.boot_core.specs.FromSteady.{HasChosen}
 use Rattle.boot_core.proofs.Booted.{boot_after, boot_fails, boot_wider}
-use Rattle.boot_core.proofs.Moves.{mask_moves, starts_set}
+use Rattle.boot_core.proofs.Moves.{mask_asked, mask_moves, starts_set}
+use Rattle.boot_core.proofs.Asking.{begins_more}
+use Rattle.boot_core.specs.Journal.{AsksAtMost, Begins}
+use Rattle.flash_model.specs.Chip.{Chip}
 use Rattle.decision.specs.Found.{HasTable, IsFindingHeld}
 use Rattle.sector_map.specs.Map.{IsLaidOut}
 use Rattle.sector_map.specs.Part.{is_member}
@@ -29,6 +32,7 @@ returns-in_err-image g c =
           (λ s was. steady_cut c.args.map.now (c.args.left + 1) _ _ s c.find_into.ensures.same was) c.in_err-image.ensures.ends;
       idle = tt;
       fresh = tt;
+      begins = AsksAtMost (omega (arith, ap (λ (chip : Chip). chip.journaled) c.find_into.ensures.same));
     })
 
 pub returns-then-mask-eq0 : goal.returns-then-mask-eq0
@@ -81,4 +85,8 @@ returns-else-mask-eq0 g c =
           absurd (rests_somehow c.args.map.now old state stood kind (λ s was. takes s (chosen s was) nothing)))
           c.upgrade.ensures.some;
       fresh = c.upgrade.ensures.fresh;
+      begins = begins_more c.args.map.now _ _ 376 old _ (mask_asked c.args.map.now old c.find_into.new.table
+          c.find_into.new.report c.taken_mask-mask.result held.0 held.1 c.taken_mask-mask.ensures.each)
+          (subst (λ chip. Begins c.args.map.now (λ i. is_member c.taken_mask-mask.result i) 376 chip
+          (g.F.Flash.chip c.upgrade.new.flash)) c.find_into.ensures.same c.upgrade.ensures.begins);
     }

@@ -1,4 +1,4 @@
-use Rattle.std.proofs.Common.{◌+◌, ap, refl, subst, sym, ◌∙◌}
+use Rattle.std.proofs.Common.{◌+◌, arith, ap, refl, subst, sym, ◌∙◌}
 use Rattle.upload.proofs.Ends.{err_passed}
 use Rattle.machine.proofs.Upgrading.{steady_cut}
 use Rattle.set_log.specs.Log.{state_of}
@@ -12,6 +12,9 @@ use Rattle.boot_core.proofs.Passed.{then_ends}
 use Rattle.boot_core.proofs.Upgrades.{begun_cuts, begun_here, finished_cuts, finished_ends, found_fresh}
 use Rattle.boot_core.specs.Wear.{TriesNone}
 use Rattle.boot_core.specs.Places.{reply_in}
+use Rattle.flash_model.specs.Chip.{Chip}
+use Rattle.boot_core.proofs.Asking.{begins_settles, members_few}
+use Rattle.boot_core.specs.Journal.{AsksAtMost}
 use Rattle.boot_core.proofs.steady.upgrade.Goals as goal
 
 pub begin_swap-requires : goal.begin_swap-requires
@@ -38,6 +41,7 @@ returns-in_err-permanent g c =
           c.in_err-permanent.ensures.ends;
       some = tt;
       fresh = tt;
+      begins = AsksAtMost (omega (arith, ap (λ (chip : Chip). chip.journaled) c.asks_for_good.ensures.same));
     })
 
 pub returns-in_err-swap : goal.returns-in_err-swap
@@ -50,6 +54,7 @@ returns-in_err-swap g c =
           (then_ends c.in_ok-permanent.ensures.ends c.in_err-swap.ensures.ends);
       some = tt;
       fresh = tt;
+      begins = AsksAtMost (omega (arith, begun.journal, members_few c.args.map.now _ c.args.mask c.requires.chosen.laid_out));
     })
 
 pub returns-in_err-finding : goal.returns-in_err-finding
@@ -64,6 +69,7 @@ returns-in_err-finding g c =
           (then_ends begun.ends c.in_err-finding.ensures.ends);
       some = tt;
       fresh = tt;
+      begins = begins_settles c.args.map.now c.args.mask _ _ _ c.requires.chosen.some finished.settles;
     })
 
 pub returns : goal.returns
@@ -87,6 +93,7 @@ returns g c =
           finished.done.tells.starts (then_ends begun.ends c.in_ok-finding.ensures.ends);
       some = λ s at. (c.reply_to.ensures c.finish_swap.new.table c.finish_swap.new.report).some s _ (finished.done.ok s at.0 (swapping s at)).0 finished.done.tells.set
           c.requires.chosen.some;
+      begins = begins_settles map c.args.mask _ old new c.requires.chosen.some finished.settles;
       fresh = subst (λ reply. TriesNone reply)
           (sym (c.reply_to.ensures c.finish_swap.new.table c.finish_swap.new.report).is) (found_fresh _ _);
     }

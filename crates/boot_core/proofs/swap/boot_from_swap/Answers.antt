@@ -13,10 +13,12 @@ returns-in_err-finding g c =
           c.finish_swap.ensures.stands)
           c.in_err-finding.ensures.ends;
       stops = tt;
+      journal = c.finish_swap.ensures.journal;
     })
 
 pub returns : goal.returns
 returns g c = record {
+  journal = c.finish_swap.ensures.journal;
   boot = boot_replies (c.reply_to.ensures c.finish_swap.new.table c.finish_swap.new.report) c.finish_swap.ensures.layout
       (swap_cut c.args.map.now _ _ _ c.args.left c.requires.recorded.read c.requires.recorded.kind
       c.finish_swap.ensures.stands)

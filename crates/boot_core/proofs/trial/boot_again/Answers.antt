@@ -30,6 +30,7 @@ returns-in_err-append g c = λ table report.
       };
       acts = tt;
       again = tt;
+      journal = c.append.ensures.journal;
     })
 
 pub returns : goal.returns
@@ -48,6 +49,7 @@ returns g c = λ table report.
             c.in_ok-append.ensures.ends;
       };
       acts = λ nothing. nothing;
+      journal = c.append.ensures.journal;
       again = λ set left is. again_is c.args.map.now c.args.state.now _ _ c.args.state.now.mask _ set left is
           (refl, inl (omega arith, c.in_ok-append.ensures));
     }

@@ -1,4 +1,4 @@
-use Rattle.std.proofs.Common.{◌≡◌, ap}
+use Rattle.std.proofs.Common.{◌≡◌, ap, arith, refl}
 use Rattle.upload.proofs.Ends.{err_passed}
 use Rattle.upload.specs.Device.{DeviceState}
 use Rattle.machine.specs.Boots.{GoesBack}
@@ -8,6 +8,9 @@ use Rattle.set_log.specs.declared.state.State.{State}
 use Rattle.boot_core.specs.FromTrial.{HasTrial}
 use Rattle.boot_core.proofs.Booted.{boot_after, boot_fails}
 use Rattle.boot_core.proofs.Wears.{fresh_back}
+use Rattle.set_log.specs.declared.state.RecordKind.TheVariants as log
+use Rattle.boot_core.proofs.Asking.{asks_few, asks_other, members_few}
+use Rattle.boot_core.specs.Journal.{is_reverting}
 use Rattle.boot_core.proofs.trial.boot_back.Goals as goal
 
 pub returns-in_err-back : goal.returns-in_err-back
@@ -20,6 +23,11 @@ returns-in_err-back g c = λ table report.
             c.in_err-back.ensures.ends;
       };
       is = tt;
+      journal = asks_few c.args.map.now c.args.state.now _ _ 376 (omega (
+        arith,
+        c.begin_back.ensures.journal,
+        members_few c.args.map.now _ c.args.state.now.mask c.requires.laid_out,
+      )) (omega arith);
     })
 
 pub revert-requires : goal.revert-requires
@@ -48,4 +56,6 @@ returns g c = λ table report.
             (reverts.boot.boot boots);
       };
       is = reverts.is;
+      journal = asks_other map c.args.state.now old _ is_reverting log.Trial (c.revert.ensures table report).reverting
+          c.requires.kind refl;
     }

@@ -1,4 +1,4 @@
-use Rattle.std.proofs.Common.{◌≡◌, ◌+◌, ◌∙◌, ap, inl, inr, refl, subst, sym}
+use Rattle.std.proofs.Common.{◌≡◌, ◌+◌, ◌∙◌, ap, arith, inl, inr, refl, subst, sym}
 use Rattle.std.proofs.lemmas.Result.{IfOk-weaker}
 use Rattle.set_log.specs.Log.{state_of}
 use Rattle.upload.specs.Device.{DeviceState}
@@ -12,6 +12,8 @@ use Rattle.boot_core.specs.Wear.{DoesNothing, TriesNone}
 use Rattle.boot_core.proofs.Booted.{boot_as, boot_gives, boot_wider, recorded_moves, trial_here}
 use Rattle.boot_core.proofs.OnMap.{layout_same}
 use Rattle.boot_core.proofs.Trying.{again_is, never_again, refused_again, stays_none}
+use Rattle.set_log.specs.declared.state.RecordKind.TheVariants as log
+use Rattle.boot_core.proofs.Asking.{asks_begins, asks_few}
 use Rattle.boot_core.proofs.trial.boot_from_trial.Goals as goal
 
 pub boot_over-requires-clause-recorded : goal.boot_over-requires-clause-recorded
@@ -52,6 +54,8 @@ returns-in-Over g c =
           (λ reply idle. λ nothing. inl (record { confirmed = looked; recorded = idle nothing })) booted.idle;
       again = IfOk-weaker (read_as (reply_in c.boot_over.new.table c.boot_over.new.report) c.boot_over.result) _ _
           (λ reply fresh. λ set left is. absurd (subst (λ r. TriesNone r) is fresh)) booted.fresh;
+      journal = asks_begins c.args.map.now c.args.state.now _ _ 496 log.Trial c.requires.recorded.kind refl
+          (omega arith) booted.begins;
     }
 
 pub returns-in-Back : goal.returns-in-Back
@@ -67,6 +71,7 @@ returns-in-Back g c =
           (λ reply is. λ nothing. absurd (subst (λ r. DoesNothing r) is nothing)) booted.is;
       again = IfOk-weaker (read_as (reply_in c.args.table.now c.args.report.now) c.boot_back.result) _ _
           (λ reply is. λ set left e. absurd (never_again c.args.state.now.mask set left (sym is ∙ e))) booted.is;
+      journal = booted.journal;
     }
 
 pub returns-in-Again : goal.returns-in-Again
@@ -81,6 +86,7 @@ returns-in-Again g c =
       idle = IfOk-weaker (read_as (reply_in c.args.table.now c.args.report.now) c.boot_again.result) _ _
           (λ reply acts. λ nothing. absurd (acts nothing)) booted.acts;
       again = booted.again;
+      journal = asks_few c.args.map.now c.args.state.now _ _ 120 booted.journal (omega arith);
     }
 
 pub returns-in-Stays : goal.returns-in-Stays
@@ -99,6 +105,7 @@ returns-in-Stays g c =
       idle = λ nothing. absurd nothing;
       again = λ set left is. again_is map state old old state.mask 0 set left is
           (refl, inr (none, refl, refl, looked.2));
+      journal = asks_few map state old old 0 (omega arith) (omega arith);
     })
 
 pub returns-in-Refused : goal.returns-in-Refused
@@ -121,4 +128,5 @@ returns-in-Refused g c =
         lowest = (c.in-Refused.image, looked.1, refl);
       });
       again = λ set left is. absurd (refused_again c.in-Refused.image set left is);
+      journal = asks_few map state old old 0 (omega arith) (omega arith);
     })

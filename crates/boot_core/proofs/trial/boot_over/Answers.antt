@@ -1,4 +1,4 @@
-use Rattle.std.proofs.Common.{◌≡◌, ◌+◌, ap, ◌∙◌, subst}
+use Rattle.std.proofs.Common.{◌≡◌, ◌+◌, ap, arith, ◌∙◌, subst}
 use Rattle.std.proofs.lemmas.Result.{IfOk-weaker}
 use Rattle.set_log.specs.Log.{state_of}
 use Rattle.upload.proofs.Ends.{err_passed}
@@ -15,6 +15,9 @@ use Rattle.sector_map.specs.Part.{Log, only}
 use Rattle.boot_core.proofs.Passed.{then_ends}
 use Rattle.decision.specs.Places.{read_as}
 use Rattle.boot_core.specs.Places.{reply_in}
+use Rattle.flash_model.specs.Chip.{Chip}
+use Rattle.boot_core.proofs.Asking.{begins_after}
+use Rattle.boot_core.specs.Journal.{AsksAtMost}
 use Rattle.boot_core.proofs.trial.boot_over.Goals as goal
 
 pub record_over-requires-clause-read : goal.record_over-requires-clause-read
@@ -30,6 +33,7 @@ returns-in_err-floors g c =
           c.in_err-floors.ensures.ends;
       idle = tt;
       fresh = tt;
+      begins = AsksAtMost (omega (arith, ap (λ (chip : Chip). chip.journaled) c.raise_running.ensures.same));
     })
 
 pub returns-in_err-steady : goal.returns-in_err-steady
@@ -46,6 +50,11 @@ returns-in_err-steady g c =
           (then_ends c.in_ok-floors.ensures.ends c.in_err-steady.ensures.ends);
       idle = tt;
       fresh = tt;
+      begins = AsksAtMost (omega (
+        arith,
+        ap (λ (chip : Chip). chip.journaled) c.raise_running.ensures.same,
+        c.record_over.ensures.journal,
+      ));
     })
 
 pub returns : goal.returns
@@ -86,4 +95,7 @@ returns g c =
           (record { raised = c.in_ok-floors.ensures.ok; rest = c.in_ok-floors.ensures.rest }) over.recorded.appended)
           booted.idle;
       fresh = booted.fresh;
+      begins = begins_after c.args.map.now old mid new
+          (subst (λ chip. Keeps c.args.map.now (only Log) chip mid) same c.record_over.ensures.outside)
+          (omega (arith, ap (λ (chip : Chip). chip.journaled) same, c.record_over.ensures.journal)) booted.begins;
     }

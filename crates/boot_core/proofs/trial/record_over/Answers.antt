@@ -17,5 +17,6 @@ returns g c =
         recorded = recorded;
         rests = over_ok c.args.map.now _ _ _ c.args.floors c.requires.read records.outside recorded.says;
       }) records.done;
+      journal = records.journal;
       ends = records.ends;
     }

@@ -23,6 +23,7 @@ returns g c =
       refused = booted.refused;
       erases = booted.erases;
       outside = layout_keeps booted.layout;
+      journal = booted.journal;
       starts = booted.starts;
       fits = λ on m holds all answers. boot_sound (made c.self.inside.map c.self.inside.identity (c.self.inside.left + 1))
           _ _ (reply_of_boot c.boot_device.result) (booted.steps c.self.inside.identity on) booted.up answers m holds all;
