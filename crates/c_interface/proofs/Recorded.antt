@@ -12,6 +12,7 @@ use Rattle.c_interface.specs.declared.dispatch.DeviceCall.{DeviceCall}
 use Rattle.c_interface.specs.declared.dispatch.DeviceCall.TheVariants.{Accept, Piece, Finish, Withdraw, Confirm, Boot}
 use Rattle.c_interface.specs.CallResult.{IsResultOf}
 use Rattle.c_interface.specs.Calls.{IsJournaled}
+use Rattle.boot_core.specs.Journal.{GetsFurther}
 use Rattle.c_interface.specs.Recording.{IsCutIfShort, IsEnough, IsJournalOf}
 use Rattle.c_interface.proofs.Asked.{cut_or_not}
 
@@ -78,7 +79,8 @@ uncut_by reply bound room size used new first last cut most fits = ⊎_elim
     (cut_or_not reply)
 
 pub enough_for : (map : SectorMap) (call : DeviceCall) (room size used : ℕ) (new : List ℕ) (first last : Chip) (reply : Reply)
-    → IsCutIfShort size new room used first last reply → IsJournaled map call first last → IsEnough map call room reply
+    → IsCutIfShort size new room used first last reply → IsJournaled map call first last
+    → IsEnough map call room first last reply
 enough_for map (Accept manifest) room size used new first last reply cut most =
     uncut_by reply _ room size used new first last cut most
 enough_for map (Piece image more) room size used new first last reply cut most =
@@ -89,7 +91,9 @@ enough_for map (Withdraw image) room size used new first last reply cut most =
     uncut_by reply _ room size used new first last cut most
 enough_for map (Confirm image) room size used new first last reply cut most =
     uncut_by reply _ room size used new first last cut most
-enough_for map Boot room size used new first last reply cut most = tt
+enough_for map Boot room size used new first last reply cut most = λ roomy one state stood. ⊎_elim
+    (λ (few : last.journaled ≤ first.journaled + room). absurd (omega (arith, cut.short one, cut.unasked, few)))
+    (λ (further : GetsFurther map state first last). further) (most state stood room roomy)
 
 pub enough_to_provision : (reply : Reply) (bound room size used : ℕ) (new : List ℕ) (first last : Chip)
     → IsCutIfShort size new room used first last reply

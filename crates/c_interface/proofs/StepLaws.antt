@@ -392,7 +392,7 @@ module _ (map : SectorMap) (identity : Identity) (boots : ℕ) (old new : Device
   call_made Boot (left, count, result, same, is) =
       made_by Boot (reply_of_boot result) same (is.on_map old.flash (keeps_refl map _ old.flash)).fixed is.laid
       (λ was. is.opens) (subst (λ n. StepsTo (made map identity n) old new event.Boot (reply_of_boot result)) count (is.steps identity on))
-      tt (left, count, result, same, is)
+      is.journal (left, count, result, same, is)
 
 -- a call by another name of it
 pub makes : (map : SectorMap) (identity : Identity) (boots : ℕ) (call given : DeviceCall) (old new : DeviceView)

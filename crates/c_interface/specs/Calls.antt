@@ -1,5 +1,5 @@
 -- What a call does to a device, and to the bytes that hold it.
-use Rattle.std.specs.Prelude.{◌≡◌, ◌⊎◌, ℕ, ◌+◌, ◌<◌, ◌≤◌, true, List, length, slice_index, Result}
+use Rattle.std.specs.Prelude.{◌≡◌, ◌⊎◌, ℕ, ◌+◌, ◌<◌, ◌≤◌, true, List, length, slice_index, Some, Result}
 use Rattle.std.specs.Borrow.{Bor}
 use Rattle.common.specs.declared.event.Event.TheVariants as event
 use Rattle.flash_model.specs.Chip.{Chip, Fixed}
@@ -9,6 +9,7 @@ use Rattle.sector_map.specs.Part.{incoming_of}
 use Rattle.manifest.specs.declared.identity.Identity.{Identity}
 use Rattle.manifest.specs.Fault.{IsManifest}
 use Rattle.set_log.specs.Log.{state_of}
+use Rattle.set_log.specs.declared.state.State.{State}
 use Rattle.upload.specs.Device.{DeviceState}
 use Rattle.upload.specs.NoSession.{LacksSession}
 use Rattle.upload.specs.declared.error.UploadError.TheVariants.{NoSession}
@@ -26,6 +27,7 @@ use Rattle.machine.specs.declared.reply.Reply.TheVariants.{Refused}
 use Rattle.boot_core.specs.Answers.{reply_of_boot, reply_of_result}
 use Rattle.boot_core.specs.Booting.{EndsUploadsAndBoots}
 use Rattle.boot_core.specs.Device.{StaysHeld, made}
+use Rattle.boot_core.specs.Journal.{AsksToBoot}
 use Rattle.boot_core.specs.Ready.{LogsRest}
 use Rattle.boot_core.specs.Taking.{ConfirmsHere, FinishesHere, TakesHere, TakesManifestHere, TakesPieceHere}
 use Rattle.c_interface.specs.declared.dispatch.DeviceCall.{DeviceCall}
@@ -90,9 +92,12 @@ journal_bound map (Withdraw image) = 44
 journal_bound map (Confirm image) = 20
 journal_bound map Boot = 0
 
--- A call asks a journal for no more bytes than its bound. A boot may ask for any number.
+-- A call asks a journal for no more bytes than its bound. A boot asks for no more than room to boot,
+-- or gets a step further: it counts a step of its swap, records another state, or settles a set that
+-- was requested.
 abbrev pub IsJournaled : SectorMap → DeviceCall → Chip → Chip → Type 0
-IsJournaled map Boot old new = Unit {0}
+IsJournaled map Boot old new = (state : State) → state_of map old ≡ Some state
+    → AsksToBoot map state old new
 IsJournaled map call old new = new.journaled ≤ old.journaled + journal_bound map call
 
 -- A call is made on a device whose flash has power.
@@ -107,7 +112,8 @@ pub record MakesCall (map : SectorMap) (identity : Identity) (boots : ℕ) (call
       → AllOpenAt (view map new.flash) new.sessions
   -- The call is a step of the machine.
   pub steps : IsStepOf (made map identity boots) call old new reply
-  -- The call asks a journal for no more bytes than its bound.
+  -- The call asks a journal for no more bytes than its bound, unless it is a boot that gets a step
+  -- further.
   pub journal : IsJournaled map call old.flash new.flash
   -- The call keeps the other promises of its counterpart in Rust.
   pub is : IsCallOf map identity boots call old new reply

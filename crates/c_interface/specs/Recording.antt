@@ -1,8 +1,11 @@
 -- Calls over a flash that records its writes: what the caller finds in its journal.
-use Rattle.std.specs.Prelude.{◌≡◌, ℕ, ◌+◌, ◌*◌, ◌<◌, ◌≤◌, List, length, drop, take}
+use Rattle.std.specs.Prelude.{◌≡◌, ℕ, ◌+◌, ◌*◌, ◌<◌, ◌≤◌, List, length, drop, take, Some}
 use Rattle.flash_model.specs.Chip.{Chip}
 use Rattle.sector_map.specs.declared.layout.SectorMap.{SectorMap}
 use Rattle.manifest.specs.declared.manifest.Manifest.{Manifest}
+use Rattle.set_log.specs.Log.{state_of}
+use Rattle.set_log.specs.declared.state.State.{State}
+use Rattle.boot_core.specs.Journal.{GetsFurther, IsRoomToBoot}
 use Rattle.machine.specs.Steps.{cut_of}
 use Rattle.machine.specs.declared.reply.Reply.{Reply}
 use Rattle.slice_flash.specs.Steps.{IsRecordedBy, IsTooShort}
@@ -46,10 +49,13 @@ pub record IsCutIfShort (size : ℕ) (new : List ℕ) (room used : ℕ) (first l
   -- Without a cut the journal has room for what the call asked for.
   pub enough : cut_of reply ≡ 0 → last.journaled ≤ room
 
--- A journal of this length is long enough for a call. A boot has no bound.
-abbrev pub IsEnough : SectorMap → DeviceCall → ℕ → Reply → Type 0
-IsEnough map Boot room reply = Unit {0}
-IsEnough map call room reply = journal_bound map call ≤ room → cut_of reply ≡ 0
+-- A journal of this length is long enough for a call, which isn't cut then. A boot that is cut with
+-- room to boot has got a step further: it counted a step of its swap, recorded another state, or
+-- settled a set that was requested.
+abbrev pub IsEnough : SectorMap → DeviceCall → ℕ → Chip → Chip → Reply → Type 0
+IsEnough map Boot room first last reply = IsRoomToBoot map room → cut_of reply ≡ 1
+    → (state : State) → state_of map first ≡ Some state → GetsFurther map state first last
+IsEnough map call room first last reply = journal_bound map call ≤ room → cut_of reply ≡ 0
 
 -- A call is made on the device in the caller's bytes, and its journal records its writes.
 pub record StepsRecorded (checked : CheckedSetup) (call : DeviceCall) (old : List ℕ)
@@ -60,7 +66,7 @@ pub record StepsRecorded (checked : CheckedSetup) (call : DeviceCall) (old : Lis
   pub steps : StepsBetween checked call old was new is reply first last
   pub journal : IsJournalOf checked.map.sector_size old new before after writes used
   pub cut : IsCutIfShort checked.map.sector_size new (length before) used first last reply
-  pub enough : IsEnough checked.map call (length before) reply
+  pub enough : IsEnough checked.map call (length before) first last reply
 
 -- A call is made on the device of a setup, and a journal records its writes.
 pub record RecordsOn (setup : Setup) (call : DeviceCall) (old : List ℕ) (was : SavedState)
