@@ -1,5 +1,5 @@
 -- A flash over bytes that are only read and a journal: what a contract sees of it.
-use Rattle.std.specs.Prelude.{ℕ, ◌+◌, ◌/◌, List, length}
+use Rattle.std.specs.Prelude.{◌≡◌, ℕ, ◌+◌, ◌/◌, List, length}
 use Rattle.std.specs.Borrow.{MutBor}
 use Rattle.flash_model.specs.Chip.{Chip}
 use Rattle.flash_model.specs.Memory.{new_chip, with_counts}
@@ -38,3 +38,8 @@ new_recording size base journal = record {
   used = 0;
   journal = journal.now;
 }
+
+-- The bytes of the flash are those that it was made of, with the writes of the journal performed.
+abbrev pub ShowsJournal : Recording → Type 0
+ShowsJournal recording =
+    recording.chip.bytes ≡ replayed recording.chip.fixed.first recording.journal recording.chip.writes

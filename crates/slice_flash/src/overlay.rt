@@ -167,7 +167,7 @@ fn read_through(base: &[u8], journal: &mut [u8], entries: u64, at: usize, out: &
 impl<'a, 'b, L: Ledger> OverlayFlash<'a, 'b, L> {
     ghost use Rattle.slice_flash.specs.Steps.{IsAccepted, spelled};
     ghost use Rattle.slice_flash.specs.JournalFlash.{recorded, refused, IsKept, Records};
-    ghost use Rattle.slice_flash.specs.OverlayFlash.{chip_of, new_recording, recording_of};
+    ghost use Rattle.slice_flash.specs.OverlayFlash.{chip_of, new_recording, recording_of, ShowsJournal};
     ghost use Rattle.slice_flash.specs.Asked.{step_of};
 
     /// Makes a flash over the bytes of `base`: whole sectors of `sector_size` bytes each, at most
@@ -200,6 +200,15 @@ impl<'a, 'b, L: Ledger> OverlayFlash<'a, 'b, L> {
             erases,
             refused,
         }
+    }
+
+    /// Returns the number of writes so far. A refused write doesn't count. The bytes of the flash are
+    /// those of the base with that many entries of the journal performed.
+    pub fn writes(&self) -> u64
+        ensures writes { result ≡ (chip_of self.now).writes }
+        ensures shows { ShowsJournal (recording_of self.now) }
+    {
+        self.writes
     }
 
     /// Returns how many bytes of the journal are used, from its first byte on. These bytes record
