@@ -7,3 +7,4 @@ mod Writes
 mod ReadOnlyLaws
 mod Parts
 mod Appended
+mod Indexed

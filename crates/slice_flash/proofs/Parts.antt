@@ -9,20 +9,20 @@ use Rattle.flash_model.proofs.Ranges.{length_range, range_at}
 use Rattle.flash_model.proofs.TornBytes.{length-replaced}
 
 -- A byte before a replaced range, one in it, and one after it.
-before_replaced : (at : ℕ) (range bytes : List ℕ) (k : ℕ) → at + length range ≤ length bytes → k < at
+pub before_replaced : (at : ℕ) (range bytes : List ℕ) (k : ℕ) → at + length range ≤ length bytes → k < at
     → get_or (replaced at range bytes) k 0 ≡ get_or bytes k 0
 before_replaced at range bytes k inside low =
     let front : length (take at bytes) ≡ at = length-take at bytes ∙ omega arith in
     get_or_append_left (take at bytes) _ 0 k (omega arith) ∙ get_or-take at bytes k 0 low
 
-in_replaced : (at : ℕ) (range bytes : List ℕ) (k : ℕ) → at + length range ≤ length bytes → at ≤ k → k < at + length range
+pub in_replaced : (at : ℕ) (range bytes : List ℕ) (k : ℕ) → at + length range ≤ length bytes → at ≤ k → k < at + length range
     → get_or (replaced at range bytes) k 0 ≡ get_or range (k - at) 0
 in_replaced at range bytes k inside low high =
     let front : length (take at bytes) ≡ at = length-take at bytes ∙ omega arith in
     get_or-append_right (take at bytes) _ at k 0 front low
     ∙ get_or_append_left range _ 0 (k - at) (omega arith)
 
-after_replaced : (at : ℕ) (range bytes : List ℕ) (k : ℕ) → at + length range ≤ length bytes → at + length range ≤ k
+pub after_replaced : (at : ℕ) (range bytes : List ℕ) (k : ℕ) → at + length range ≤ length bytes → at + length range ≤ k
     → get_or (replaced at range bytes) k 0 ≡ get_or bytes k 0
 after_replaced at range bytes k inside high =
     let front : length (take at bytes) ≡ at = length-take at bytes ∙ omega arith in

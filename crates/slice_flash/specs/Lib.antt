@@ -6,3 +6,4 @@ pub mod JournalFlash
 pub mod ReadOnly
 pub mod Overlay
 pub mod OverlayFlash
+pub mod Index

@@ -26,6 +26,7 @@
 #![tactic(auto)]
 
 mod flash;
+mod index;
 mod journal;
 mod overlay;
 mod read_only;

@@ -5,7 +5,7 @@ ghost use Rattle.slice_flash.specs.Steps.{header, range_of, spelled};
 ghost use Rattle.slice_flash.specs.Asked.{length_of, room_of, step_of};
 
 /// The length of an entry in bytes, without the bytes that a program writes.
-const HEADER: usize = 12;
+pub(crate) const HEADER: usize = 12;
 
 /// A requested write.
 #[derive(Clone, Copy)]

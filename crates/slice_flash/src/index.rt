@@ -1,0 +1,182 @@
+//! What a flash knows of the entries of its journal, so that a read begins at a late one.
+
+ghost use Rattle.std.specs.Prelude.{◌≡◌, ◌+◌, ◌*◌, ◌%◌, ◌/◌, ◌^◌, ◌<◌, ◌≤◌, ℕ, List, false, true, length};
+ghost use Rattle.std.specs.Prelude.{slice_set};
+ghost use Rattle.slice_flash.specs.Index.{is_touched, IsIndex, IsStart, Notes};
+ghost use Rattle.slice_flash.specs.Overlay.{position};
+ghost use Rattle.slice_flash.specs.Asked.{length_of, step_of};
+ghost use Rattle.slice_flash.specs.Steps.{Erased, Programmed};
+
+use crate::steps::{Asked, HEADER};
+
+/// The number of rows. Sectors that are this far apart share one.
+const ROWS: u32 = 64;
+
+/// The number of bits of the set of touched sectors. Sectors that are this far apart share one.
+const BITS: u32 = 1024;
+
+/// Where a read begins: after the first entries of the journal.
+#[derive(Clone, Copy)]
+pub(crate) struct Start {
+    /// How many entries the read leaves out.
+    pub(crate) entries: u64,
+    /// The offset of the next entry.
+    pub(crate) offset: usize,
+    /// Whether the first entries leave the range of the read blank. If not, they leave it as it is
+    /// in the base.
+    pub(crate) is_blank: bool,
+}
+
+/// The start that is right for each range.
+const FIRST: Start = Start {
+    entries: 0,
+    offset: 0,
+    is_blank: false,
+};
+
+/// Where a read in this sector begins.
+#[derive(Clone, Copy)]
+struct Row {
+    sector: u32,
+    start: Start,
+}
+
+/// For some sectors where a read in them begins, and which sectors no entry changed.
+pub(crate) struct Index {
+    rows: [Row; 64],
+    touched: [u64; 16],
+}
+
+/// Returns whether the `n` bytes from `at` on lie in one sector.
+fn is_in_sector(at: u32, n: usize, size: u32) -> bool
+    requires { 0 < size }
+    ensures { result ≡ true → at + n ≤ at / size * size + size }
+{
+    n <= (size - at % size) as usize
+}
+
+impl Index {
+    /// Makes the index of a journal without entries.
+    pub(crate) fn new() -> Self
+        ensures { (size : ℕ) (base journal : List ℕ) → IsIndex size base journal 0 result }
+    {
+        Index {
+            rows: [Row {
+                sector: 0,
+                start: FIRST,
+            }; 64],
+            touched: [0; 16],
+        }
+    }
+
+    /// Returns whether the bit of a sector is set.
+    fn is_touched(&self, sector: u32) -> bool
+        ensures { result ≡ is_touched self.now.touched sector }
+    {
+        self.touched[(sector % BITS / 64) as usize] >> (sector % 64) & 1 == 1
+    }
+
+    /// Sets the bit of a sector.
+    fn touch(&mut self, sector: u32)
+        ensures rows { self.new.rows ≡ self.old.rows }
+        ensures sector { is_touched self.new.touched sector ≡ true }
+        ensures others { (other : ℕ) → is_touched self.new.touched other ≡ false
+            → is_touched self.old.touched other ≡ false }
+    {
+        self.touched[(sector % BITS / 64) as usize] |= 1 << (sector % 64);
+    }
+
+    /// Sets the bit of each sector.
+    fn touch_all(&mut self)
+        ensures rows { self.new.rows ≡ self.old.rows }
+        ensures sectors { (sector : ℕ) → is_touched self.new.touched sector ≡ true }
+    {
+        self.touched = [u64::MAX; 16];
+    }
+
+    /// Sets the row of a sector.
+    fn set_row(&mut self, sector: u32, start: Start)
+        ensures rows { self.new.rows ≡ slice_set self.old.rows (sector % 64) (record {
+          sector = sector;
+          start = start;
+        }) }
+        ensures touched { self.new.touched ≡ self.old.touched }
+    {
+        self.rows[(sector % ROWS) as usize] = Row { sector, start };
+    }
+
+    /// Returns where a read of the `n` bytes from `at` on begins, if the journal has `writes` entries
+    /// in its first `used` bytes.
+    pub(crate) fn start_of(&self, at: u32, n: usize, size: u32, writes: u64, used: usize) -> Start
+        requires { 0 < size }
+        ensures { (base journal : List ℕ) → used ≡ position journal writes
+            → IsIndex size base journal writes self.now → IsStart base journal writes at n result }
+    {
+        if !is_in_sector(at, n, size) {
+            return FIRST;
+        }
+        let sector = at / size;
+        if !self.is_touched(sector) {
+            return Start {
+                entries: writes,
+                offset: used,
+                is_blank: false,
+            };
+        }
+        let row = self.rows[(sector % ROWS) as usize];
+        if row.sector == sector {
+            row.start
+        } else {
+            FIRST
+        }
+    }
+
+    /// Takes note of the erase of the sector at `at`.
+    fn add_erase(&mut self, at: u32, size: u32, writes: u64, used: usize)
+        requires some { 0 < size }
+        requires few { writes + 1 < 2 ^ 64 }
+        requires room { used + 12 < 2 ^ 64 }
+        ensures { (n : ℕ) → Notes size writes used (Erased at n) self.old self.new }
+    {
+        let sector = at / size;
+        self.touch(sector);
+        let start = Start {
+            entries: writes + 1,
+            offset: used + HEADER,
+            is_blank: true,
+        };
+        self.set_row(sector, start);
+    }
+
+    /// Takes note of the program of these bytes at `at`.
+    fn add_program(&mut self, at: u32, bytes: &[u8], size: u32, writes: u64, used: usize)
+        requires { 0 < size }
+        ensures { Notes size writes used (Programmed at bytes.now) self.old self.new }
+    {
+        let sector = at / size;
+        if !is_in_sector(at, bytes.len(), size) {
+            self.touch_all();
+        } else if !self.is_touched(sector) {
+            self.touch(sector);
+            let start = Start {
+                entries: writes,
+                offset: used,
+                is_blank: false,
+            };
+            self.set_row(sector, start);
+        }
+    }
+
+    /// Takes note of a write whose entry follows the first `writes` ones, at the offset `used`.
+    pub(crate) fn add(&mut self, at: u32, asked: Asked<'_>, size: u32, writes: u64, used: usize)
+        requires some { 0 < size }
+        requires few { writes + 1 < 2 ^ 64 }
+        requires room { used + 12 < 2 ^ 64 }
+        ensures { Notes size writes used (step_of at asked.entry) self.old self.new }
+    {
+        match asked {
+            Asked::Program(bytes) => self.add_program(at, bytes, size, writes, used),
+            Asked::Erase(_) => self.add_erase(at, size, writes, used),
+        }
+    }
+}
