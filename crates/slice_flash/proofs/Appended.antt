@@ -7,6 +7,7 @@ use Rattle.std.proofs.lemmas.Bool.{cases_Bool, cases_lt, false≢true}
 use Rattle.std.proofs.lemmas.List.{drop_at, drop-drop, drop-take, length-append, length-replicate, length-take, take_at, take-take}
 use Rattle.std.proofs.lemmas.Nat.{from_le_bytes-to_le_bytes_4}
 use Rattle.flash_model.specs.Torn.{replaced}
+use Rattle.slice_flash.specs.Index.{IsOneMore}
 use Rattle.slice_flash.specs.JournalFlash.{Recording, Records, recorded}
 use Rattle.slice_flash.specs.Overlay.{number_at, kind_at, length_at, place_at, position, done_at, replayed, room_at, AreEntries, IsEntryAt}
 use Rattle.slice_flash.proofs.Writes.{bytes_back, put_back}
@@ -299,3 +300,25 @@ recorded_asked size at room asked base journal entry after used writes is wide f
     (put_back at (length_of asked) bytes (range_of step) (range_of step) refl (length_is at asked)
     ∙ ap (λ a. replaced a (range_of step) bytes) (at_is at asked) ∙ sym grows)
     (one_recorded size at (length_of asked) used room base bytes journal entry (range_of step) writes asked is refl wide fits spells refl was)
+
+-- What an index needs to know of the journal.
+pub one_more_asked : (size total at : ℕ) (asked : Asked) (base journal entry rest : List ℕ) (used writes : ℕ)
+    → IsAccepted size (step_of at asked) (replayed base journal writes) → length (replayed base journal writes) ≡ total
+    → length base ≡ total → total < 2 ^ 32 → used ≤ length journal → used ≡ position journal writes
+    → AreEntries (length base) journal writes → entry ≡ spelled (step_of at asked)
+    → IsOneMore size base journal (take used journal ++ (entry ++ rest)) writes (step_of at asked)
+one_more_asked size total at asked base journal entry rest used writes is long whole small fits end are spells =
+    let step : Step = step_of at asked in
+    let after : List ℕ = take used journal ++ (entry ++ rest) in
+    let front : length (take used journal) ≡ used = length-take used journal ∙ omega (arith, fits) in
+    let same : take used journal ≡ take used after = sym (take_at (take used journal) (entry ++ rest) used front) in
+    let grown = appended_asked size total at asked base journal entry rest used writes is long whole small fits end are spells in
+    let below : (k : ℕ) → k ≤ writes → position journal k ≤ used
+    = λ k most. omega (arith, position_at_most journal k writes most, end) in
+    record {
+      positions = λ k most. sym (position_same used k journal after same (below k most));
+      before = λ k most. sym (replayed_same base used k journal after same (below k most));
+      end = grown.end ∙ ap (λ u. u + length (spelled step)) end;
+      bytes = grown.bytes;
+      accepted = is;
+    }

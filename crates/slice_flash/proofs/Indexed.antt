@@ -1,18 +1,17 @@
 -- Lemmas about an index of the entries of a journal: what it says stays right when an entry is added.
-use Rattle.std.proofs.Common.{◌≡◌, ℕ, zero, suc, ◌+◌, ◌-◌, ◌*◌, ◌/◌, ◌%◌, ◌^◌, ◌<◌, ◌≤◌, ◌==◌, ◌⊎◌, inl, inr, List, length, replicate, slice_index, slice_set, get_or, Bool, true, false, if◌then◌else◌}
+use Rattle.std.proofs.Common.{◌≡◌, ℕ, ◌+◌, ◌-◌, ◌*◌, ◌/◌, ◌%◌, ◌^◌, ◌<◌, ◌≤◌, ◌==◌, ◌⊎◌, inl, inr, List, length, replicate, slice_index, slice_set, get_or, true, false}
 use Rattle.std.proofs.Common.{bit_or, refl, sym, ◌∙◌, ap, subst, arith, ⊎_elim}
 use Rattle.std.specs.Int.{bit_at, w64}
 use Rattle.std.specs.List.{All}
 use Rattle.std.proofs.Math.Nat.{mul-div_cancel}
-use Rattle.std.proofs.lemmas.Bool.{cases_Bool, cases_eq, cases_lt, false≢true}
+use Rattle.std.proofs.lemmas.Bool.{cases_eq, cases_lt, false≢true}
 use Rattle.std.proofs.lemmas.List.{get_or-replicate, get_or-set_same, get_or-set_other, length-replicate}
 use Rattle.std.proofs.lemmas.List.Elements.{All-replicate, All-set}
 use Rattle.std.proofs.lemmas.Nat.Bits.{bit_at_ones, bit_at_set_same, bit_at_set_other}
-use Rattle.flash_model.specs.Torn.{replaced}
 use Rattle.flash_model.proofs.Frame.{product_le}
 use Rattle.slice_flash.specs.Index.{is_touched, IsIndex, IsOneMore, IsRow, IsStart, IsUntouched}
 use Rattle.slice_flash.specs.Overlay.{position, replayed}
-use Rattle.slice_flash.specs.Steps.{IsSectorAt, Step, Programmed, Erased, at_of, range_of, spelled}
+use Rattle.slice_flash.specs.Steps.{IsSectorAt, Step, Programmed, Erased, at_of, range_of}
 use Rattle.slice_flash.specs.declared.index.Index.{Index}
 use Rattle.slice_flash.specs.declared.index.Row.{Row}
 use Rattle.slice_flash.specs.declared.index.Start.{Start}

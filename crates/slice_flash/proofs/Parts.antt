@@ -2,8 +2,10 @@
 use Rattle.std.proofs.Common.{◌≡◌, ℕ, zero, suc, ◌+◌, ◌-◌, ◌<◌, ◌≤◌, ◌==◌, List, ◌++◌, length, take, drop, replicate, max, min, Bool, true, false, if◌then◌else◌}
 use Rattle.std.proofs.Common.{get_or, slice_range, refl, sym, ◌∙◌, ap, arith, ⊎_elim}
 use Rattle.std.proofs.lemmas.Bool.{cases_Bool, cases_lt, ne_eqb}
-use Rattle.std.proofs.lemmas.List.{ext_get_or, get_or-drop, get_or-take, get_or_append_left, get_or-append_right, drop-drop, drop-replicate, length-replicate, length-take, take-replicate}
+use Rattle.std.proofs.lemmas.List.{ext_get_or, get_or-drop, get_or-take, get_or_append_left, get_or-append_right, get_or-replicate, drop-drop, drop-replicate, length-replicate, length-take, take-replicate}
 use Rattle.flash_model.specs.Torn.{replaced}
+use Rattle.slice_flash.specs.Index.{IsStart}
+use Rattle.slice_flash.specs.declared.index.Start.{Start}
 use Rattle.slice_flash.specs.Overlay.{kind_at, length_at, place_at, position, done_at, replayed, AreEntries, IsEntryAt}
 use Rattle.flash_model.proofs.Ranges.{length_range, range_at}
 use Rattle.flash_model.proofs.TornBytes.{length-replaced}
@@ -158,3 +160,41 @@ part_back size at from to k bytes old mid whole journal start is long part copie
 pub range_of_blank : (n a b : ℕ) → b ≤ n → replicate {A = ℕ} (b - a) 255 ≡ slice_range (replicate {A = ℕ} n 255) a b
 range_of_blank n a b inside =
     sym (ap (λ (l : List ℕ). take (b - a) l) (drop-replicate a n 255) ∙ take-replicate (b - a) (n - a) 255 (omega (arith, inside)))
+
+-- ---- a range where a read begins
+
+-- Each entry begins inside the journal, and so does what follows the last one.
+pub position_inside : (size : ℕ) (journal : List ℕ) (entries k : ℕ) → AreEntries size journal entries → k ≤ entries
+    → position journal k ≤ length journal
+position_inside size journal entries zero are below = omega arith
+position_inside size journal entries (suc k) are below = (are k (omega (arith, below))).whole
+
+-- A range whose bytes are known one by one.
+range_each : (bytes range : List ℕ) (at n : ℕ) → length range ≡ n → at + n ≤ length bytes
+    → ((k : ℕ) → k < n → get_or range k 0 ≡ get_or bytes (at + k) 0) → range ≡ slice_range bytes at (at + n)
+range_each bytes range at n long inside each =
+    ext_get_or 0 range (slice_range bytes at (at + n))
+    (long ∙ sym (length_range bytes at (at + n) ∙ omega (arith, inside)))
+    (λ i lt. each i (omega (arith, lt, long)) ∙ sym (range_at bytes at (at + n) i (omega (arith, lt, long))))
+
+pub begins_blank : (base journal : List ℕ) (entries at n : ℕ) (start : Start) → AreEntries (length base) journal entries
+    → IsStart base journal entries at n start → at + n ≤ length base → start.is_blank ≡ true
+    → replicate n 255 ≡ slice_range (replayed base journal start.entries) at (at + n)
+begins_blank base journal entries at n start are is inside blank =
+    let bytes : List ℕ = replayed base journal start.entries in
+    range_each bytes (replicate n 255) at n (length-replicate {A = ℕ} n 255)
+    (omega (arith, inside, length-replayed base journal entries start.entries are is.entries))
+    (λ k lt. get_or-replicate n k 255 0 lt
+    ∙ sym (is.bytes (at + k) (omega arith) (omega (arith, lt))
+    ∙ ap (λ (b : Bool). if b then 255 else get_or base (at + k) 0) blank))
+
+pub begins_plain : (base journal : List ℕ) (entries at n : ℕ) (start : Start) → AreEntries (length base) journal entries
+    → IsStart base journal entries at n start → at + n ≤ length base → start.is_blank ≡ false
+    → slice_range base at (at + n) ≡ slice_range (replayed base journal start.entries) at (at + n)
+begins_plain base journal entries at n start are is inside blank =
+    let bytes : List ℕ = replayed base journal start.entries in
+    range_each bytes (slice_range base at (at + n)) at n (length_range base at (at + n) ∙ omega (arith, inside))
+    (omega (arith, inside, length-replayed base journal entries start.entries are is.entries))
+    (λ k lt. range_at base at (at + n) k (omega (arith, lt))
+    ∙ sym (is.bytes (at + k) (omega arith) (omega (arith, lt))
+    ∙ ap (λ (b : Bool). if b then 255 else get_or base (at + k) 0) blank))

@@ -42,6 +42,7 @@ struct Row {
 }
 
 /// For some sectors where a read in them begins, and which sectors no entry changed.
+#[derive(Drop)]
 pub(crate) struct Index {
     rows: [Row; 64],
     touched: [u64; 16],
@@ -76,14 +77,18 @@ impl Index {
         self.touched[(sector % BITS / 64) as usize] >> (sector % 64) & 1 == 1
     }
 
-    /// Sets the bit of a sector.
-    fn touch(&mut self, sector: u32)
-        ensures rows { self.new.rows ≡ self.old.rows }
+    /// Sets the bit and the row of a sector.
+    fn set(&mut self, sector: u32, start: Start)
+        ensures rows { self.new.rows ≡ slice_set self.old.rows (sector % 64) (record {
+          sector = sector;
+          start = start;
+        }) }
         ensures sector { is_touched self.new.touched sector ≡ true }
         ensures others { (other : ℕ) → is_touched self.new.touched other ≡ false
             → is_touched self.old.touched other ≡ false }
     {
         self.touched[(sector % BITS / 64) as usize] |= 1 << (sector % 64);
+        self.rows[(sector % ROWS) as usize] = Row { sector, start };
     }
 
     /// Sets the bit of each sector.
@@ -92,17 +97,6 @@ impl Index {
         ensures sectors { (sector : ℕ) → is_touched self.new.touched sector ≡ true }
     {
         self.touched = [u64::MAX; 16];
-    }
-
-    /// Sets the row of a sector.
-    fn set_row(&mut self, sector: u32, start: Start)
-        ensures rows { self.new.rows ≡ slice_set self.old.rows (sector % 64) (record {
-          sector = sector;
-          start = start;
-        }) }
-        ensures touched { self.new.touched ≡ self.old.touched }
-    {
-        self.rows[(sector % ROWS) as usize] = Row { sector, start };
     }
 
     /// Returns where a read of the `n` bytes from `at` on begins, if the journal has `writes` entries
@@ -139,13 +133,12 @@ impl Index {
         ensures { (n : ℕ) → Notes size writes used (Erased at n) self.old self.new }
     {
         let sector = at / size;
-        self.touch(sector);
         let start = Start {
             entries: writes + 1,
             offset: used + HEADER,
             is_blank: true,
         };
-        self.set_row(sector, start);
+        self.set(sector, start);
     }
 
     /// Takes note of the program of these bytes at `at`.
@@ -157,13 +150,12 @@ impl Index {
         if !is_in_sector(at, bytes.len(), size) {
             self.touch_all();
         } else if !self.is_touched(sector) {
-            self.touch(sector);
             let start = Start {
                 entries: writes,
                 offset: used,
                 is_blank: false,
             };
-            self.set_row(sector, start);
+            self.set(sector, start);
         }
     }
 

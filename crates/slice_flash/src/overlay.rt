@@ -1,14 +1,16 @@
 //! A flash over bytes that are only read, whose writes are in a journal.
 
 ghost use Rattle.std.specs.Prelude.{◌≡◌, ◌+◌, ◌*◌, ◌%◌, ◌^◌, ◌<◌, ◌≤◌, ℕ, drop, length, take};
-ghost use Rattle.std.specs.Prelude.{[], false, replicate, slice_index, slice_range};
+ghost use Rattle.std.specs.Prelude.{[], List, false, replicate, slice_index, slice_range};
 ghost use Rattle.flash_model.specs.Blanks.{IsBlankOf};
 ghost use Rattle.flash_model.specs.Chip.{reached};
 ghost use Rattle.flash_model.specs.Written.{IsWrittenBy};
+ghost use Rattle.slice_flash.specs.Index.{IsIndex, IsStart};
 ghost use Rattle.slice_flash.specs.Overlay.{number_at, position, replayed, room_at};
 ghost use Rattle.slice_flash.specs.Overlay.{AreEntries, IsEntryAt, Performs};
 ghost use Rattle.slice_flash.specs.Steps.{IsRecordedBy, IsTooShort, fixed_over};
 
+use crate::index::{Index, Start};
 use crate::steps::{Asked, record, room_of};
 use flash_model::{Flash, FlashError, Origin, Result};
 use std::sync::ledger::{Blank, Book, Ledger, Share};
@@ -17,9 +19,17 @@ use std::sync::ledger::{Blank, Book, Ledger, Share};
 /// write in a borrowed journal, in the form of that of a `JournalFlash`.
 ///
 /// The bytes of the flash are those of the base with the recorded writes performed, one by one. A
-/// read copies its range of the base, and performs on the copy what each write changes there. So it
-/// takes time for each recorded write, and a caller that performs the journal on the part begins
-/// with an empty one.
+/// read copies its range of the base, and performs on the copy what the writes change there. Its
+/// time grows with the number of writes that it walks:
+/// - A read in a sector that no write changed walks none.
+/// - A read in another sector walks the writes since the last erase of this sector. If the journal
+///   has no such erase, it walks those since the first program in the sector.
+/// - A read over several sectors walks all writes.
+///
+/// The flash has room for 64 sectors' last erases and for 1024 sectors' changes. Sectors 64 apart
+/// displace each other: a read walks all writes if another one's erase came later. Sectors 1024
+/// apart count as changed together, and a program over several sectors counts for all sectors. A
+/// caller that performs the journal on the part begins with an empty one, and with cheap reads.
 ///
 /// A write that doesn't fit in the rest of the journal is refused. It returns `Cut`, no byte of the
 /// journal changes, it isn't counted as a write, and the flash is off until `restart`.
@@ -40,10 +50,12 @@ pub struct OverlayFlash<'a, 'b, L: Ledger> {
     is_on: bool,
     writes: u64,
     journal_origin: Origin,
+    index: Index,
     book: Book<L>,
     cuts: Share<L>,
     erases: Share<L>,
     refused: Share<L>,
+    ghost some: { 0 < sector_size },
     ghost sized: { length base.now ≡ sectors * sector_size },
     ghost whole: { length (replayed base.now journal.now writes) ≡ sectors * sector_size },
     ghost addressed: { sectors * sector_size < 2 ^ 32 },
@@ -55,6 +67,7 @@ pub struct OverlayFlash<'a, 'b, L: Ledger> {
     ghost few: { 12 * writes ≤ used },
     ghost end: { used ≡ position journal.now writes },
     ghost entries: { AreEntries (length base.now) journal.now writes },
+    ghost indexed: { IsIndex sector_size base.now journal.now writes index },
     ghost same_size: { length journal.now ≡ length journal_origin.first },
     ghost rest: { drop used journal.now ≡ drop used journal_origin.first },
     ghost all: { cuts.amount ≡ 0 → refused.amount ≡ 0 },
@@ -84,6 +97,7 @@ impl<'a, 'b, L: Ledger> Drop for OverlayFlash<'a, 'b, L> {
             is_on,
             writes,
             journal_origin,
+            index,
             book,
             cuts,
             erases,
@@ -137,31 +151,54 @@ fn perform_at(journal: &[u8], start: usize, at: usize, out: &mut [u8], size: usi
     }
 }
 
+/// Fills `out` with the bytes from `at` on as the entries before `start` leave them.
+fn begin(base: &[u8], start: Start, at: usize, out: &mut [u8])
+    requires { at + length out.old ≤ length base.now }
+    ensures { (journal : List ℕ) (entries : ℕ) → AreEntries (length base.now) journal entries
+        → IsStart base.now journal entries at (length out.old) start
+        → out.new ≡ slice_range (replayed base.now journal start.entries) at (at + length out.old) }
+{
+    if start.is_blank {
+        blank(out);
+    } else {
+        out.copy_from_slice(&base[at..at + out.len()]);
+    }
+}
+
 /// Reads the bytes from `at` on into `out`: those of the base, with the entries of the journal
-/// performed one by one.
-fn read_over(base: &[u8], journal: &[u8], entries: u64, at: usize, out: &mut [u8])
+/// performed one by one. Walks only the entries that `start` doesn't leave out.
+fn read_over(base: &[u8], journal: &[u8], start: Start, entries: u64, at: usize, out: &mut [u8])
     requires entries { AreEntries (length base.now) journal.now entries }
     requires inside { at + length out.old ≤ length base.now }
+    requires start { IsStart base.now journal.now entries at (length out.old) start }
     ensures { out.new
         ≡ slice_range (replayed base.now journal.now entries) at (at + length out.old) }
 {
-    out.copy_from_slice(&base[at..at + out.len()]);
-    let mut start = 0;
-    for k in 0..entries {
-        start += perform_at(journal, start, at, out, base.len());
+    begin(base, start, at, out);
+    let mut offset = start.offset;
+    for k in start.entries..entries {
+        offset += perform_at(journal, offset, at, out, base.len());
     }
 }
 
 /// Reads through a journal that is borrowed as `&mut`, because a `&mut` field that is passed as `&`
 /// isn't known to be unchanged.
-fn read_through(base: &[u8], journal: &mut [u8], entries: u64, at: usize, out: &mut [u8])
+fn read_through(
+    base: &[u8],
+    journal: &mut [u8],
+    start: Start,
+    entries: u64,
+    at: usize,
+    out: &mut [u8],
+)
     requires entries { AreEntries (length base.now) journal.old entries }
     requires inside { at + length out.old ≤ length base.now }
+    requires start { IsStart base.now journal.old entries at (length out.old) start }
     ensures same { journal.new ≡ journal.old }
     ensures read { out.new
         ≡ slice_range (replayed base.now journal.old entries) at (at + length out.old) }
 {
-    read_over(base, &journal[..], entries, at, out);
+    read_over(base, &journal[..], start, entries, at, out);
 }
 
 impl<'a, 'b, L: Ledger> OverlayFlash<'a, 'b, L> {
@@ -195,6 +232,7 @@ impl<'a, 'b, L: Ledger> OverlayFlash<'a, 'b, L> {
             is_on: true,
             writes: 0,
             journal_origin,
+            index: Index::new(),
             book,
             cuts,
             erases,
@@ -253,6 +291,8 @@ impl<'a, 'b, L: Ledger> OverlayFlash<'a, 'b, L> {
             return Err(FlashError::Cut);
         }
         let entry = &mut self.journal[self.used..self.used + room];
+        self.index
+            .add(at, asked, self.sector_size, self.writes, self.used);
         self.used += room;
         self.writes += 1;
         record(entry, at, asked);
@@ -296,7 +336,17 @@ impl<'a, 'b, L: Ledger> Flash for OverlayFlash<'a, 'b, L> {
         if !self.is_on {
             return Err(FlashError::Off);
         }
-        read_through(self.base, self.journal, self.writes, at as usize, out);
+        let start = self
+            .index
+            .start_of(at, out.len(), self.sector_size, self.writes, self.used);
+        read_through(
+            self.base,
+            self.journal,
+            start,
+            self.writes,
+            at as usize,
+            out,
+        );
         Ok(())
     }
 

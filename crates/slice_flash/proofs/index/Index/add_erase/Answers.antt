@@ -1,8 +1,6 @@
-use Rattle.std.proofs.Common.{ℕ, ◌+◌, true, ◌%◌, ◌/◌, List, slice_set, ap, arith, sym, ◌∙◌}
+use Rattle.std.proofs.Common.{ℕ, ◌%◌, ◌/◌, arith}
 use Rattle.std.proofs.lemmas.List.{length-replicate}
-use Rattle.slice_flash.specs.Index.{is_touched}
 use Rattle.slice_flash.specs.Steps.{Erased}
-use Rattle.slice_flash.specs.declared.index.Row.{Row}
 use Rattle.slice_flash.proofs.Indexed.{erase_place, erased_row, index_grown, rows_with}
 use Rattle.slice_flash.proofs.index.Index.add_erase.Goals as goal
 
@@ -12,13 +10,9 @@ returns c = λ n base old new here more is.
     let sector = c.args.at / size in
     let place = erase_place size c.args.at n _ c.requires.some more.accepted in
     let long = length-replicate {A = ℕ} n 255 in
-    index_grown size base old new c.args.writes sector (Erased c.args.at n) c.args.self.now c.set_row.new.self more
+    index_grown size base old new c.args.writes sector (Erased c.args.at n) c.args.self.now c.set.new.self more
     (omega (arith, place)) (omega (arith, place, long, more.accepted.whole)) is
-    (rows_with size base old new c.args.writes (Erased c.args.at n) c.args.self.now.rows c.set_row.new.self.rows (sector % 64) _ more is.rows
+    (rows_with size base old new c.args.writes (Erased c.args.at n) c.args.self.now.rows c.set.new.self.rows (sector % 64) _ more is.rows
     (erased_row size base old new c.args.writes c.args.used c.args.at n c.requires.some here more)
-    (c.set_row.ensures.rows ∙ ap (λ (rows : List Row). slice_set rows (sector % 64) (record {
-      sector = sector;
-      start = record { entries = c.args.writes + 1; offset = c.args.used + 12; is_blank = true };
-    })) c.touch.ensures.rows))
-    (ap (λ touched. is_touched touched sector) c.set_row.ensures.touched ∙ c.touch.ensures.sector)
-    (λ other unset. c.touch.ensures.others other (ap (λ touched. is_touched touched other) (sym c.set_row.ensures.touched) ∙ unset))
+    c.set.ensures.rows)
+    c.set.ensures.sector c.set.ensures.others

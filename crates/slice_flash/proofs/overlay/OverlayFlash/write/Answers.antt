@@ -1,6 +1,6 @@
 use Rattle.std.proofs.Common.{◌≡◌, ◌+◌, ◌≤◌, ◌<◌, ◌*◌, ℕ, List, length, slice_index, sym, ◌∙◌, ap, subst, arith, rules, true}
 use Rattle.flash_model.proofs.TornBytes.{length-replaced}
-use Rattle.slice_flash.proofs.Appended.{appended_asked, range_inside, recorded_asked, records_done, step_bytes}
+use Rattle.slice_flash.proofs.Appended.{appended_asked, one_more_asked, range_inside, recorded_asked, records_done, step_bytes}
 use Rattle.slice_flash.proofs.Recorded.{is_written, rest_kept, room_is}
 use Rattle.slice_flash.proofs.Writes.{put_back}
 use Rattle.slice_flash.specs.Asked.{step_of}
@@ -79,3 +79,11 @@ returns g c =
     (ap (λ r. flash.used + r) room)
     (omega (arith, room))
     (put_back flash.used c.room_of-room.result flash.journal.now c.record.new.entry (spelled step) c.record.ensures.entry (sym room))
+
+pub invariant_of-self-clause-indexed : goal.invariant_of-self-clause-indexed
+invariant_of-self-clause-indexed g c =
+    let flash = c.args.self.now in
+    c.add.ensures flash.base.now flash.journal.now _ flash.end
+    (one_more_asked flash.sector_size (flash.sectors * flash.sector_size) c.args.at c.args.asked flash.base.now flash.journal.now
+    c.record.new.entry _ flash.used flash.writes c.requires flash.whole flash.sized flash.addressed flash.fits flash.end flash.entries
+    c.record.ensures.entry) flash.indexed
