@@ -22,12 +22,12 @@ use Rattle.slice_flash.proofs.Parts.{before_replaced, in_replaced, after_replace
 -- The words after the bit of a sector was set.
 abbrev pub with_bit : List ℕ → ℕ → List ℕ
 with_bit touched sector =
-    let word = sector % 1024 / 64 in
+    let word = sector / 64 % 16 in
     slice_set touched word (bit_or (slice_index touched word) (1 * 2 ^ (sector % 64) % 2 ^ 64))
 
 pub bit_is_set : (touched : List ℕ) (sector : ℕ) → length touched ≡ 16 → is_touched (with_bit touched sector) sector ≡ true
 bit_is_set touched sector long =
-    let word : ℕ = sector % 1024 / 64 in
+    let word : ℕ = sector / 64 % 16 in
     let bit : ℕ = sector % 64 in
     let new : ℕ = bit_or (slice_index touched word) (1 * 2 ^ bit % 2 ^ 64) in
     ap (λ n. bit_at n bit == 1) (get_or-set_same touched word new 0 (omega (arith, long)))
@@ -36,12 +36,12 @@ bit_is_set touched sector long =
 pub bit_stays_unset : (touched : List ℕ) (sector other : ℕ) → length touched ≡ 16
     → is_touched (with_bit touched sector) other ≡ false → is_touched touched other ≡ false
 bit_stays_unset touched sector other long unset =
-    let word : ℕ = sector % 1024 / 64 in
+    let word : ℕ = sector / 64 % 16 in
     let bit : ℕ = sector % 64 in
     let new : ℕ = bit_or (slice_index touched word) (1 * 2 ^ bit % 2 ^ 64) in
     ⊎_elim
-    (λ (here : other % 1024 / 64 ≡ word).
-    let put : slice_index (with_bit touched sector) (other % 1024 / 64) ≡ new
+    (λ (here : other / 64 % 16 ≡ word).
+    let put : slice_index (with_bit touched sector) (other / 64 % 16) ≡ new
     = ap (λ i. slice_index (with_bit touched sector) i) here ∙ get_or-set_same touched word new 0 (omega (arith, long)) in
     ⊎_elim
     (λ (same : other % 64 ≡ bit).
@@ -54,9 +54,9 @@ bit_stays_unset touched sector other long unset =
     ∙ ap (λ b. b == 1) (sym (bit_at_set_other w64 (slice_index touched word) bit (omega arith) (other % 64) different))
     ∙ ap (λ n. bit_at n (other % 64) == 1) (sym put) ∙ unset)
     (cases_eq (other % 64) bit))
-    (λ (apart : other % 1024 / 64 ≡ word → ⊥).
-    ap (λ n. bit_at n (other % 64) == 1) (sym (get_or-set_other touched word (other % 1024 / 64) new 0 apart)) ∙ unset)
-    (cases_eq (other % 1024 / 64) word)
+    (λ (apart : other / 64 % 16 ≡ word → ⊥).
+    ap (λ n. bit_at n (other % 64) == 1) (sym (get_or-set_other touched word (other / 64 % 16) new 0 apart)) ∙ unset)
+    (cases_eq (other / 64 % 16) word)
 
 -- ---- starts, after an entry was added
 
@@ -176,7 +176,7 @@ all_bits = replicate 16 (2 ^ 64 - 1)
 
 pub all_bits_set : (sector : ℕ) → is_touched all_bits sector ≡ true
 all_bits_set sector =
-    ap (λ n. bit_at n (sector % 64) == 1) (get_or-replicate 16 (sector % 1024 / 64) (2 ^ 64 - 1) 0 (omega arith))
+    ap (λ n. bit_at n (sector % 64) == 1) (get_or-replicate 16 (sector / 64 % 16) (2 ^ 64 - 1) 0 (omega arith))
     ∙ ap (λ b. b == 1) (bit_at_ones 64 (sector % 64) (omega arith))
 
 abbrev pub no_index : Index

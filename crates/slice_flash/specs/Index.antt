@@ -26,7 +26,7 @@ IsRow size base journal writes row =
 -- Whether the bit of a sector is set. Sectors that are 1024 apart share one.
 abbrev pub is_touched : List ℕ → ℕ → Bool
 is_touched touched sector =
-    bit_at (slice_index touched (sector % 1024 / 64)) (sector % 64) == 1
+    bit_at (slice_index touched (sector / 64 % 16)) (sector % 64) == 1
 
 -- The first writes leave a sector as it is in the base.
 abbrev pub IsUntouched : ℕ → List ℕ → List ℕ → ℕ → ℕ → Type 0

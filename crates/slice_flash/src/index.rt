@@ -10,10 +10,10 @@ ghost use Rattle.slice_flash.specs.Steps.{Erased, Programmed};
 use crate::steps::{Asked, HEADER};
 
 /// The number of rows. Sectors that are this far apart share one.
-const ROWS: u32 = 64;
+const ROWS: usize = 64;
 
-/// The number of bits of the set of touched sectors. Sectors that are this far apart share one.
-const BITS: u32 = 1024;
+/// The number of words in the set of touched sectors. Sectors that are 1024 apart share a bit.
+const WORDS: usize = 16;
 
 /// Where a read begins: after the first entries of the journal.
 #[derive(Clone, Copy)]
@@ -34,18 +34,19 @@ const FIRST: Start = Start {
     is_blank: false,
 };
 
-/// Where a read in this sector begins.
+/// Where a read in a sector begins.
 #[derive(Clone, Copy)]
 struct Row {
     sector: u32,
     start: Start,
 }
 
-/// For some sectors where a read in them begins, and which sectors no entry changed.
+/// What a flash knows of the entries of its journal: where a read in some sectors begins, and which
+/// sectors no entry changed.
 #[derive(Drop)]
 pub(crate) struct Index {
-    rows: [Row; 64],
-    touched: [u64; 16],
+    rows: [Row; ROWS],
+    touched: [u64; WORDS],
 }
 
 /// Returns whether the `n` bytes from `at` on lie in one sector.
@@ -65,8 +66,8 @@ impl Index {
             rows: [Row {
                 sector: 0,
                 start: FIRST,
-            }; 64],
-            touched: [0; 16],
+            }; ROWS],
+            touched: [0; WORDS],
         }
     }
 
@@ -74,7 +75,7 @@ impl Index {
     fn is_touched(&self, sector: u32) -> bool
         ensures { result ≡ is_touched self.now.touched sector }
     {
-        self.touched[(sector % BITS / 64) as usize] >> (sector % 64) & 1 == 1
+        self.touched[sector as usize / 64 % WORDS] >> (sector % 64) & 1 == 1
     }
 
     /// Sets the bit and the row of a sector.
@@ -87,8 +88,8 @@ impl Index {
         ensures others { (other : ℕ) → is_touched self.new.touched other ≡ false
             → is_touched self.old.touched other ≡ false }
     {
-        self.touched[(sector % BITS / 64) as usize] |= 1 << (sector % 64);
-        self.rows[(sector % ROWS) as usize] = Row { sector, start };
+        self.touched[sector as usize / 64 % WORDS] |= 1 << (sector % 64);
+        self.rows[sector as usize % ROWS] = Row { sector, start };
     }
 
     /// Sets the bit of each sector.
@@ -96,7 +97,7 @@ impl Index {
         ensures rows { self.new.rows ≡ self.old.rows }
         ensures sectors { (sector : ℕ) → is_touched self.new.touched sector ≡ true }
     {
-        self.touched = [u64::MAX; 16];
+        self.touched = [u64::MAX; WORDS];
     }
 
     /// Returns where a read of the `n` bytes from `at` on begins, if the journal has `writes` entries
@@ -117,7 +118,7 @@ impl Index {
                 is_blank: false,
             };
         }
-        let row = self.rows[(sector % ROWS) as usize];
+        let row = self.rows[sector as usize % ROWS];
         if row.sector == sector {
             row.start
         } else {
