@@ -345,8 +345,9 @@ uint32_t bootswap_confirm(const struct bootswap_setup *setup, uint8_t *flash, si
  *     bootswap_journal_withdraw   44
  *     bootswap_journal_confirm    20
  *
- * A boot has no such bound. After a boot that returned BOOTSWAP_CUT the next one repeats the step of a swap that didn't
- * fit: give it a journal of several sectors, since one that is too short for a step is too short each time.
+ * A boot has no such bound. If it returns BOOTSWAP_CUT, make the writes and boot again with an empty journal: the next
+ * boot continues. Each boot gets a step further if the journal has 856 bytes, and also a sector's length, 12 bytes for
+ * each 256 of it (rounded up), and 32. A journal that is too short for a step of a swap is too short each time.
  */
 uint32_t bootswap_journal_provision(const struct bootswap_setup *setup, uint8_t *flash, size_t flash_length,
                                     uint8_t *journal, size_t journal_room, struct bootswap_told *told);
