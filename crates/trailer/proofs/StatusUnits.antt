@@ -1,9 +1,11 @@
 -- Lemmas about status units, and about how many of them are set.
-use Rattle.std.proofs.Common.{◌≡◌, ℕ, zero, suc, ◌+◌, ◌-◌, ◌*◌, ◌/◌, ◌%◌, ◌<◌, ◌≤◌, Bool, true, false, arith, sym, ◌∙◌, ap, refl, inl, inr, ⊎_elim, List, take, drop, if◌then◌else◌}
+use Rattle.std.proofs.Common.{◌≡◌, ℕ, zero, suc, ◌+◌, ◌-◌, ◌*◌, ◌/◌, ◌%◌, ◌<◌, ◌≤◌, Bool, true, false, arith, sym, ◌∙◌, ap, refl, inl, inr, ⊎_elim, List, take, drop, slice_index, slice_range, if◌then◌else◌}
 use Rattle.std.proofs.lemmas.Bool.{cases_lt}
 use Rattle.std.proofs.lemmas.List.{drop-drop}
 use Rattle.flash_model.specs.Chip.{Chip, IsErased, SameOutside}
 use Rattle.flash_model.specs.Units.{IsSet}
+use Rattle.flash_model.proofs.Erased.{each_erased, erased_each}
+use Rattle.flash_model.proofs.Ranges.{length_range, range_at}
 use Rattle.flash_model.proofs.Units.{aligned}
 use Rattle.sector_map.specs.declared.layout.SectorMap.{SectorMap}
 use Rattle.sector_map.specs.declared.layout.Side.{Side}
@@ -13,7 +15,7 @@ use Rattle.sector_map.proofs.Parts.{laid_out_kept}
 use Rattle.sector_map.proofs.PartBytes.{keeps_write}
 use Rattle.flash_model.specs.Units.{are_erased}
 use Rattle.trailer.specs.Fields.{is_set, magic_in, size_in, trailer_bytes, fields_in, fields_at}
-use Rattle.trailer.specs.Status.{status_unit, set_units, status_count_of}
+use Rattle.trailer.specs.Status.{are_units_erased, status_unit, set_units, status_count_of}
 use Rattle.trailer.proofs.Places.{trailer_size, range_besides}
 use Rattle.trailer.proofs.Erased.{not_true, range_is_erased}
 use Rattle.trailer.proofs.OwnFields.{same_fields}
@@ -40,6 +42,23 @@ unit_behind bytes j =
 
 unit_first : (bytes : List ℕ) → status_unit bytes 0 ≡ take 8 bytes
 unit_first bytes = refl
+
+-- Each unit within an erased range is erased.
+pub unit_in_range : (bytes : List ℕ) (a b j : ℕ) → are_erased (slice_range bytes a b) ≡ true → a ≤ 8 * j
+    → 8 * j + 8 ≤ b → are_erased (status_unit bytes j) ≡ true
+unit_in_range bytes a b j all low high = each_erased (status_unit bytes j) (λ k small.
+    let in_unit : k < 8 * j + 8 - 8 * j = omega (arith, small, length_range bytes (8 * j) (8 * j + 8)) in
+    range_at bytes (8 * j) (8 * j + 8) k in_unit
+    ∙ ap (λ n. slice_index bytes n) (let e : 8 * j + k ≡ a + (8 * j + k - a) = omega arith in e)
+    ∙ sym (range_at bytes a b (8 * j + k - a) (omega arith))
+    ∙ erased_each (slice_range bytes a b) (8 * j + k - a) all
+    (omega (arith, small, length_range bytes (8 * j) (8 * j + 8), length_range bytes a b)))
+
+-- Each of some status units is erased if all are.
+pub each_unit : (bytes : List ℕ) (from n j : ℕ) → are_units_erased bytes from n ≡ true → from ≤ j → j < from + n
+    → are_erased (status_unit bytes j) ≡ true
+each_unit bytes from n j all low high = unit_in_range bytes (8 * from) (8 * from + 8 * n) j all (omega arith)
+    (omega arith)
 
 -- The count of set units is c if the first c units are set and the next one is erased.
 pub units_are : (bytes : List ℕ) (n c : ℕ) → c ≤ n → ((j : ℕ) → j < c → are_erased (status_unit bytes j) ≡ false)
@@ -88,6 +107,28 @@ set_below bytes (suc n) j lt = by (λ j lt. set_below (drop 8 bytes) n j lt) (ar
         let count : set_units bytes (suc n) ≡ set_units (drop 8 bytes) n + 1 = units_step bytes n ∙ ap
         (λ b. if b then 0 else set_units (drop 8 bytes) n + 1) e in
         ap (λ (xs : List ℕ). are_erased xs) (sym (unit_behind bytes j)) ∙ behind j (omega (arith, lt, count))
+
+-- No more units are counted than there are.
+pub counts_within : (bytes : List ℕ) (n : ℕ) → set_units bytes n ≤ n
+counts_within bytes zero = omega (arith, units_none bytes)
+counts_within bytes (suc n) = by (counts_within (drop 8 bytes) n) (are_erased (take 8 bytes)) refl
+  where
+    by : set_units (drop 8 bytes) n ≤ n → (first : Bool) → are_erased (take 8 bytes) ≡ first
+        → set_units bytes (suc n) ≤ suc n
+    by more true e =
+        let count : set_units bytes (suc n) ≡ 0 = units_step bytes n ∙ ap
+        (λ b. if b then 0 else set_units (drop 8 bytes) n + 1) e in
+        omega (arith, count)
+    by more false e =
+        let count : set_units bytes (suc n) ≡ set_units (drop 8 bytes) n + 1 = units_step bytes n ∙ ap
+        (λ b. if b then 0 else set_units (drop 8 bytes) n + 1) e in
+        omega (arith, count, more)
+
+-- If the units before number c are set, and unit c is erased or the last one is before it, the
+-- count is c.
+pub counts_to : (bytes : List ℕ) (n c : ℕ) → c ≤ n → c ≤ set_units bytes n
+    → (c < n → are_erased (status_unit bytes c) ≡ true) → set_units bytes n ≡ c
+counts_to bytes n c le some free = units_are bytes n c le (λ j lt. set_below bytes n j (omega (arith, lt, some))) free
 
 -- The unit at the count is erased.
 pub free_at : (bytes : List ℕ) (n : ℕ) → set_units bytes n < n

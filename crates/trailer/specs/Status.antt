@@ -1,5 +1,5 @@
 -- How far a swap has got, by the status units of a trailer.
-use Rattle.std.specs.Prelude.{ℕ, zero, suc, ◌+◌, ◌*◌, List, slice_range, take, drop, if◌then◌else◌}
+use Rattle.std.specs.Prelude.{ℕ, Bool, zero, suc, ◌+◌, ◌*◌, List, slice_range, take, drop, if◌then◌else◌}
 use Rattle.flash_model.specs.Chip.{Chip}
 use Rattle.sector_map.specs.declared.layout.SectorMap.{SectorMap}
 use Rattle.sector_map.specs.declared.layout.Side.{Side}
@@ -10,6 +10,10 @@ use Rattle.trailer.specs.Fields.{trailer_bytes}
 -- A status unit of a trailer, numbered from 0.
 abbrev pub status_unit : List ℕ → ℕ → List ℕ
 status_unit bytes status = slice_range bytes (8 * status) (8 * status + 8)
+
+-- Whether n status units of a trailer, from a number on, are all erased.
+abbrev pub are_units_erased : List ℕ → ℕ → ℕ → Bool
+are_units_erased bytes from n = are_erased (slice_range bytes (8 * from) (8 * from + 8 * n))
 
 -- How many of the first n units of some bytes are set, up to the first erased one.
 unfoldable pub set_units : List ℕ → ℕ → ℕ

@@ -41,7 +41,7 @@ pub use requesting::{request, set_ok};
 pub use settling::settle;
 pub use sizes::{read_size, write_size};
 pub use standing_request::standing;
-pub use statuses::{push_status, status_count, status_count_from};
+pub use statuses::{are_units_erased, push_status, status_count, status_count_from, status_units};
 pub use table::swap_type;
 pub use trailer_reading::read_trailer;
 pub use withdrawing::withdraw;

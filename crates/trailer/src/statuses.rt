@@ -3,7 +3,8 @@
 ghost use Rattle.std.specs.Prelude.{◌≡◌, ◌+◌, ◌*◌, ◌<◌, ◌≤◌};
 ghost use Rattle.sector_map.specs.Map.{HasImage, slot_sectors};
 ghost use Rattle.trailer.specs.Places.{withdrawn_place};
-ghost use Rattle.trailer.specs.Status.{status_count_of};
+ghost use Rattle.trailer.specs.Fields.{trailer_bytes};
+ghost use Rattle.trailer.specs.Status.{are_units_erased, status_count_of};
 ghost use Rattle.trailer.specs.Reads.{Tells};
 ghost use Rattle.trailer.specs.Writes.{PushesStatus};
 
@@ -11,9 +12,10 @@ use crate::units::is_range_erased;
 use flash_model::{Flash, Result, UNIT, set_unit};
 use sector_map::{SectorMap, Side};
 
-/// Returns the number of status units of a trailer: three for each sector of the slot.
+/// Returns the number of status units of a trailer: three for each sector of the slot. Images are
+/// numbered from 0, and the map has this image.
 #[tactic(auto, using(crate::proofs::StatusUnits::status_fit))]
-pub(crate) fn status_units(map: &SectorMap, image: u8) -> u32
+pub fn status_units(map: &SectorMap, image: u8) -> u32
     requires { image < map.now.images }
     ensures count { result ≡ 3 * slot_sectors map.now image }
     ensures fit { 8 * result + withdrawn_place ≤ map.now.sector_size }
@@ -66,6 +68,36 @@ pub fn status_count_from<F: Flash>(
         }
     }
     Ok(all)
+}
+
+/// Returns whether `units` status units of a trailer, from number `from` on, are all erased. Units
+/// are numbered from 0. There is at least one, and the trailer has all of them. Up to 8 units are
+/// read together, in one read of at most 64 bytes.
+///
+/// A swap calls this once for 8 steps, and then sets these units without reading them again. The
+/// status count doesn't replace the call: on a flash that holds no valid state, units after the
+/// first erased one may be set.
+///
+/// The map is laid out on the flash. Images are numbered from 0, and the map has this image.
+///
+/// # Errors
+/// `Off` if the flash was off. The flash never changes.
+pub fn are_units_erased<F: Flash>(
+    flash: &mut F,
+    map: &SectorMap,
+    image: u8,
+    side: Side,
+    from: u32,
+    units: u32,
+) -> Result<bool>
+    requires image { HasImage map.now image (F.chip flash.old) }
+    requires some { 0 < units }
+    requires within { from + units ≤ 3 * slot_sectors map.now image }
+    ensures { Tells (are_units_erased
+        (trailer_bytes map.now (F.chip flash.old) image side) from units)
+        (F.chip flash.old) (F.chip flash.new) result }
+{
+    is_range_erased(flash, map, image, side, UNIT * from, UNIT * units)
 }
 
 /// Sets the first erased status unit of a trailer. There has to be one: the status count is below
