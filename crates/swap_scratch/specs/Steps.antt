@@ -1,5 +1,5 @@
 -- What each call that takes steps of the swap of one image does: one record for each call.
-use Rattle.std.specs.Prelude.{◌≡◌, ◌⊎◌, ℕ, ◌+◌, ◌*◌, ◌/◌, ◌%◌, ◌<◌, ◌≤◌, false, List}
+use Rattle.std.specs.Prelude.{◌≡◌, ◌≢◌, ◌⊎◌, ℕ, ◌+◌, ◌*◌, ◌/◌, ◌%◌, ◌<◌, ◌≤◌, false, List}
 use Rattle.std.specs.Prelude.{Result, IsErrOf, OnOk, IfOk}
 use Rattle.flash_model.specs.declared.error.FlashError.{FlashError}
 use Rattle.flash_model.specs.declared.error.FlashError.TheVariants.{Off}
@@ -8,7 +8,8 @@ use Rattle.sector_map.specs.declared.layout.SectorMap.{SectorMap}
 use Rattle.sector_map.specs.declared.layout.Side.{Side}
 use Rattle.sector_map.specs.Map.{Keeps, slot_sectors}
 use Rattle.sector_map.specs.Part.{swap_one}
-use Rattle.trailer.specs.Status.{status_count_of}
+use Rattle.trailer.specs.Fields.{trailer_bytes}
+use Rattle.trailer.specs.Status.{status_unit, status_count_of}
 use Rattle.swap_scratch.specs.Copies.{journal_of_copy}
 use Rattle.swap_scratch.specs.Used.{used_of, steps_of}
 use Rattle.swap_scratch.specs.declared.progress.Progress.{Progress}
@@ -100,6 +101,10 @@ pub record TakesStep (map : SectorMap) (image : ℕ) (side : Side) (status : ℕ
   -- If the call succeeds, the swap is at the next step.
   pub taken : OnOk result ((x y : List ℕ) → IsImagePlace map old side image x y status
       → IsImagePlace map new side image x y (status + 1))
+  -- No other status unit changes.
+  pub units : (j : ℕ) → j ≢ status → j < 3 * slot_sectors map image
+      → status_unit (trailer_bytes map new image side) j
+      ≡ status_unit (trailer_bytes map old image side) j
   -- If the call succeeds, the count increases, whatever the place of the swap.
   pub counted : OnOk result (status < status_count_of map new image side)
   -- In each case the count doesn't decrease.

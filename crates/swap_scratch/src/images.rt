@@ -3,11 +3,11 @@
 ghost use Rattle.sector_map.specs.Map.{HasImage};
 ghost use Rattle.swap_scratch.specs.Steps.{SwapsImage};
 
+use crate::counting::{count_from, next_count};
 use crate::steps::take_step;
 use crate::used::used_sectors;
 use flash_model::{Flash, Result};
 use sector_map::{SectorMap, Side};
-use trailer::{status_count, status_count_from};
 
 /// Swaps the slots of one image, from any place of the swap. If all its steps are counted, nothing
 /// is touched, since scratch may hold a sector of a later image.
@@ -21,10 +21,10 @@ pub(crate) fn swap_image<F: Flash>(
     ensures { SwapsImage map.now image side (F.chip flash.old) (F.chip flash.new) result }
 {
     let used = used_sectors(flash, map, image, side)?;
-    let mut status = status_count(flash, map, image, side)?;
-    while status < 3 * used {
-        take_step(flash, map, image, side, used, status)?;
-        status = status_count_from(flash, map, image, side, status)?;
+    let mut known = count_from(flash, map, image, side, 0)?;
+    while known.count < 3 * used {
+        take_step(flash, map, image, side, used, known.count)?;
+        known = next_count(flash, map, image, side, known)?;
     }
     Ok(())
 }

@@ -46,7 +46,8 @@ fn move_sector<F: Flash>(
 }
 
 /// Takes step `status`, counted from 0, and counts it. If the flash is at no place of a swap, units
-/// after the first erased one may be set. Then the count increases by more than one.
+/// after the first erased one may be set. Then the count increases by more than one. The trailer
+/// isn't read: since it counts `status` steps, the unit of this number is erased.
 pub(crate) fn take_step<F: Flash>(
     flash: &mut F,
     map: &SectorMap,

@@ -41,8 +41,8 @@ pub fn status_count<F: Flash>(flash: &mut F, map: &SectorMap, image: u8, side: S
 /// Returns what `status_count` does, and reads no unit before number `known`, counted from 0. The
 /// caller knows that the units before it are set. It is the number of a unit of the trailer.
 ///
-/// A swap continues so from the count that it has read: otherwise each step would read the units of
-/// all steps before it.
+/// A swap calls this if one of the units after its last step is set. Without the number, it would
+/// read the units of all steps before.
 ///
 /// The map is laid out on the flash. Images are numbered from 0, and the map has this image.
 ///
@@ -100,9 +100,8 @@ pub fn are_units_erased<F: Flash>(
     is_range_erased(flash, map, image, side, UNIT * from, UNIT * units)
 }
 
-/// Sets the first erased status unit of a trailer. There has to be one: the status count is below
-/// three for each sector of the slot. The units before number `known` are set, as for
-/// `status_count_from`. The unit is read before it is set.
+/// Sets the first erased status unit of a trailer, and reads nothing. The caller knows its number,
+/// counted from 0: the status count, which is below three for each sector of the slot.
 ///
 /// The map is laid out on the flash. Images are numbered from 0, and the map has this image.
 ///
@@ -115,14 +114,12 @@ pub fn push_status<F: Flash>(
     map: &SectorMap,
     image: u8,
     side: Side,
-    known: u32,
+    count: u32,
 ) -> Result<()>
     requires image { HasImage map.now image (F.chip flash.old) }
-    requires known { known ≤ status_count_of map.now (F.chip flash.old) image side }
-    requires room { status_count_of map.now (F.chip flash.old) image side
-        < 3 * slot_sectors map.now image }
+    requires count { count ≡ status_count_of map.now (F.chip flash.old) image side }
+    requires room { count < 3 * slot_sectors map.now image }
     ensures { PushesStatus map.now image side (F.chip flash.old) (F.chip flash.new) result }
 {
-    let count = status_count_from(flash, map, image, side, known)?;
     set_unit(flash, map.trailer_start(image, side) + UNIT * count)
 }
