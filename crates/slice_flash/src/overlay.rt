@@ -22,14 +22,18 @@ use std::sync::ledger::{Blank, Book, Ledger, Share};
 /// read copies its range of the base, and performs on the copy what the writes change there. Its
 /// time grows with the number of writes that it walks:
 /// - A read in a sector that no write changed walks none.
-/// - A read in another sector walks the writes since the last erase of this sector. If the journal
-///   has no such erase, it walks those since the first program in the sector.
+/// - A read in another sector walks the writes since the last erase of this sector, also those in
+///   other sectors. If the journal has no such erase, it walks those from the first program in the
+///   sector on.
 /// - A read over several sectors walks all writes.
 ///
-/// The flash has room for 64 sectors' last erases and for 1024 sectors' changes. Sectors 64 apart
-/// displace each other: a read walks all writes if another one's erase came later. Sectors 1024
-/// apart count as changed together, and a program over several sectors counts for all sectors. A
-/// caller that performs the journal on the part begins with an empty one, and with cheap reads.
+/// Sectors whose numbers are equal modulo 64 share one row of an index. It knows the last of them
+/// that was erased or changed for the first time. A read in another one that was changed walks all
+/// writes. Sectors whose numbers are equal modulo 1024 count as changed together, and a program over
+/// several sectors counts as a change of all sectors.
+///
+/// A caller that performs the journal on the part begins with an empty one, and so with reads that
+/// walk no writes.
 ///
 /// A write that doesn't fit in the rest of the journal is refused. It returns `Cut`, no byte of the
 /// journal changes, it isn't counted as a write, and the flash is off until `restart`.
