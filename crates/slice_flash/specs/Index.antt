@@ -49,8 +49,8 @@ pub record IsOneMore (size : ℕ) (base old new : List ℕ) (writes : ℕ) (step
       ≡ replaced (at_of step) (range_of step) (replayed base old writes)
   pub accepted : IsAccepted size step (replayed base old writes)
 
--- An index that was right is right after one more entry: that of this write, which follows the first
--- ones, at this offset.
+-- An index that was right is right after one more entry: that of this write, which follows the
+-- first ones, at this offset.
 abbrev pub Notes : ℕ → ℕ → ℕ → Step → Index → Index → Type 0
 Notes size writes used step was now = (base old new : List ℕ) → used ≡ position old writes
     → IsOneMore size base old new writes step → IsIndex size base old writes was

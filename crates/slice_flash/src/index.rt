@@ -1,10 +1,10 @@
 //! What a flash knows of the entries of its journal, so that a read begins at a late one.
 
-ghost use Rattle.std.specs.Prelude.{◌≡◌, ◌+◌, ◌*◌, ◌%◌, ◌/◌, ◌^◌, ◌<◌, ◌≤◌, ℕ, List, false, true, length};
+ghost use Rattle.std.specs.Prelude.{◌≡◌, ◌+◌, ◌*◌, ◌%◌, ◌/◌, ◌^◌, ◌<◌, ◌≤◌, ℕ, List, false, true};
 ghost use Rattle.std.specs.Prelude.{slice_set};
 ghost use Rattle.slice_flash.specs.Index.{is_touched, IsIndex, IsStart, Notes};
 ghost use Rattle.slice_flash.specs.Overlay.{position};
-ghost use Rattle.slice_flash.specs.Asked.{length_of, step_of};
+ghost use Rattle.slice_flash.specs.Asked.{step_of};
 ghost use Rattle.slice_flash.specs.Steps.{Erased, Programmed};
 
 use crate::steps::{Asked, HEADER};
@@ -100,8 +100,8 @@ impl Index {
         self.touched = [u64::MAX; WORDS];
     }
 
-    /// Returns where a read of the `n` bytes from `at` on begins, if the journal has `writes` entries
-    /// in its first `used` bytes.
+    /// Returns where a read of the `n` bytes from `at` on begins, if the journal has `writes`
+    /// entries in its first `used` bytes.
     pub(crate) fn start_of(&self, at: u32, n: usize, size: u32, writes: u64, used: usize) -> Start
         requires { 0 < size }
         ensures { (base journal : List ℕ) → used ≡ position journal writes
