@@ -105,6 +105,24 @@ static struct row rows[] = {
     {"check", check, 0},
 };
 
+static size_t number_at(size_t at) {
+    return journal[at] | (size_t)journal[at + 1] << 8 | (size_t)journal[at + 2] << 16 | (size_t)journal[at + 3] << 24;
+}
+
+/* Makes the writes that a call recorded, since the call itself only reads the flash. */
+static void make_writes(void) {
+    for (size_t at = 0; at < told.journal_length; at += 12) {
+        size_t kind = number_at(at), start = number_at(at + 4), length = number_at(at + 8);
+        if (kind == 1) {
+            memset(flash + start, 0xff, length);
+        } else {
+            memcpy(flash + start, journal + at + 12, length);
+            at += length;
+        }
+    }
+    told.journal_length = 0;
+}
+
 /* Makes a call, which has to return what is wanted, and keeps the most bytes that it took. */
 static void run_for(const char *name, uint32_t wanted) {
     size_t frame = bytes_of(nothing);
@@ -117,6 +135,7 @@ static void run_for(const char *name, uint32_t wanted) {
             exit(1);
         }
         if (bytes > row->most) row->most = bytes;
+        make_writes();
     }
 }
 

@@ -320,8 +320,9 @@ uint32_t bootswap_confirm(const struct bootswap_setup *setup, uint8_t *flash, si
                           uint8_t image, struct bootswap_told *told);
 
 /*
- * The same calls with a journal of their writes. No write is cut but by the end of the journal. A write is recorded
- * before it is made in `flash`. It takes 12 bytes of the journal: three numbers of 4 bytes, the lowest byte first.
+ * The same calls with a journal of their writes. `flash` is only read: it is a part that is mapped into memory, or a copy
+ * of one. A write is recorded in the journal, and the rest of the call reads what it leaves. No write is cut but by the
+ * end of the journal. It takes 12 bytes of the journal: three numbers of 4 bytes, the lowest byte first.
  *
  *     0  the kind: 0 a program, 1 an erase
  *     4  the address in bytes
@@ -329,12 +330,12 @@ uint32_t bootswap_confirm(const struct bootswap_setup *setup, uint8_t *flash, si
  *    12  only of a program: its bytes
  *
  * The writes follow each other from the first byte of the journal on, with nothing between them. `journal_length` in the
- * result says where they end. The bytes of the journal after them stay as they were. Made in this order on a part with
- * the old bytes of `flash`, the writes leave its new bytes there: each program is of whole units of 8 erased bytes, and
- * each erase is of one sector.
+ * result says where they end. The bytes of the journal after them stay as they were. Make these writes in this order, on
+ * the part and on a copy, before the next call: each program is of whole units of 8 erased bytes, and each erase is of
+ * one sector.
  *
  * If a write doesn't fit in the journal, it isn't made, and the call returns BOOTSWAP_CUT. The writes before it are
- * recorded and made. The device isn't booted then, and the next boot continues, as after a loss of power. A call returns
+ * recorded. The device isn't booted then, and the next boot continues, as after a loss of power. A call returns
  * BOOTSWAP_CUT for no other reason. The journal is long enough if it has this number of bytes:
  *
  *     bootswap_journal_provision  144, and 24 for each image
@@ -347,26 +348,27 @@ uint32_t bootswap_confirm(const struct bootswap_setup *setup, uint8_t *flash, si
  *
  * A boot has no such bound. If it returns BOOTSWAP_CUT, make the writes and boot again with an empty journal: the next
  * boot continues. Each boot gets a step further if the journal has 856 bytes, and also a sector's length, 12 bytes for
- * each 256 of it (rounded up), and 32. A journal that is too short for a step of a swap is too short each time.
+ * each 256 of it (rounded up), and 32. A journal that is too short for a step of a swap is too short each time. A boot
+ * takes no longer with a journal of 64 steps than with one of a single step, but much longer with one of thousands.
  */
-uint32_t bootswap_journal_provision(const struct bootswap_setup *setup, uint8_t *flash, size_t flash_length,
+uint32_t bootswap_journal_provision(const struct bootswap_setup *setup, const uint8_t *flash, size_t flash_length,
                                     uint8_t *journal, size_t journal_room, struct bootswap_told *told);
-uint32_t bootswap_journal_boot(const struct bootswap_setup *setup, uint8_t *flash, size_t flash_length,
+uint32_t bootswap_journal_boot(const struct bootswap_setup *setup, const uint8_t *flash, size_t flash_length,
                                struct bootswap_kept *kept, uint8_t *journal, size_t journal_room, char *table,
                                size_t table_room, char *report, size_t report_room, struct bootswap_told *told);
-uint32_t bootswap_journal_accept(const struct bootswap_setup *setup, uint8_t *flash, size_t flash_length,
+uint32_t bootswap_journal_accept(const struct bootswap_setup *setup, const uint8_t *flash, size_t flash_length,
                                  struct bootswap_kept *kept, uint8_t *journal, size_t journal_room,
                                  const struct bootswap_manifest *manifest, struct bootswap_told *told);
-uint32_t bootswap_journal_piece(const struct bootswap_setup *setup, uint8_t *flash, size_t flash_length,
+uint32_t bootswap_journal_piece(const struct bootswap_setup *setup, const uint8_t *flash, size_t flash_length,
                                 struct bootswap_kept *kept, uint8_t *journal, size_t journal_room, uint8_t image,
                                 const uint8_t *bytes, size_t bytes_length, struct bootswap_told *told);
-uint32_t bootswap_journal_finish(const struct bootswap_setup *setup, uint8_t *flash, size_t flash_length,
+uint32_t bootswap_journal_finish(const struct bootswap_setup *setup, const uint8_t *flash, size_t flash_length,
                                  struct bootswap_kept *kept, uint8_t *journal, size_t journal_room, uint8_t image,
                                  struct bootswap_told *told);
-uint32_t bootswap_journal_withdraw(const struct bootswap_setup *setup, uint8_t *flash, size_t flash_length,
+uint32_t bootswap_journal_withdraw(const struct bootswap_setup *setup, const uint8_t *flash, size_t flash_length,
                                    struct bootswap_kept *kept, uint8_t *journal, size_t journal_room, uint8_t image,
                                    struct bootswap_told *told);
-uint32_t bootswap_journal_confirm(const struct bootswap_setup *setup, uint8_t *flash, size_t flash_length,
+uint32_t bootswap_journal_confirm(const struct bootswap_setup *setup, const uint8_t *flash, size_t flash_length,
                                   struct bootswap_kept *kept, uint8_t *journal, size_t journal_room, uint8_t image,
                                   struct bootswap_told *told);
 

@@ -1,10 +1,11 @@
 /* A device with one image takes an update by calls with a journal. The journal of a boot has ROOM bytes, any other one
-   has exactly the length that the header calls enough. After each call the recorded writes are made on a part, which
-   then has to hold what the flash holds.
+   has exactly the length that the header calls enough. No call may write to the flash. After each call the recorded
+   writes are made there.
 
        journal RUNNING NEW ROOM
 
-   Prints how many boots swapped the image in, and the report of the last one. If the part differs, the status is 1. */
+   Prints how many boots swapped the image in, and the report of the last one. If a call wrote to the flash, or recorded
+   other writes than its result says, the status is 1. */
 #include <stdio.h>
 #include <stdlib.h>
 #include <string.h>
@@ -14,7 +15,7 @@
 enum { SECTOR = 512, SIZE = 10 * SECTOR, ROOM = 8192, UNUSED = 0xee };
 
 static const struct bootswap_setup setup = {.sector_size = SECTOR, .images = 1, .sectors = {2}, .trial_boots = 1};
-static uint8_t flash[SIZE], part[SIZE], journal[ROOM];
+static uint8_t flash[SIZE], before[SIZE], journal[ROOM];
 static struct bootswap_kept kept;
 static struct bootswap_told told;
 static char table[BOOTSWAP_TABLE_ROOM], report[BOOTSWAP_REPORT_ROOM];
@@ -41,24 +42,25 @@ static size_t number_at(size_t at) {
 /* Makes the write at a place of the journal, and returns the place of the next one. */
 static size_t make_write(size_t at) {
     size_t kind = number_at(at), start = number_at(at + 4), length = number_at(at + 8);
-    must(kind <= 1 && start + length <= SIZE, "a write isn't one of the part");
+    must(kind <= 1 && start + length <= SIZE, "a write isn't one of the flash");
     if (kind == 1) {
         must(length == SECTOR && start % SECTOR == 0, "an erase isn't of a sector");
-        memset(part + start, 0xff, length);
+        memset(flash + start, 0xff, length);
         return at + 12;
     }
     must(start % 8 == 0 && length % 8 == 0 && length > 0, "a program isn't of whole units");
-    for (size_t i = start; i < start + length; i++) must(part[i] == 0xff, "a program isn't of erased bytes");
-    memcpy(part + start, journal + at + 12, length);
+    for (size_t i = start; i < start + length; i++) must(flash[i] == 0xff, "a program isn't of erased bytes");
+    memcpy(flash + start, journal + at + 12, length);
     return at + 12 + length;
 }
 
 /* Makes the writes of a call, and clears the journal for the next call. */
 static uint32_t made(uint32_t number) {
     size_t at = 0, writes = 0;
+    must(!memcmp(before, flash, SIZE), "a call wrote to the flash");
     for (; at < told.journal_length; writes++) at = make_write(at);
     must(at == told.journal_length && writes == told.writes, "the journal has other writes than the result says");
-    must(!memcmp(part, flash, SIZE), "the part differs from the flash");
+    memcpy(before, flash, SIZE);
     for (; at < ROOM; at++) must(journal[at] == UNUSED, "a byte after the writes changed");
     memset(journal, UNUSED, ROOM);
     return number;
@@ -93,7 +95,7 @@ int main(int count, char **words) {
     memset(journal, UNUSED, ROOM);
     memset(flash, 0xff, SIZE);
     load(words[1], flash, 2 * SECTOR);
-    memcpy(part, flash, SIZE);
+    memcpy(before, flash, SIZE);
     size_t length = load(words[2], image, sizeof image);
 
     must(!made(bootswap_journal_provision(&setup, flash, SIZE, journal, 144 + 24, &told)), "provision");

@@ -26,7 +26,7 @@ static uint32_t answer(struct bootswap_told *told) {
     return returned;
 }
 
-#define BEGIN const struct bootswap_setup *setup, uint8_t *flash, size_t flash_length
+#define BEGIN const struct bootswap_setup *setup, const uint8_t *flash, size_t flash_length
 #define DEVICE BEGIN, struct bootswap_kept *kept, uint8_t *journal, size_t journal_room
 #define TOLD struct bootswap_told *told
 #define UNUSED (void)setup, (void)flash, (void)flash_length, (void)journal, (void)journal_room

@@ -92,6 +92,17 @@ class DriverTest(CaseTest):
         return device
 
 
+def performed(flash, journal):
+    """The bytes of a flash after the writes that a journal records."""
+    flash, at = bytearray(flash), 0
+    while at < len(journal):
+        kind, place, length = (int.from_bytes(journal[at + i : at + i + 4], "little") for i in (0, 4, 8))
+        at += 12
+        flash[place : place + length] = length * b"\xff" if kind else journal[at : at + length]
+        at += 0 if kind else length
+    return bytes(flash)
+
+
 def make_call(device, event):
     """Makes the call of a line of a script, and returns its number. A device that lost power is opened again."""
     word, *words = event.split()
@@ -396,7 +407,8 @@ class JournalsTest(DriverTest):
             self.case(f"call {at + 1}, {name}, with {bound + 1} journals", faults[:5] + device.flash.wrong)
 
     def recorded(self, device, name, words, room):
-        """Makes a call of the library with a journal of this length, and returns its number and the bytes used."""
+        """Makes a call of the library with a journal of this length, and then the writes of the journal on the mirror. Returns
+        the call's number and the bytes used."""
         library, names = device.library.calls, device.library.names
         texts = [POINTER(c_char)(), c_size_t(0)]
         if name == "boot":
@@ -409,11 +421,15 @@ class JournalsTest(DriverTest):
         kept, told = device.device.kept, device.library.new(names._CallResult)
         ctypes.memset(device.journal, 0xC5, device.room)
         journal = [device.journal, c_size_t(room)]
-        mirror = [device.mirror, c_size_t(len(device.mirror))]
+        mirror, before = [device.mirror, c_size_t(len(device.mirror))], bytes(device.mirror)
         call = getattr(library, f"bootswap_journal_{name}")
         number = call(byref(device.setup), *mirror, byref(kept), *journal, *given, byref(told))
-        if bytes(device.journal)[told.journal_length : device.room] != (device.room - told.journal_length) * b"\xc5":
+        if bytes(device.mirror) != before:
+            device.flash.wrong.append(f"{name} wrote to the flash, which it may only read")
+        used, rest = bytes(device.journal)[: told.journal_length], bytes(device.journal)[told.journal_length : device.room]
+        if rest != len(rest) * b"\xc5":
             device.flash.wrong.append(f"{name} wrote after the used bytes of a journal of {room}")
+        ctypes.memmove(device.mirror, performed(before, used), len(before))
         return number, told.journal_length
 
     def test_driver(self):

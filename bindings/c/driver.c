@@ -1,6 +1,7 @@
 /*
- * A device over a flash driver: makes each call on the mirror, then performs the writes that the
- * call recorded in the journal. Allocates nothing, and has no state of its own.
+ * A device over a flash driver: makes each call over the mirror, then performs the writes that the
+ * call recorded in the journal, on the flash and on the mirror. Allocates nothing, and has no state
+ * of its own.
  */
 #include "driver.h"
 
@@ -59,8 +60,9 @@ static bool program(const struct bootswap_device *device, uint32_t at, const uin
            driver->program(driver->context, at, bytes, length) == 0;
 }
 
-/* Performs the write at the front of these bytes of the journal. Returns the length of the write in
- * the journal, or 0 if the driver failed, or if the bytes don't begin with a write. */
+/* Performs the write at the front of these bytes of the journal, on the flash and then on the mirror.
+ * Returns the length of the write in the journal, or 0 if the driver failed, or if the bytes don't
+ * begin with a write. */
 static size_t perform_write(const struct bootswap_device *device, const uint8_t *bytes,
                             size_t left) {
     if (left < HEADER) {
@@ -71,12 +73,17 @@ static size_t perform_write(const struct bootswap_device *device, const uint8_t 
         return 0;
     }
     if (kind == ERASE) {
-        return erase(device, at, length) ? HEADER : 0;
+        if (!erase(device, at, length)) {
+            return 0;
+        }
+        memset(device->mirror + at, 0xFF, length);
+        return HEADER;
     }
-    if (kind != PROGRAM || length > left - HEADER) {
+    if (kind != PROGRAM || length > left - HEADER || !program(device, at, bytes + HEADER, length)) {
         return 0;
     }
-    return program(device, at, bytes + HEADER, length) ? HEADER + (size_t)length : 0;
+    memcpy(device->mirror + at, bytes + HEADER, length);
+    return HEADER + (size_t)length;
 }
 
 /* Performs the writes of the journal in their order, up to the first that fails. Returns whether
@@ -253,9 +260,9 @@ uint32_t bootswap_device_piece(struct bootswap_device *device, uint8_t image, co
 }
 
 /* A call on one image that takes nothing else. */
-typedef uint32_t image_call(const struct bootswap_setup *setup, uint8_t *flash, size_t flash_length,
-                            struct bootswap_kept *kept, uint8_t *journal, size_t journal_room,
-                            uint8_t image, struct bootswap_told *told);
+typedef uint32_t image_call(const struct bootswap_setup *setup, const uint8_t *flash,
+                            size_t flash_length, struct bootswap_kept *kept, uint8_t *journal,
+                            size_t journal_room, uint8_t image, struct bootswap_told *told);
 
 /* Makes a call on one image that asks for at most `need` bytes of the journal. */
 static uint32_t call_image(struct bootswap_device *device, uint64_t need, image_call *call,

@@ -2,10 +2,10 @@
  * bootswap over a flash driver in C: three functions of yours, a mirror of the flash in memory,
  * and a journal.
  *
- * A call of the library works on the mirror and records its writes, in order, in the journal. Then
- * each write of the journal is performed through the driver. So the flash holds after each write
- * what the library counted on, also if power fails in between. docs/PORTING.md says why this is
- * right, and what a driver has to promise.
+ * A call of the library only reads the mirror, and records its writes, in order, in the journal. Then
+ * each write of the journal is performed through the driver, and on the mirror. So the flash holds
+ * after each write what the library counted on, also if power fails in between. docs/PORTING.md says
+ * why this is right, and what a driver has to promise.
  */
 #ifndef BOOTSWAP_DRIVER_H
 #define BOOTSWAP_DRIVER_H

@@ -6,6 +6,8 @@ use Rattle.machine.specs.Steps.{cut_of}
 use Rattle.machine.specs.declared.reply.Reply.{Reply}
 use Rattle.machine.specs.declared.reply.Reply.TheVariants as reply_is
 use Rattle.slice_flash.specs.JournalFlash.{IsKept, Recording}
+use Rattle.slice_flash.specs.Overlay.{replayed}
+use Rattle.slice_flash.specs.OverlayFlash.{ShowsJournal}
 use Rattle.slice_flash.specs.Steps.{IsRecordedBy, IsTooShort, fixed_over}
 use Rattle.c_interface.specs.declared.call_result.CallResult.{CallResult}
 use Rattle.c_interface.specs.declared.dispatch.DeviceCall.{DeviceCall}
@@ -17,6 +19,14 @@ use Rattle.c_interface.specs.Recording.{IsCutIfShort, IsEnough, IsJournalOf}
 use Rattle.c_interface.proofs.Asked.{cut_or_not}
 
 -- ---- the journal
+
+-- What a flash over bytes that are only read has after its writes, by the names of its caller.
+pub shown : (r : Recording) (old after : List ℕ) (writes name : ℕ) (before : List ℕ) (journal_name : ℕ)
+    → r.chip.fixed ≡ fixed_over old name before journal_name → r.journal ≡ after → writes ≡ r.chip.writes
+    → ShowsJournal r → r.chip.bytes ≡ replayed old after writes
+shown r old after writes name before journal_name fixed holds counted shows =
+    shows ∙ ap (λ (f : Fixed). replayed f.first r.journal r.chip.writes) fixed
+    ∙ ap (λ (l : List ℕ). replayed old l r.chip.writes) holds ∙ ap (λ n. replayed old after n) (sym counted)
 
 module _ (r : Recording) (size : ℕ) (old new before after : List ℕ) (writes used name journal_name : ℕ) (kept : IsKept r)
     (sized : r.chip.sector_size ≡ size) (fixed : r.chip.fixed ≡ fixed_over old name before journal_name)

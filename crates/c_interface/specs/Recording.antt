@@ -8,6 +8,7 @@ use Rattle.set_log.specs.declared.state.State.{State}
 use Rattle.boot_core.specs.Journal.{GetsFurther, IsRoomToBoot}
 use Rattle.machine.specs.Steps.{cut_of}
 use Rattle.machine.specs.declared.reply.Reply.{Reply}
+use Rattle.slice_flash.specs.Overlay.{replayed}
 use Rattle.slice_flash.specs.Steps.{IsRecordedBy, IsTooShort}
 use Rattle.std.specs.Borrow.{Bor}
 use Rattle.c_interface.specs.declared.call_result.CallResult.{CallResult}
@@ -24,6 +25,11 @@ use Rattle.manifest.specs.Rows.{IsManifestOf}
 use Rattle.c_interface.specs.Numbers.{MOST_COMPONENTS, TOO_MANY}
 use Rattle.c_interface.specs.Provisioning.{ProvisionsBetween}
 use Rattle.c_interface.specs.Setup.{IsCheckedSetup, IsRefusedSetup}
+
+-- The bytes of a flash once the writes of a call are performed on it, one by one: those that the
+-- result counts, from the front of the journal on.
+abbrev pub performed : List ℕ → List ℕ → CallResult → List ℕ
+performed flash journal call_result = replayed flash journal call_result.writes
 
 -- The journal of a call, before the call and after it. This number of its bytes is used.
 pub record IsJournalOf (size : ℕ) (old new before after : List ℕ) (writes used : ℕ)

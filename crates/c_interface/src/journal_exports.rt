@@ -5,7 +5,7 @@ ghost use Rattle.c_interface.specs.Answers.{HasTexts, no_more};
 ghost use Rattle.c_interface.specs.Lifecycle.{HoldsFirstIn, IsBoot};
 ghost use Rattle.c_interface.specs.Numbers.{DONE};
 ghost use Rattle.c_interface.specs.Recording.{AcceptsRecorded, AnswersProvisionRecorded};
-ghost use Rattle.c_interface.specs.Recording.{AnswersRecorded};
+ghost use Rattle.c_interface.specs.Recording.{AnswersRecorded, performed};
 ghost use Rattle.c_interface.specs.declared.dispatch.DeviceCall.TheVariants as call;
 
 use crate::call_result::{CallResult, NO_RESULT, number_of, recorded_result_of};
@@ -22,14 +22,15 @@ use manifest::{ManifestRow, manifest_in};
 /// number of its reply.
 fn record_and_report(
     setup: &Setup,
-    flash: &mut [u8],
+    flash: &[u8],
     saved: &mut SavedState,
     journal: &mut [u8],
     asked: &DeviceCall<'_>,
     call_result: &mut CallResult,
 ) -> u32
-    ensures { AnswersRecorded setup.now asked.now flash.old saved.old flash.new saved.new
-        journal.old journal.new call_result.new no_more result }
+    ensures { AnswersRecorded setup.now asked.now flash.now saved.old
+        (performed flash.now journal.new call_result.new) saved.new journal.old journal.new
+        call_result.new no_more result }
 {
     let mut reply = Reply::Done;
     match record_device(setup, flash, journal, saved, asked, &mut reply) {
@@ -53,13 +54,15 @@ fn record_and_report(
 #[unsafe(no_mangle)]
 pub extern "C" fn bootswap_journal_provision(
     setup: &Setup,
-    flash: &mut [u8],
+    flash: &[u8],
     journal: &mut [u8],
     call_result: &mut CallResult,
 ) -> u32
-    ensures first { result ≡ DONE → HoldsFirstIn setup.now flash.old flash.new }
-    ensures all { AnswersProvisionRecorded setup.now flash.old flash.new journal.old journal.new
-        call_result.new result }
+    ensures first { result ≡ DONE → HoldsFirstIn setup.now flash.now
+        (performed flash.now journal.new call_result.new) }
+    ensures all { AnswersProvisionRecorded setup.now flash.now
+        (performed flash.now journal.new call_result.new) journal.old journal.new call_result.new
+        result }
 {
     let mut reply = Reply::Done;
     match record_provision(setup, flash, journal, &mut reply) {
@@ -83,16 +86,18 @@ pub extern "C" fn bootswap_journal_provision(
 #[unsafe(no_mangle)]
 pub extern "C" fn bootswap_journal_boot(
     setup: &Setup,
-    flash: &mut [u8],
+    flash: &[u8],
     saved: &mut SavedState,
     journal: &mut [u8],
     table: &mut [u8],
     report: &mut [u8],
     call_result: &mut CallResult,
 ) -> u32
-    ensures boot { IsBoot setup.now flash.old saved.old flash.new saved.new result }
-    ensures all { AnswersRecorded setup.now call.Boot flash.old saved.old flash.new saved.new
-        journal.old journal.new call_result.new (HasTexts call_result.new.table_length
+    ensures boot { IsBoot setup.now flash.now saved.old
+        (performed flash.now journal.new call_result.new) saved.new result }
+    ensures all { AnswersRecorded setup.now call.Boot flash.now saved.old
+        (performed flash.now journal.new call_result.new) saved.new journal.old journal.new
+        call_result.new (HasTexts call_result.new.table_length
         call_result.new.report_length table.old table.new report.old report.new) result }
 {
     let mut reply = Reply::Done;
@@ -119,14 +124,15 @@ pub extern "C" fn bootswap_journal_boot(
 #[unsafe(no_mangle)]
 pub extern "C" fn bootswap_journal_accept(
     setup: &Setup,
-    flash: &mut [u8],
+    flash: &[u8],
     saved: &mut SavedState,
     journal: &mut [u8],
     manifest: &ManifestRow,
     call_result: &mut CallResult,
 ) -> u32
-    ensures { AcceptsRecorded setup.now manifest.now flash.old saved.old flash.new saved.new
-        journal.old journal.new call_result.new result }
+    ensures { AcceptsRecorded setup.now manifest.now flash.now saved.old
+        (performed flash.now journal.new call_result.new) saved.new journal.old journal.new
+        call_result.new result }
 {
     match manifest_in(manifest) {
         Some(manifest) => {
@@ -148,15 +154,16 @@ pub extern "C" fn bootswap_journal_accept(
 #[unsafe(no_mangle)]
 pub extern "C" fn bootswap_journal_piece(
     setup: &Setup,
-    flash: &mut [u8],
+    flash: &[u8],
     saved: &mut SavedState,
     journal: &mut [u8],
     image: u8,
     bytes: &[u8],
     call_result: &mut CallResult,
 ) -> u32
-    ensures { AnswersRecorded setup.now (call.Piece image bytes.entry) flash.old saved.old
-        flash.new saved.new journal.old journal.new call_result.new no_more result }
+    ensures { AnswersRecorded setup.now (call.Piece image bytes.entry) flash.now saved.old
+        (performed flash.now journal.new call_result.new) saved.new journal.old journal.new
+        call_result.new no_more result }
 {
     let call = DeviceCall::Piece(image, bytes);
     record_and_report(setup, flash, saved, journal, &call, call_result)
@@ -169,14 +176,15 @@ pub extern "C" fn bootswap_journal_piece(
 #[unsafe(no_mangle)]
 pub extern "C" fn bootswap_journal_finish(
     setup: &Setup,
-    flash: &mut [u8],
+    flash: &[u8],
     saved: &mut SavedState,
     journal: &mut [u8],
     image: u8,
     call_result: &mut CallResult,
 ) -> u32
-    ensures { AnswersRecorded setup.now (call.Finish image) flash.old saved.old flash.new saved.new
-        journal.old journal.new call_result.new no_more result }
+    ensures { AnswersRecorded setup.now (call.Finish image) flash.now saved.old
+        (performed flash.now journal.new call_result.new) saved.new journal.old journal.new
+        call_result.new no_more result }
 {
     let call = DeviceCall::Finish(image);
     record_and_report(setup, flash, saved, journal, &call, call_result)
@@ -189,14 +197,15 @@ pub extern "C" fn bootswap_journal_finish(
 #[unsafe(no_mangle)]
 pub extern "C" fn bootswap_journal_withdraw(
     setup: &Setup,
-    flash: &mut [u8],
+    flash: &[u8],
     saved: &mut SavedState,
     journal: &mut [u8],
     image: u8,
     call_result: &mut CallResult,
 ) -> u32
-    ensures { AnswersRecorded setup.now (call.Withdraw image) flash.old saved.old flash.new
-        saved.new journal.old journal.new call_result.new no_more result }
+    ensures { AnswersRecorded setup.now (call.Withdraw image) flash.now saved.old
+        (performed flash.now journal.new call_result.new) saved.new journal.old journal.new
+        call_result.new no_more result }
 {
     let call = DeviceCall::Withdraw(image);
     record_and_report(setup, flash, saved, journal, &call, call_result)
@@ -209,14 +218,15 @@ pub extern "C" fn bootswap_journal_withdraw(
 #[unsafe(no_mangle)]
 pub extern "C" fn bootswap_journal_confirm(
     setup: &Setup,
-    flash: &mut [u8],
+    flash: &[u8],
     saved: &mut SavedState,
     journal: &mut [u8],
     image: u8,
     call_result: &mut CallResult,
 ) -> u32
-    ensures { AnswersRecorded setup.now (call.Confirm image) flash.old saved.old flash.new saved.new
-        journal.old journal.new call_result.new no_more result }
+    ensures { AnswersRecorded setup.now (call.Confirm image) flash.now saved.old
+        (performed flash.now journal.new call_result.new) saved.new journal.old journal.new
+        call_result.new no_more result }
 {
     let call = DeviceCall::Confirm(image);
     record_and_report(setup, flash, saved, journal, &call, call_result)

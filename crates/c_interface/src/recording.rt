@@ -1,10 +1,11 @@
-//! Calls on a device in the caller's memory, whose writes a journal records.
+//! Calls on a device in the caller's memory, which is only read: a journal records their writes.
 
 ghost use Rattle.std.specs.Prelude.{◌≡◌, IfErr, IfOk};
 ghost use Rattle.flash_model.specs.Blanks.{IsBlankOf};
 ghost use Rattle.c_interface.specs.Recording.{ProvisionsOf, ProvisionsRecorded, RecordsOn};
 ghost use Rattle.c_interface.specs.Recording.{StepsRecorded};
 ghost use Rattle.c_interface.specs.Setup.{HasRoom, IsRefusedSetup, IsTrial};
+ghost use Rattle.slice_flash.specs.Overlay.{replayed};
 
 use crate::borrowed::resume_and_run;
 use crate::dispatch::{DeviceCall, put_answer};
@@ -13,7 +14,7 @@ use crate::setup::{CheckedSetup, Setup, check_setup};
 use boot_core::provision;
 use machine::Reply;
 use sector_map::SectorMap;
-use slice_flash::JournalFlash;
+use slice_flash::OverlayFlash;
 use std::marker::Brand;
 use std::sync::ledger::{Blank, Ledger};
 
@@ -29,20 +30,21 @@ pub(crate) struct RecordedWrites {
 fn run_recorded<L: Ledger>(
     blank: Blank,
     checked: &CheckedSetup,
-    bytes: &mut [u8],
+    bytes: &[u8],
     journal: &mut [u8],
     saved: &mut SavedState,
     call: &DeviceCall<'_>,
     reply: &mut Reply,
 ) -> RecordedWrites
     requires blank { IsBlankOf blank L.name L.parts 3 }
-    requires room { HasRoom checked.now.map bytes.old }
+    requires room { HasRoom checked.now.map bytes.now }
     requires images { checked.now.identity.images ≡ checked.now.map.images }
     requires trial { IsTrial checked.now.boots }
-    ensures { StepsRecorded checked.now call.now bytes.old saved.old bytes.new saved.new journal.old
-        journal.new reply.new result.writes result.used }
+    ensures { StepsRecorded checked.now call.now bytes.now saved.old
+        (replayed bytes.now journal.new result.writes) saved.new journal.old journal.new reply.new
+        result.writes result.used }
 {
-    let mut flash = JournalFlash::<L>::new(blank, bytes, checked.map.sector_size, journal);
+    let mut flash = OverlayFlash::<L>::new(blank, bytes, checked.map.sector_size, journal);
     resume_and_run(&mut flash, checked, saved, call, reply);
     let writes = flash.writes();
     let used = flash.used() as u64;
@@ -56,16 +58,17 @@ fn run_recorded<L: Ledger>(
 /// The number to return. Nothing has changed then.
 pub(crate) fn record_device(
     setup: &Setup,
-    bytes: &mut [u8],
+    bytes: &[u8],
     journal: &mut [u8],
     saved: &mut SavedState,
     call: &DeviceCall<'_>,
     reply: &mut Reply,
 ) -> Result<RecordedWrites, u32>
-    ensures outcome { IfOk result (λ outcome. RecordsOn setup.now call.now bytes.old saved.old
-        bytes.new saved.new journal.old journal.new reply.new outcome.writes outcome.used) }
-    ensures refused { IfErr result (λ number. IsRefusedSetup setup.now bytes.old number
-        × (bytes.new ≡ bytes.old) × (saved.new ≡ saved.old) × (journal.new ≡ journal.old)) }
+    ensures outcome { IfOk result (λ outcome. RecordsOn setup.now call.now bytes.now saved.old
+        (replayed bytes.now journal.new outcome.writes) saved.new journal.old journal.new reply.new
+        outcome.writes outcome.used) }
+    ensures refused { IfErr result (λ number. IsRefusedSetup setup.now bytes.now number
+        × (saved.new ≡ saved.old) × (journal.new ≡ journal.old)) }
 {
     match check_setup(setup, bytes) {
         Ok(checked) => Ok(run_recorded::<Brand>(
@@ -85,16 +88,16 @@ pub(crate) fn record_device(
 fn provision_recorded<L: Ledger>(
     blank: Blank,
     map: &SectorMap,
-    bytes: &mut [u8],
+    bytes: &[u8],
     journal: &mut [u8],
     reply: &mut Reply,
 ) -> RecordedWrites
     requires blank { IsBlankOf blank L.name L.parts 3 }
-    requires room { HasRoom map.now bytes.old }
-    ensures { ProvisionsRecorded map.now bytes.old bytes.new journal.old journal.new reply.new
-        result.writes result.used }
+    requires room { HasRoom map.now bytes.now }
+    ensures { ProvisionsRecorded map.now bytes.now (replayed bytes.now journal.new result.writes)
+        journal.old journal.new reply.new result.writes result.used }
 {
-    let mut flash = JournalFlash::<L>::new(blank, bytes, map.sector_size, journal);
+    let mut flash = OverlayFlash::<L>::new(blank, bytes, map.sector_size, journal);
     put_answer(reply, provision(&mut flash, map));
     let writes = flash.writes();
     let used = flash.used() as u64;
@@ -107,14 +110,15 @@ fn provision_recorded<L: Ledger>(
 /// The number to return. Nothing has changed then.
 pub(crate) fn record_provision(
     setup: &Setup,
-    bytes: &mut [u8],
+    bytes: &[u8],
     journal: &mut [u8],
     reply: &mut Reply,
 ) -> Result<RecordedWrites, u32>
-    ensures outcome { IfOk result (λ outcome. ProvisionsOf setup.now bytes.old bytes.new journal.old
-        journal.new reply.new outcome.writes outcome.used) }
-    ensures refused { IfErr result (λ number. IsRefusedSetup setup.now bytes.old number
-        × (bytes.new ≡ bytes.old) × (journal.new ≡ journal.old)) }
+    ensures outcome { IfOk result (λ outcome. ProvisionsOf setup.now bytes.now
+        (replayed bytes.now journal.new outcome.writes) journal.old journal.new reply.new
+        outcome.writes outcome.used) }
+    ensures refused { IfErr result (λ number. IsRefusedSetup setup.now bytes.now number
+        × (journal.new ≡ journal.old)) }
 {
     match check_setup(setup, bytes) {
         Ok(checked) => Ok(provision_recorded::<Brand>(

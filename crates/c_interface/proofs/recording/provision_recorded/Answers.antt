@@ -1,11 +1,12 @@
 use Rattle.std.proofs.Common.{◌≡◌, rules, refl, ap, ◌∙◌}
 use Rattle.flash_model.specs.Chip.{Chip}
-use Rattle.slice_flash.specs.JournalFlash.{Recording, recording_of}
+use Rattle.slice_flash.specs.JournalFlash.{Recording}
+use Rattle.slice_flash.specs.OverlayFlash.{recording_of}
 use Rattle.slice_flash.specs.Steps.{fixed_over}
 use Rattle.c_interface.proofs.Asked.{dark_provided}
 use Rattle.c_interface.proofs.Counting.{cuts_provided}
 use Rattle.c_interface.proofs.Provisioned.{provisions_between}
-use Rattle.c_interface.proofs.Recorded.{cut_if_short, cut_over, enough_to_provision, journal_of}
+use Rattle.c_interface.proofs.Recorded.{cut_if_short, cut_over, enough_to_provision, journal_of, shown}
 use Rattle.c_interface.proofs.StepLaws.{borrowed_flash}
 use Rattle.c_interface.proofs.recording.provision_recorded.Goals as goal
 
@@ -27,16 +28,17 @@ returns g c =
     let fixed : r.chip.fixed ≡ fixed_over bytes _ journal _ = all.outside.fixed ∙ ap (λ (c : Chip). c.fixed) chip in
     let cuts = cuts_provided map first r.chip c.provision.result c.put_answer.new.reply all c.put_answer.ensures in
     let cut = cut_if_short r map.sector_size bytes r.chip.bytes journal r.journal _ _ _ _ c.used-used.ensures.kept
-    all.laid.sector_size fixed refl refl c.writes-writes.ensures c.used-used.ensures.used first c.put_answer.new.reply
+    all.laid.sector_size fixed refl refl c.writes-writes.ensures.writes c.used-used.ensures.used first c.put_answer.new.reply
     (ap (λ (c : Chip). c.journaled) chip) (ap (λ (c : Chip). c.cuts) chip) refl cuts
     (dark_provided map first r.chip c.provision.result c.put_answer.new.reply all c.put_answer.ensures) in
+    let shows = shown r bytes _ _ _ journal _ fixed (search rules) c.writes-writes.ensures.writes c.writes-writes.ensures.shows in
     record {
       first = first;
       last = r.chip;
       between = provisions_between map bytes _ first r.chip c.provision.result c.put_answer.new.reply
-          (borrowed_flash map bytes first _ map.is_map c.requires.room chip) (search rules) all c.put_answer.ensures;
+          (borrowed_flash map bytes first _ map.is_map c.requires.room chip) shows all c.put_answer.ensures;
       journal = journal_of r map.sector_size bytes _ journal _ _ _ _ _ c.used-used.ensures.kept all.laid.sector_size fixed
-          (search rules) (search rules) c.writes-writes.ensures c.used-used.ensures.used;
-      cut = cut_over map.sector_size r.chip.bytes _ _ _ first r.chip c.put_answer.new.reply (search rules) cut;
+          shows (search rules) c.writes-writes.ensures.writes c.used-used.ensures.used;
+      cut = cut_over map.sector_size r.chip.bytes _ _ _ first r.chip c.put_answer.new.reply shows cut;
       enough = enough_to_provision c.put_answer.new.reply _ _ _ _ _ first r.chip cut all.journal;
     }
