@@ -48,24 +48,24 @@ const CONFIRM: Parts = [0, 8, 0, 0, 0, 0, 0, 0, 0, 112];
 
 // Boots from one record to the next: from Steady to Swap, Settle and Trial; to one boot less; to
 // Back, BackSettle and Steady.
-const TO_SWAP: Parts = [2 * OLD, 528, 2 * NEW + 16, 80, OLD, 0, 8, 40, 0, 520];
+const TO_SWAP: Parts = [2 * OLD, 568, 2 * NEW + 16, 80, OLD, 0, 8, 40, 0, 520];
 
-const TO_SETTLE: Parts = [MOVED + NEW, 136, MOVED + OLD, 0, OLD, 0, 8, 40, MOVED, 448];
+const TO_SETTLE: Parts = [MOVED + NEW, 56, MOVED + OLD, 0, OLD, 0, 8, 40, MOVED, 448];
 
 const TO_TRIAL: Parts = [NEW, 56, OLD, 0, OLD, 0, 8, 40, 0, 376];
 
 const AGAIN: Parts = [NEW, 40, 0, 0, OLD, 0, 0, 0, 0, 304];
 
-const TO_BACK: Parts = [NEW, 40, 2 * OLD, 528, 0, 0, 0, 0, 0, 232];
+const TO_BACK: Parts = [NEW, 40, 2 * OLD, 568, 0, 0, 0, 0, 0, 232];
 
-const TO_BACK_SETTLE: Parts = [MOVED + OLD, 0, MOVED, 136, 0, 0, 0, 0, MOVED, 160];
+const TO_BACK_SETTLE: Parts = [MOVED + OLD, 0, MOVED, 56, 0, 0, 0, 0, MOVED, 160];
 
-const TO_STEADY: Parts = [OLD, 32, 0, 40, 0, 0, 0, 0, 0, 640];
+const TO_STEADY: Parts = [OLD, 32, 0, 88, 0, 0, 0, 0, 0, 640];
 
 /// A boot that upgrades without a power cut.
 const UPGRADE: Parts = [
     2 * OLD + MOVED + NEW,
-    704,
+    624,
     2 * NEW + 16 + MOVED + OLD,
     80,
     2 * OLD,
