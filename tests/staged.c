@@ -3,9 +3,9 @@
    After each call that opens a new file or a folder, or that writes, syncs, changes, links, renames or removes a file,
    the library writes a line to the file STAGE_LOG: the call, the names of its files without their folders, and in octal
    the mode of a new file or of a change. Before the first call whose line begins with STAGE_AT, it runs the shell
-   command STAGE_DO once. Calls whose lines begin with STAGE_FAIL fail with error number STAGE_ERROR, and are logged
-   too. The file with inode number STAGE_UID_OF appears to belong to another user, that of STAGE_GID_OF to another
-   group. */
+   command STAGE_DO once. A look at a name, and not at what it leads to, has the line `look NAME`, which isn't logged.
+   Calls whose lines begin with STAGE_FAIL fail with error number STAGE_ERROR, and are logged too. The file with inode
+   number STAGE_UID_OF appears to belong to another user, that of STAGE_GID_OF to another group. */
 #define _GNU_SOURCE
 #include <errno.h>
 #include <fcntl.h>
@@ -82,6 +82,11 @@ static int is_number(const char *name, unsigned long long number) {
 }
 
 int statx(int folder, const char *name, int flags, unsigned mask, struct statx *found) {
+    char line[PATH_MAX];
+    snprintf(line, sizeof line, "look %s", last(name));
+    if (flags & AT_SYMLINK_NOFOLLOW && is_asked("STAGE_AT", line)) {
+        act();
+    }
     int status = (int)syscall(SYS_statx, folder, name, flags, mask, found);
     if (status == 0) {
         found->stx_uid += is_number("STAGE_UID_OF", found->stx_ino);

@@ -66,10 +66,19 @@ class ExtractTest(ProgramTest):
         expect_copy(self, "extract: its last byte is another: the file stays", full)
 
     def test_other_files(self):
-        """`extract` replaces a file that is no image only with `--force`."""
-        flash_of(self)
+        """`extract` replaces a file that isn't one intact image only with `--force`."""
+        whole = flash_of(self)
         message = b"error: copy is no image\n"
-        for name, old in {"text": b"old", "the front of an image": read(ONE)[:31], "a flash": 8192 * b"\xff"}.items():
+        others = {
+            "text": b"old",
+            "the front of an image": read(ONE)[:31],
+            "a header alone": read(ONE)[:32],
+            "an image but for its last byte": read(ONE)[:-1],
+            "a damaged image": read(ONE)[:-1] + bytes([read(ONE)[-1] ^ 1]),
+            "an erased flash": 8192 * b"\xff",
+            "a flash, which begins with an image": whole,
+        }
+        for name, old in others.items():
             self.file("copy", old)
             arguments = extract("flash", 0, "primary")
             self.expect(f"extract: over {name}", arguments, 1, err=message)

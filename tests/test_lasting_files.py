@@ -308,6 +308,46 @@ class ReplacedFileTest(ProgramTest):
             self.case(f"{arguments[0]} by a link that is changed meanwhile", [] if is_right else [short(got)])
             os.remove(link)
 
+    def test_link_to_an_input(self):
+        """A command compares what its link leads to with its inputs when it has followed the link, not before."""
+        new_device(self)
+        link = f"{self.folder}/by-link"
+        for arguments, what in [
+            (["provision", "input", "by-link", ONE, ONE], "flash"),
+            (["make-image", "by-link", "input", "--version=1", "--force"], "image"),
+            (["extract", "input", "flash", "0", "primary", "by-link", "--force"], "image"),
+            (["sweep", "--sample=1", "--svg=by-link", "input", BOOT, ONE, ONE], "picture"),
+        ]:
+            path, device = put(self, "made", b""), put(self, "input", read(PAIR))
+            os.symlink("made", link)
+            got = self.run_program(arguments, env=staged(self, at="look by-link", do="ln -sf input by-link"))
+            faults = [] if got == (1, b"", f"error: {what} is an input\n".encode()) else [short(got)]
+            faults += [] if read(device) == read(PAIR) else ["the input was replaced"]
+            faults += [] if read(path) == b"" else ["a file was replaced"]
+            self.case(f"{arguments[0]} by a link that leads to an input when it is followed", faults)
+            os.remove(link)
+
+    def test_link_that_changes(self):
+        """A link is followed once: what is checked is what is replaced."""
+        new_device(self)
+        self.file("body", b"ABCD")
+        link, other = f"{self.folder}/by-link", f"{self.folder}/other"
+        for arguments in [
+            ["provision", PAIR, "by-link", ONE, ONE],
+            ["make-image", "by-link", "body", "--version=1"],
+            ["extract", PAIR, "flash", "0", "primary", "by-link"],
+            ["sweep", "--sample=1", "--svg=by-link", PAIR, BOOT, ONE, ONE],
+        ]:
+            # Each command replaces an empty file. `make-image` and `extract` would replace an image too.
+            path = put(self, "made", b"")
+            put(self, "other", read(PATCHED))
+            os.symlink("made", link)
+            got = self.run_program(arguments, env=staged(self, at="open made", do="ln -sf other by-link"))
+            faults = [] if is_done(got) and read(path) else [short(got)]
+            faults += [] if read(other) == read(PATCHED) else ["another file was replaced"]
+            self.case(f"{arguments[0]} by a link that is changed after it was followed", faults)
+            os.remove(link)
+
     def test_identity_bits(self):
         """A file that replaces one with set-user-ID or set-group-ID bits doesn't have them."""
         for arguments, name, _, _ in making(self):
