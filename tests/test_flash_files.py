@@ -2,8 +2,11 @@
 
 import fcntl
 import os
+import re
+import shutil
 import subprocess
 import time
+import unittest
 
 from support.builders import little
 from support.commands import ABC_MANIFEST
@@ -18,6 +21,9 @@ RUN, MADE = ["run", PAIR, "flash", "-"], ["provision", PAIR, "flash", ONE, ONE]
 
 # Commands that write or read the flash file, two of them through a link.
 ON_FLASH = [RUN, MADE, ["show", PAIR, "flash"], ["run", PAIR, "by-link", "-"], ["provision", PAIR, "by-link", ONE, ONE]]
+
+# A shell's command that runs a program in its folder, which is mounted read-only for this program alone.
+READ_ONLY = 'mount --bind . . && mount -o remount,bind,ro . && cd "$PWD" && exec "$0" "$@"'
 
 
 class FlashFileTest(ProgramTest):
@@ -115,6 +121,22 @@ class FlashFileTest(ProgramTest):
         is_read = self.run_program(["show", PAIR, "flash"], preexec_fn=obey_permissions)[0] == 0
         faults = [] if is_read and read(path) == whole else ["it was changed, or can't be shown"]
         self.case("a flash file that can only be read: its bytes", faults)
+
+    @unittest.skipUnless(os.getuid() == 0 and shutil.which("unshare"), "only root can mount a folder read-only")
+    def test_read_only_file_system(self):
+        """A run on a flash file of a file system that can only be read ends before its first event."""
+        whole, script = flash_of(self), f"boot\naccept {ABC_MANIFEST}\n".encode()
+        words = ["unshare", "--mount", "sh", "-c", READ_ONLY, self.program]
+        for options in ([], ["--durable"]):
+            arguments = ["run", *options, PAIR, "flash", "-"]
+            how = {"cwd": self.folder, "input": script, "timeout": LIMIT}
+            done = subprocess.run([*words, *arguments], capture_output=True, **how)
+            if re.match(b"mount|unshare", done.stderr):
+                self.skipTest(f"no folder can be mounted read-only here: {short(done.stderr)}")
+            got = done.returncode, done.stdout, done.stderr
+            faults = [] if got == (4, b"", CANNOT_MAKE) else [short(got)]
+            faults += [] if read(f"{self.folder}/flash") == whole else ["it was changed"]
+            self.case(f"a flash file of a read-only file system: {shown(arguments)}", faults)
 
     def test_written_in_place(self):
         """A run writes the flash file in place, by any of its names, and changes only the bytes that differ."""
