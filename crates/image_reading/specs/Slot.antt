@@ -32,3 +32,8 @@ IsSlotFault was_on Fails NoMemory = ⊥
 abbrev pub IsFoundIntact : List ℕ → Option Desc → Type 0
 IsFoundIntact bytes (Some description) = BeginsIntact bytes description
 IsFoundIntact bytes None = (fault : ImageError) × IsFrontFault bytes fault
+
+-- The result of a call that fills a place: the description in the place, or none.
+abbrev pub found_in : Desc → Bool → Option Desc
+found_in description true = Some description
+found_in description false = None

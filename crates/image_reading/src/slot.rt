@@ -8,7 +8,7 @@ ghost use Rattle.sector_map.specs.Map.{HasImage, IsLaidOut, length_of};
 ghost use Rattle.sector_map.specs.Part.{Slot};
 ghost use Rattle.image_reading.specs.Fault.{IsFirstFault, IsFrontFault};
 ghost use Rattle.image_reading.specs.Image.{BeginsIntact, IsIntact};
-ghost use Rattle.image_reading.specs.Slot.{IsFoundIntact, IsSlotFault, file_bytes, slot_bytes};
+ghost use Rattle.image_reading.specs.Slot.{IsFoundIntact, IsSlotFault, file_bytes, found_in, slot_bytes};
 ghost use Rattle.image_reading.specs.Span.{CanRead, bytes_of};
 ghost use Rattle.image_reading.specs.declared.desc.Desc.{Desc};
 ghost use Rattle.image_reading.specs.declared.error.ImageError.{ImageError};
@@ -93,10 +93,44 @@ pub fn intact_image<F: Flash>(
     ensures off { IfErr result (λ error. error ≡ FlashError.Off) }
     ensures ends { Ends result (F.chip flash.old) (F.chip flash.new) }
 {
+    let mut description = Desc::default();
+    if intact_image_into(flash, map, image, side, &mut description)? {
+        return Ok(Some(description));
+    }
+    Ok(None)
+}
+
+/// Describes the image at the beginning of a slot in a place of the caller, and returns whether it
+/// is intact. Does not allocate. It takes less stack than [`intact_image`], which returns the
+/// description. If the result isn't `Ok(true)`, the place may hold any description.
+///
+/// The map must be laid out on the flash, and must have the image. `image` is its number, from 0.
+///
+/// # Errors
+/// `Off` if the flash was off. The flash doesn't change in any case.
+pub fn intact_image_into<F: Flash>(
+    flash: &mut F,
+    map: &SectorMap,
+    image: u8,
+    side: Side,
+    description: &mut Desc,
+) -> Result<bool>
+    requires { HasImage map.now image (F.chip flash.old) }
+    ensures same { F.chip flash.new ≡ F.chip flash.old }
+    // The image is described, or one of its checks fails.
+    ensures found { IfOk result (λ is. IsFoundIntact
+        (slot_bytes map.now (F.chip flash.old) image side) (found_in description.new is)) }
+    ensures on { OnOk result ((F.chip flash.old).is_on ≡ true) }
+    ensures off { IfErr result (λ error. error ≡ FlashError.Off) }
+    ensures ends { Ends result (F.chip flash.old) (F.chip flash.new) }
+{
     flash.read(0, &mut [])?;
     match describe_front(flash, slot_span(map, image, side)) {
-        Ok(description) => Ok(Some(description)),
-        Err(_) => Ok(None),
+        Ok(front) => {
+            *description = front;
+            Ok(true)
+        }
+        Err(_) => Ok(false),
     }
 }
 
