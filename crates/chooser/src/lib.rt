@@ -2,7 +2,7 @@
 //!
 //! - Promises: The report is right and takes the greatest valid set. It lists the refusals in the
 //!   standard order. Its steps are counted.
-//! - Main calls: `choose`, `choose_counted`
+//! - Main calls: `choose`, `choose_into`, `choose_counted`
 //! - Allocates: no.
 //! - Callers: anybody who has a table: a bootloader of its slots, a program of its input.
 //!
@@ -18,5 +18,5 @@ mod own_reasons;
 mod reporting;
 mod steps;
 
-pub use choice::{choose, choose_counted};
+pub use choice::{choose, choose_counted, choose_into};
 pub use steps::{MOST_LOOKS, Steps, most_looks_are_as_specified};

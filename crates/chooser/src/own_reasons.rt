@@ -8,18 +8,17 @@ use arrayvec::ArrayVec;
 use certificate::{Entry, Image, MOST_REFUSALS, Reason, Refusal, Request, Table};
 use version_order::Dependency;
 
-/// Returns the requests that are refused by themselves, in the order of their images, each with its
-/// lowest reason.
-pub(crate) fn own_refusals(table: &Table) -> ArrayVec<Refusal, MOST_REFUSALS>
-    ensures { result.items ≡ own_refusals table.now }
+/// Writes to a place the requests that are refused by themselves, in the order of their images,
+/// each with its lowest reason.
+pub(crate) fn put_own_refusals(table: &Table, refusals: &mut ArrayVec<Refusal, MOST_REFUSALS>)
+    ensures { refusals.new.items ≡ own_refusals table.now }
 {
-    let mut refusals = ArrayVec::new();
+    refusals.clear();
     for (number, image) in table.images.iter().enumerate() {
         if let Some(refusal) = own_refusal(table, number as u8, image) {
             refusals.push(refusal);
         }
     }
-    refusals
 }
 
 /// Returns the refusal of an image's request by itself, if there is one.

@@ -1,22 +1,26 @@
-//! Makes the report of a list of refusals: the requests that aren't refused are taken.
+//! Reports the images for a list of refusals: the requests that aren't refused are taken.
 
 ghost use Rattle.std.specs.Prelude.{◌≡◌};
 ghost use Rattle.chooser.specs.Reported.{reported_image, reported_images};
 
 use crate::needs::is_refused;
 use arrayvec::ArrayVec;
-use certificate::{Image, MOST_REFUSALS, Refusal, Report, ReportedImage, Request, Table};
+use certificate::{Image, Refusal, ReportedImage, Request, Table};
+use common::limits::MOST_IMAGES;
 
-/// Returns the report that takes each intact request that these refusals don't name.
-pub(crate) fn report_of(table: &Table, refusals: ArrayVec<Refusal, MOST_REFUSALS>) -> Report
-    ensures images { result.images.items ≡ reported_images table.now refusals.items }
-    ensures refusals { result.refusals ≡ refusals }
+/// Writes to a place what the report says of each image: it takes each intact request that these
+/// refusals don't name.
+pub(crate) fn put_images(
+    table: &Table,
+    refusals: &[Refusal],
+    images: &mut ArrayVec<ReportedImage, MOST_IMAGES>,
+)
+    ensures { images.new.items ≡ reported_images table.now refusals.now }
 {
-    let mut images = ArrayVec::new();
+    images.clear();
     for (number, image) in table.images.iter().enumerate() {
-        images.push(reported_image(&refusals, number as u8, image));
+        images.push(reported_image(refusals, number as u8, image));
     }
-    Report { images, refusals }
 }
 
 /// Returns what the report says of an image if these requests are refused.

@@ -2,7 +2,7 @@ use Rattle.std.proofs.Common.{◌≡◌, ℕ, ◌+◌, ◌<◌, List, [], ◌∷
 use Rattle.std.specs.List.{enumerate_from}
 use Rattle.std.proofs.lemmas.List.{length-take-le, map-append, take_more}
 use Rattle.chooser.specs.Reported.{reported_image}
-use Rattle.chooser.proofs.reporting.report_of.Goals as goal
+use Rattle.chooser.proofs.reporting.put_images.Goals as goal
 
 -- One more element has the next number.
 enumerate_from-more : {X : Type 0} (n : ℕ) (xs : List X) (x : X)
@@ -29,11 +29,11 @@ map-numbered_more h xs i x within is =
 pub loop-number-preserved : goal.loop-number-preserved
 loop-number-preserved c =
     let same = c.deref-image-items.ensures.0 in
-    let more = map-numbered_more (reported_image c.args.refusals.items) c.args.table.now.images.items
+    let more = map-numbered_more (reported_image c.args.refusals.now) c.args.table.now.images.items
     c.loop-number.number c.image-item.result (rw same at c.loop-number-test.true) (rw same at c.image-item.is) in
     record {
       images =
-          rw (c.push.ensures.items, c.loop-number.invariant.images, c.reported_image.ensures, c.deref.ensures.0)
+          rw (c.push.ensures.items, c.loop-number.invariant.images, c.reported_image.ensures)
           (sym more);
       count = omega (arith, c.push.ensures.len, c.loop-number.invariant.count);
     }

@@ -4,7 +4,7 @@ use Rattle.chooser.specs.Counted.{drops_in}
 use Rattle.chooser.specs.Marks.{AreMarks}
 use Rattle.chooser.proofs.Counting.{most_looks}
 use Rattle.chooser.proofs.Order.{IsRefusalList}
-use Rattle.chooser.proofs.choice.all_refusals.Given as goal
+use Rattle.chooser.proofs.choice.put_refusals.Given as goal
 
 -- The list so far is in the standard order and refuses each request at most once. The marks are
 -- right for it, and the steps are counted.

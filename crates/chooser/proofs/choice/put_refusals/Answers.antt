@@ -9,18 +9,18 @@ use Rattle.chooser.specs.Marks.{AreMarks, AreMarksApartFrom}
 use Rattle.chooser.proofs.Counting.{drops_in-own, drops_in-push, most_looks, most_looks-le, most_looks-more}
 use Rattle.chooser.proofs.Marking.{AreMarksApartFrom-drop, next_need-within}
 use Rattle.chooser.proofs.Order.{IsRefusalList, IsRefusalList-start, IsRefusalList-push, length-refusal_list}
-use Rattle.chooser.proofs.choice.all_refusals.Goals as goal
+use Rattle.chooser.proofs.choice.put_refusals.Goals as goal
 
 pub loop-refusal-init : goal.loop-refusal-init
 loop-refusal-init c =
     let table = c.args.table.now in
-    let own = c.own_refusals-refusals.result.items in
+    let own = c.put_own_refusals.new.refusals.items in
     record {
-      listed = IsRefusalList-start table own c.own_refusals-refusals.ensures;
+      listed = IsRefusalList-start table own c.put_own_refusals.ensures;
       marked = subst (λ (refusals : List Refusal). AreMarks table refusals c.marks_after-marks.result) c.deref.ensures.0
           c.marks_after-marks.ensures;
       passes = refl;
-      drops = omega (arith, ap drops_in c.own_refusals-refusals.ensures, drops_in-own table);
+      drops = omega (arith, ap drops_in c.put_own_refusals.ensures, drops_in-own table);
       at_least = omega arith;
       at_most = omega arith;
     }
