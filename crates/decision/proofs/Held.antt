@@ -1,5 +1,6 @@
 -- The rows of a table are those of the images on the flash, row by row.
-use Rattle.std.proofs.Common.{◌≡◌, ℕ, Bool, List, [], ◌∷◌, ◌++◌, length, Option, Some, None, sym, subst}
+use Rattle.std.proofs.Common.{◌≡◌, ℕ, ◌+◌, Bool, List, [], ◌∷◌, ◌++◌, length, Option, Some, None, arith, sym, subst}
+use Rattle.std.proofs.lemmas.List.{length-append}
 use Rattle.flash_model.specs.Chip.{Chip}
 use Rattle.sector_map.specs.declared.layout.SectorMap.{SectorMap}
 use Rattle.sector_map.specs.Part.{is_member}
@@ -31,3 +32,7 @@ module _ (map : SectorMap) (old mid : Chip) (mask n : ℕ) (b : Bool) (read : Op
     asked = each_pushed (λ k found. IsRowAsked (view map old) (is_member mask k) k (Some found)) rows row
         before.asked (here (λ w m k r. IsRowAsked w m k r) asked some);
   }
+
+-- One more row.
+pub one_more : (rows : List Image) (row : Image) (n : ℕ) → length rows ≡ n → length (rows ++ row ∷ []) ≡ n + 1
+one_more rows row n count = omega (arith, count, length-append rows (row ∷ []))

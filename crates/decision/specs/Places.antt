@@ -1,5 +1,7 @@
 -- Results of calls that fill places of their caller, read as if they were returned.
-use Rattle.std.specs.Prelude.{ℕ, Option, Some, None, Result, Ok, Err}
+use Rattle.std.specs.Prelude.{ℕ, Bool, true, false, Option, Some, None, Result, Ok, Err}
+use Rattle.certificate.specs.declared.table.Request.{Request}
+use Rattle.certificate.specs.declared.table.Request.TheVariants as request
 use Rattle.certificate.specs.declared.table.Table.{Table}
 use Rattle.certificate.specs.declared.report.Report.{Report}
 use Rattle.machine.specs.declared.finding.Finding.{Finding}
@@ -24,3 +26,17 @@ finding_in table report Invalid = finding.Invalid
 abbrev pub read_as : {A B E : Type 0} → (A → B) → Result A E → Result B E
 read_as f (Ok v) = Ok (f v)
 read_as f (Err e) = Err e
+
+-- What a call left in a place, if it says that something is there.
+abbrev pub some_if : {A : Type 0} → A → Bool → Option A
+some_if value true = Some value
+some_if value false = None
+
+-- What a call left in a place, if it succeeded.
+abbrev pub in_place : {A B : Type 0} → A → B → A
+in_place value done = value
+
+-- A request that has an entry.
+abbrev pub IsEntryRequest : Request → Type 0
+IsEntryRequest (request.Entry entry) = Unit {0}
+IsEntryRequest other = ⊥

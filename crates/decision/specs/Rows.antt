@@ -1,5 +1,5 @@
 -- Contracts of the calls that read an image, a row or a table of the flash.
-use Rattle.std.specs.Prelude.{◌≡◌, ℕ, Bool, List, Option, Result, IfOk}
+use Rattle.std.specs.Prelude.{◌≡◌, ◌++◌, ◌∷◌, [], ℕ, Bool, List, Option, Result, IfOk}
 use Rattle.flash_model.specs.declared.error.FlashError.{FlashError}
 use Rattle.flash_model.specs.Chip.{Chip, Ends}
 use Rattle.sector_map.specs.declared.layout.SectorMap.{SectorMap}
@@ -8,6 +8,7 @@ use Rattle.sector_map.specs.declared.layout.Side.TheVariants.{Secondary}
 use Rattle.certificate.specs.declared.table.Entry.{Entry}
 use Rattle.certificate.specs.declared.table.Image.{Image}
 use Rattle.certificate.specs.declared.table.Request.{Request}
+use Rattle.certificate.specs.declared.table.Request.TheVariants as asks
 use Rattle.image_reading.specs.Slot.{slot_bytes}
 use Rattle.trailer.specs.Fields.{fields_at}
 use Rattle.upload.specs.Device.{DeviceState, Wanted}
@@ -18,6 +19,7 @@ use Rattle.machine.specs.Reading.{CanReadAt, HasRows, IsReadOf, IsReading, IsRow
 use Rattle.machine.specs.declared.finding.Reading.{Reading}
 use Rattle.decision.specs.Found.{IsEntryAt, IsEntryRead, IsReadBy, IsReadingAt, IsRowAt}
 use Rattle.decision.specs.Found.{IsRowAsked, IsRowHeld, IsTableHeld}
+use Rattle.decision.specs.Places.{read_as, some_if}
 
 -- A call reads what a decision uses of the image at the start of a slot.
 pub record ReadsSlot (map : SectorMap) (image : ℕ) (side : Side) (old new : Chip)
@@ -32,6 +34,13 @@ pub record ReadsSlot (map : SectorMap) (image : ℕ) (side : Side) (old new : Ch
   -- An entry is that of the intact image at the start of the slot.
   pub held : IfOk result (IsEntryRead (slot_bytes map old image side))
   pub ends : Ends result old new
+
+-- A call reads the image at the start of a slot into the entry of a request.
+pub record ReadsRequest (map : SectorMap) (image : ℕ) (side : Side) (old new : Chip)
+    (request : Request) (result : Result Bool FlashError) : Type 0 where
+  pub entry : Entry
+  pub is : request ≡ asks.Entry entry
+  pub reads : ReadsSlot map image side old new (read_as (some_if entry) result)
 
 -- What is requested for an image.
 abbrev pub IsRequestIn : SectorMap → ℕ → Chip → Request → Type 0
@@ -53,6 +62,14 @@ pub record ReadsRow (map : SectorMap) (image : ℕ) (is_swapped : Bool) (floor :
   pub held : IfOk result (IsRowHeld (view map old) is_swapped image)
   pub asked : IfOk result (IsRowAsked (view map old) is_swapped image)
   pub ends : Ends result old new
+
+-- A call adds the row of an image, whose slots are swapped or not.
+pub record PushesRow (map : SectorMap) (image : ℕ) (is_swapped : Bool) (floor : ℕ) (old new : Chip)
+    (before after : List Image) (result : Result Bool FlashError) : Type 0 where
+  pub row : Image
+  -- One row is added.
+  pub pushed : after ≡ before ++ row ∷ []
+  pub reads : ReadsRow map image is_swapped floor old new (read_as (some_if row) result)
 
 -- A call reads the table of a device. The slots of the mask's images are swapped.
 pub record ReadsTable (map : SectorMap) (mask : ℕ) (floors : List ℕ) (old new : Chip)

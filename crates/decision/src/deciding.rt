@@ -1,19 +1,16 @@
 //! The decision of a boot, from the table that it reads.
 
-ghost use Rattle.certificate.specs.Combination.{IsGreatest, IsValid, running_set};
-ghost use Rattle.certificate.specs.Rightness.{IsRight, taken_in};
-ghost use Rattle.certificate.specs.StandardOrder.{IsInStandardOrder};
 ghost use Rattle.sector_map.specs.Map.{IsLaidOut};
 ghost use Rattle.decision.specs.Deciding.{FindsDecision};
 ghost use Rattle.decision.specs.Places.{finding_in, read_as};
 
-use crate::device_table::{read_table, read_table_into};
+use crate::device_table::read_table_into;
 use crate::places::Verdict;
 use certificate::{Report, Table, is_valid};
-use chooser::choose;
+use chooser::choose_into;
 use common::limits::MOST_IMAGES;
 use flash_model::{Flash, Result};
-use machine::{Finding, Reading};
+use machine::Finding;
 use sector_map::SectorMap;
 
 /// Reads the table of a device, and returns the decision on its requests.
@@ -44,27 +41,13 @@ pub fn find<F: Flash>(
     requires laid_out { IsLaidOut map.now (F.chip flash.old) }
     ensures { FindsDecision map.now mask floors.now (F.chip flash.old) (F.chip flash.new) result }
 {
-    match read_table(flash, map, mask, floors)? {
-        Reading::DamagedAt(image) => Ok(Finding::Damaged(image)),
-        Reading::Read(table) => {
-            if !is_valid(&table) {
-                return Ok(Finding::Invalid);
-            }
-            let report = choose(&table);
-            Ok(Finding::Decided { table, report })
-        }
+    let mut table = Table::default();
+    let mut report = Report::default();
+    match find_into(flash, map, mask, floors, &mut table, &mut report)? {
+        Verdict::Decided => Ok(Finding::Decided { table, report }),
+        Verdict::Damaged(image) => Ok(Finding::Damaged(image)),
+        Verdict::Invalid => Ok(Finding::Invalid),
     }
-}
-
-/// Writes the report on a table. The temporary one takes stack only here.
-#[inline(never)]
-fn put_report(table: &Table, report: &mut Report)
-    requires { IsValid table.now running_set }
-    ensures right { IsRight table.now report.new }
-    ensures greatest { IsGreatest table.now (taken_in report.new) }
-    ensures standard { IsInStandardOrder table.now report.new.refusals.items }
-{
-    *report = choose(table);
 }
 
 /// Reads the table of a device into a place and the decision on its requests into another, as
@@ -90,7 +73,7 @@ pub fn find_into<F: Flash>(
             if !is_valid(table) {
                 return Ok(Verdict::Invalid);
             }
-            put_report(table, report);
+            choose_into(table, report);
             Ok(Verdict::Decided)
         }
     }

@@ -1,17 +1,19 @@
 //! Reading the table of running and requested images from the flash.
 
-ghost use Rattle.std.specs.Prelude.{◌≡◌, true, false};
+ghost use Rattle.std.specs.Prelude.{◌≡◌, ◌<◌, ◌++◌, ◌∷◌, [], length, true, false};
 ghost use Rattle.sector_map.specs.Map.{HasImage, IsLaidOut};
 ghost use Rattle.machine.specs.States.{entry_of};
-ghost use Rattle.decision.specs.Places.{read_as, reading_in};
-ghost use Rattle.decision.specs.Rows.{IsRequestIn, ReadsRow, ReadsSlot, ReadsTable};
+ghost use Rattle.common.specs.Limits.{MOST_IMAGES};
+ghost use Rattle.certificate.specs.declared.table.Image.{Image};
+ghost use Rattle.decision.specs.Places.{IsEntryRequest, in_place, read_as, reading_in, some_if};
+ghost use Rattle.decision.specs.Rows.{IsRequestIn, PushesRow, ReadsRequest, ReadsRow, ReadsSlot, ReadsTable};
 ghost use Rattle.decision.specs.Telling.{Tells};
 
 use arrayvec::ArrayVec;
 use certificate::{Entry, Image, Request, Table};
 use common::limits::MOST_IMAGES;
 use flash_model::{Flash, Result};
-use image_reading::{Desc, intact_image};
+use image_reading::{Desc, intact_image_into};
 use machine::Reading;
 use sector_map::{SectorMap, Side, is_member};
 use trailer::standing;
@@ -43,89 +45,190 @@ pub fn read_slot<F: Flash>(
     requires { HasImage map.now image (F.chip flash.old) }
     ensures { ReadsSlot map.now image side (F.chip flash.old) (F.chip flash.new) result }
 {
-    match intact_image(flash, map, image, side)? {
-        Some(description) => Ok(Some(entry_of(description))),
-        None => Ok(None),
+    let mut entry = Entry::default();
+    if read_slot_into(flash, map, image, side, &mut entry)? {
+        return Ok(Some(entry));
+    }
+    Ok(None)
+}
+
+/// Writes what a decision uses of an image's description to a place.
+fn put_entry(description: Desc, entry: &mut Entry)
+    ensures { entry.new ≡ entry_of description }
+{
+    entry.version = description.version;
+    entry.counter = description.counter;
+    entry.dependencies = description.dependencies;
+    entry.groups = description.groups;
+}
+
+/// Reads what a decision uses of the image at the start of a slot into a place, as `read_slot`.
+/// Returns whether the image is intact. Otherwise the place may hold anything.
+///
+/// # Errors
+/// `Off`: the flash was off. Nothing changes on the flash in any case.
+#[inline(never)]
+pub fn read_slot_into<F: Flash>(
+    flash: &mut F,
+    map: &SectorMap,
+    image: u8,
+    side: Side,
+    entry: &mut Entry,
+) -> Result<bool>
+    requires { HasImage map.now image (F.chip flash.old) }
+    ensures { ReadsSlot map.now image side (F.chip flash.old) (F.chip flash.new)
+        (read_as (some_if entry.new) result) }
+{
+    let mut description = Desc::default();
+    if !intact_image_into(flash, map, image, side, &mut description)? {
+        return Ok(false);
+    }
+    put_entry(description, entry);
+    Ok(true)
+}
+
+/// Writes a request of an empty entry to a place. The temporary one takes stack only here.
+#[inline(never)]
+fn put_blank_request(request: &mut Request)
+    ensures { IsEntryRequest request.new }
+{
+    *request = Request::Entry(Entry::default());
+}
+
+/// Reads the entry of a request into its place. Returns whether the image in the slot is intact.
+fn read_entry_into<F: Flash>(
+    flash: &mut F,
+    map: &SectorMap,
+    image: u8,
+    side: Side,
+    request: &mut Request,
+) -> Result<bool>
+    requires there { HasImage map.now image (F.chip flash.old) }
+    requires blank { IsEntryRequest request.old }
+    ensures { ReadsRequest map.now image side (F.chip flash.old) (F.chip flash.new)
+        request.new result }
+{
+    match request {
+        Request::Entry(entry) => read_slot_into(flash, map, image, side, entry),
+        _ => unreachable!(),
     }
 }
 
-/// Returns what is requested for an image.
-fn read_request<F: Flash>(flash: &mut F, map: &SectorMap, image: u8) -> Result<Request>
+/// Reads what is requested for an image into a place.
+fn read_request_into<F: Flash>(
+    flash: &mut F,
+    map: &SectorMap,
+    image: u8,
+    request: &mut Request,
+) -> Result<()>
     requires { HasImage map.now image (F.chip flash.old) }
-    ensures { Tells (IsRequestIn map.now image) (F.chip flash.old) (F.chip flash.new) result }
+    ensures { Tells (IsRequestIn map.now image) (F.chip flash.old) (F.chip flash.new)
+        (read_as (in_place request.new) result) }
 {
     match standing(flash, map, image)? {
-        None => Ok(Request::None),
-        Some(_) => match read_slot(flash, map, image, Side::Secondary)? {
-            None => Ok(Request::Damaged),
-            Some(entry) => Ok(Request::Entry(entry)),
-        },
+        None => *request = Request::None,
+        Some(_) => {
+            put_blank_request(request);
+            if !read_entry_into(flash, map, image, Side::Secondary, request)? {
+                *request = Request::Damaged;
+            }
+        }
     }
+    Ok(())
 }
 
-/// Returns the row of an image whose slots aren't swapped, or none if the image that runs, which is
-/// in the primary slot, isn't intact.
+/// Reads the row of an image whose slots aren't swapped into a place. Returns whether the image that
+/// runs, which is in the primary slot, is intact.
 fn read_row_at_rest<F: Flash>(
     flash: &mut F,
     map: &SectorMap,
     image: u8,
     floor: u32,
-) -> Result<Option<Image>>
+    row: &mut Image,
+) -> Result<bool>
     requires { HasImage map.now image (F.chip flash.old) }
-    ensures { ReadsRow map.now image false floor (F.chip flash.old) (F.chip flash.new) result }
+    ensures { ReadsRow map.now image false floor (F.chip flash.old) (F.chip flash.new)
+        (read_as (some_if row.new) result) }
 {
-    let Some(running) = read_slot(flash, map, image, Side::Primary)? else {
-        return Ok(None);
-    };
-    let request = read_request(flash, map, image)?;
-    Ok(Some(Image {
-        running,
-        request,
-        floor,
-    }))
+    if !read_slot_into(flash, map, image, Side::Primary, &mut row.running)? {
+        return Ok(false);
+    }
+    read_request_into(flash, map, image, &mut row.request)?;
+    row.floor = floor;
+    Ok(true)
 }
 
-/// Returns the row of an image whose slots are swapped, or none if the image that ran, which is in
-/// the secondary slot, or the requested one, in the primary slot, isn't intact.
+/// Reads the row of an image whose slots are swapped into a place. Returns whether the image that
+/// ran, which is in the secondary slot, and the requested one, in the primary slot, are intact.
 fn read_swapped_row<F: Flash>(
     flash: &mut F,
     map: &SectorMap,
     image: u8,
     floor: u32,
-) -> Result<Option<Image>>
+    row: &mut Image,
+) -> Result<bool>
     requires { HasImage map.now image (F.chip flash.old) }
-    ensures { ReadsRow map.now image true floor (F.chip flash.old) (F.chip flash.new) result }
+    ensures { ReadsRow map.now image true floor (F.chip flash.old) (F.chip flash.new)
+        (read_as (some_if row.new) result) }
 {
-    let Some(running) = read_slot(flash, map, image, Side::Secondary)? else {
-        return Ok(None);
-    };
-    let Some(requested) = read_slot(flash, map, image, Side::Primary)? else {
-        return Ok(None);
-    };
-    Ok(Some(Image {
-        running,
-        request: Request::Entry(requested),
-        floor,
-    }))
+    if !read_slot_into(flash, map, image, Side::Secondary, &mut row.running)? {
+        return Ok(false);
+    }
+    put_blank_request(&mut row.request);
+    if !read_entry_into(flash, map, image, Side::Primary, &mut row.request)? {
+        return Ok(false);
+    }
+    row.floor = floor;
+    Ok(true)
 }
 
-/// Returns the row of an image, or none if an image that it needs isn't intact.
-#[inline(never)]
-fn read_row<F: Flash>(
+/// Reads the row of an image into a place. Returns whether the images that it needs are intact.
+fn read_row_into<F: Flash>(
     flash: &mut F,
     map: &SectorMap,
     image: u8,
     is_swapped: bool,
     floor: u32,
-) -> Result<Option<Image>>
+    row: &mut Image,
+) -> Result<bool>
     requires { HasImage map.now image (F.chip flash.old) }
-    ensures { ReadsRow map.now image is_swapped floor (F.chip flash.old) (F.chip flash.new) result }
+    ensures { ReadsRow map.now image is_swapped floor (F.chip flash.old) (F.chip flash.new)
+        (read_as (some_if row.new) result) }
 {
     if is_swapped {
-        read_swapped_row(flash, map, image, floor)
+        read_swapped_row(flash, map, image, floor, row)
     } else {
-        read_row_at_rest(flash, map, image, floor)
+        read_row_at_rest(flash, map, image, floor, row)
     }
+}
+
+/// Adds an empty row. The temporary one takes stack only here.
+#[inline(never)]
+fn push_blank_row(images: &mut ArrayVec<Image, MOST_IMAGES>)
+    requires { length images.old.items < MOST_IMAGES }
+    ensures { (blank : Image) × (images.new.items ≡ images.old.items ++ blank ∷ []) }
+{
+    images.push(Image::default());
+}
+
+/// Adds the row of an image. Returns whether the images that it needs are intact. Otherwise the row
+/// may be any.
+fn push_row<F: Flash>(
+    flash: &mut F,
+    map: &SectorMap,
+    image: u8,
+    is_swapped: bool,
+    floor: u32,
+    images: &mut ArrayVec<Image, MOST_IMAGES>,
+) -> Result<bool>
+    requires there { HasImage map.now image (F.chip flash.old) }
+    requires few { length images.old.items < MOST_IMAGES }
+    ensures { PushesRow map.now image is_swapped floor (F.chip flash.old) (F.chip flash.new)
+        images.old.items images.new.items result }
+{
+    let last = images.len();
+    push_blank_row(images);
+    read_row_into(flash, map, image, is_swapped, floor, &mut images[last])
 }
 
 /// Reads the table of a device: what runs, and what is requested.
@@ -146,15 +249,11 @@ pub fn read_table<F: Flash>(
     requires laid_out { IsLaidOut map.now (F.chip flash.old) }
     ensures { ReadsTable map.now mask floors.now (F.chip flash.old) (F.chip flash.new) result }
 {
-    let mut images = ArrayVec::new();
-    for image in 0..map.images {
-        let is_swapped = is_member(mask, image);
-        match read_row(flash, map, image, is_swapped, floors[usize::from(image)])? {
-            None => return Ok(Reading::DamagedAt(image)),
-            Some(row) => images.push(row),
-        }
+    let mut table = Table::default();
+    match read_table_into(flash, map, mask, floors, &mut table)? {
+        None => Ok(Reading::Read(table)),
+        Some(image) => Ok(Reading::DamagedAt(image)),
     }
-    Ok(Reading::Read(Table { images }))
 }
 
 /// Reads the table of a device into a place, as `read_table`. If an image that the table needs isn't
@@ -176,9 +275,9 @@ pub fn read_table_into<F: Flash>(
     table.images.clear();
     for image in 0..map.images {
         let is_swapped = is_member(mask, image);
-        match read_row(flash, map, image, is_swapped, floors[usize::from(image)])? {
-            None => return Ok(Some(image)),
-            Some(row) => table.images.push(row),
+        let floor = floors[usize::from(image)];
+        if !push_row(flash, map, image, is_swapped, floor, &mut table.images)? {
+            return Ok(Some(image));
         }
     }
     Ok(None)

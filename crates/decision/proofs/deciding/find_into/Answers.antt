@@ -48,12 +48,12 @@ returns-else-not-is_valid g c =
       ok = λ s can. record {
         rows = subst (λ r. IsReading s (reading_in c.read_table_into.new.table r)) c.in-None.is (c.in_ok-image.ensures.ok s can);
         valid = search rules;
-        right = c.put_report.ensures.right;
-        greatest = c.put_report.ensures.greatest;
-        standard = c.put_report.ensures.standard;
+        right = c.choose_into.ensures.right;
+        greatest = c.choose_into.ensures.greatest;
+        standard = c.choose_into.ensures.standard;
       };
       whole = λ i taken.
-          taken_below c.put_report.new.report c.args.map.now.images i (c.put_report.ensures.right.images ∙ rows) taken;
+          taken_below c.choose_into.new.report c.args.map.now.images i (c.choose_into.ensures.right.images ∙ rows) taken;
       rows = rows;
       front = subst
           (λ r. IsReadingAt (view c.args.map.now (g.F.Flash.chip c.args.flash.now)) c.args.mask
@@ -62,7 +62,7 @@ returns-else-not-is_valid g c =
         subst
             (λ r. IsTableHeld (view c.args.map.now (g.F.Flash.chip c.args.flash.now)) c.args.mask
             (reading_in c.read_table_into.new.table r)) c.in-None.is c.in_ok-image.ensures.held,
-        c.put_report.ensures.greatest,
+        c.choose_into.ensures.greatest,
       );
       ends = search rules;
     }

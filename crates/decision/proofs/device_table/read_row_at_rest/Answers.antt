@@ -8,6 +8,6 @@ returns g c = record {
   ok = search rules;
   front = search rules;
   held = search rules;
-  asked = none_asked_for c.args.map.now _ _ c.args.image _ c.read_slot.ensures.same c.in_ok-request.ensures.ok;
+  asked = none_asked_for c.args.map.now _ _ c.args.image _ c.read_slot_into.ensures.same c.in_ok-read_request_into.ensures.ok;
   ends = search rules;
 }

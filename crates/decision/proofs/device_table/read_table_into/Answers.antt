@@ -1,9 +1,10 @@
-use Rattle.std.proofs.Common.{rules, ◌≡◌, sym, subst, ap, ◌<◌, arith, ◌+◌, slice_index}
+use Rattle.std.proofs.Common.{rules, ◌≡◌, ◌∙◌, sym, subst, ap, ◌<◌, arith, ◌+◌, length, slice_index}
 use Rattle.sector_map.specs.Map.{IsLaidOut}
 use Rattle.upload.specs.View.{view}
 use Rattle.machine.specs.Reading.{AreRowsOf}
 use Rattle.decision.specs.Found.{AreReadable, AreRowsHeld}
-use Rattle.decision.proofs.Held.{held_more, held_none}
+use Rattle.decision.proofs.Held.{held_more, held_none, one_more}
+use Rattle.decision.specs.Places.{some_if}
 use Rattle.machine.proofs.Rows.{lowest_damaged, row_none, row_some, rows_more, rows_none, whole_table}
 use Rattle.decision.proofs.Readable.{lowest_at, readable_more, readable_none}
 use Rattle.decision.proofs.device_table.read_table_into.Goals as goal
@@ -21,44 +22,47 @@ loop-image-init g c = record {
       (sym c.clear.ensures) (held_none _ c.args.mask);
 }
 
-pub returns-in-None : goal.returns-in-None
-returns-in-None g c = record {
-  same = search rules;
-  ok = λ s can.
-      let lt : c.loop-image.image < c.args.map.now.images = omega arith in
-      lowest_damaged c.args.map.now _ s _ _ _ _ can (c.loop-image.invariant.rows s can) lt
-      (row_none c.args.map.now _ _ s _ _ _ _ _ _ can lt c.loop-image.invariant.same c.is_member-is_swapped.ensures
-      c.in_ok-read_row.ensures.ok c.in-None.is);
-  whole = search rules;
-  front =
-      let lt : c.loop-image.image < c.args.map.now.images = omega arith in
-      lowest_at c.args.map.now _ _ c.args.mask c.loop-image.image _ _ c.loop-image.invariant.same
-      c.is_member-is_swapped.ensures lt c.in_ok-read_row.ensures.front c.in-None.is c.loop-image.invariant.front;
-  held = tt;
-  ends = search rules;
-}
+pub returns-then-not-branch : goal.returns-then-not-branch
+returns-then-not-branch g c =
+    let pushed = c.in_ok-push_row.ensures in
+    let none = ap (λ is. some_if pushed.row is) c.if-not-branch.true in
+    let lt : c.loop-image.image < c.args.map.now.images = omega arith in
+    record {
+      same = search rules;
+      ok = λ s can.
+          lowest_damaged c.args.map.now _ s _ _ _ _ can (c.loop-image.invariant.rows s can) lt
+          (row_none c.args.map.now _ _ s _ _ _ _ _ _ can lt c.loop-image.invariant.same c.is_member-is_swapped.ensures
+          pushed.reads.ok none);
+      whole = search rules;
+      front = lowest_at c.args.map.now _ _ c.args.mask c.loop-image.image _ _ c.loop-image.invariant.same
+          c.is_member-is_swapped.ensures lt pushed.reads.front none c.loop-image.invariant.front;
+      held = tt;
+      ends = search rules;
+    }
 
 pub loop-image-preserved : goal.loop-image-preserved
 loop-image-preserved g c =
+    let pushed = c.in_ok-push_row.ensures in
+    let some = ap (λ is. some_if pushed.row is) c.if-not-branch.false in
     let lt : c.loop-image.image < c.args.map.now.images = omega arith in
     record {
-      laid_out = subst (λ chip. IsLaidOut c.args.map.now chip) (sym c.read_row.ensures.same)
+      laid_out = subst (λ chip. IsLaidOut c.args.map.now chip) (sym pushed.reads.same)
           c.loop-image.invariant.laid_out;
       few = search rules;
-      same = search rules;
-      count = search rules;
-      rows = λ s can. subst (λ l. AreRowsOf s c.args.floors.now (c.loop-image.image + 1) l) (sym c.push.ensures.items)
+      same = pushed.reads.same ∙ c.loop-image.invariant.same;
+      count = ap (λ l. length l) pushed.pushed ∙ one_more _ _ _ c.loop-image.invariant.count;
+      rows = λ s can. subst (λ l. AreRowsOf s c.args.floors.now (c.loop-image.image + 1) l) (sym pushed.pushed)
           (rows_more s _ _ _ _ (c.loop-image.invariant.rows s can)
           (row_some c.args.map.now _ _ s _ _ _ _ _ _ _ can lt c.loop-image.invariant.same
-          c.is_member-is_swapped.ensures c.in_ok-read_row.ensures.ok c.in-Some.is
+          c.is_member-is_swapped.ensures pushed.reads.ok some
           (ap (λ k. slice_index c.args.floors.now k) c.from.ensures)));
       front = readable_more c.args.map.now _ _ c.args.mask c.loop-image.image _ _ _ c.loop-image.invariant.same
-          c.is_member-is_swapped.ensures c.in_ok-read_row.ensures.front c.in-Some.is c.loop-image.invariant.front;
+          c.is_member-is_swapped.ensures pushed.reads.front some c.loop-image.invariant.front;
       held = subst (λ l. AreRowsHeld (view c.args.map.now (g.F.Flash.chip c.args.flash.now)) c.args.mask l)
-          (sym c.push.ensures.items)
+          (sym pushed.pushed)
           (held_more c.args.map.now _ _ c.args.mask c.loop-image.image _ _ _ _ c.loop-image.invariant.same
-          c.loop-image.invariant.count c.is_member-is_swapped.ensures c.in_ok-read_row.ensures.held
-          c.in_ok-read_row.ensures.asked c.in-Some.is c.loop-image.invariant.held);
+          c.loop-image.invariant.count c.is_member-is_swapped.ensures pushed.reads.held
+          pushed.reads.asked some c.loop-image.invariant.held);
     }
 
 pub returns : goal.returns
