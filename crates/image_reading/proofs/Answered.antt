@@ -88,3 +88,12 @@ pub only_file_in_slot : (bytes : List ℕ) (was_on : Bool) (result : Result Desc
     → IsOnlyInSlot (IsIntact bytes) (IsFirstFault bytes) was_on result
 only_file_in_slot bytes was_on result described failed =
     only_in_slot (IsIntact bytes) (IsFirstFault bytes) was_on result (whole_answered bytes) described failed
+
+-- An error of a call that fills a place is the same error of a call that returns the description.
+pub same_error : (first second : SlotError) → ◌≡◌ {A = Result Desc SlotError} (Err first) (Err second)
+    → ◌≡◌ {A = Result Unit SlotError} (Err first) (Err second)
+same_error first second e = cc
+
+pub ok_no_error : (description : Desc) (fault : SlotError)
+    → ◌≡◌ {A = Result Desc SlotError} (Ok description) (Err fault) → ⊥
+ok_no_error description fault e = cc

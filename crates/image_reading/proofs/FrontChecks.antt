@@ -5,9 +5,9 @@ use Rattle.std.proofs.lemmas.List.{append-nil}
 use Rattle.sha2.specs.Sha256.{sha256}
 use Rattle.flash_model.specs.Chip.{Chip}
 use Rattle.image_header.specs.declared.header.Header.{Header}
+use Rattle.image_reading.specs.declared.desc.Desc.{Desc}
 use Rattle.image_reading.specs.declared.error.ImageError.{ImageError}
 use Rattle.image_reading.specs.declared.error.ImageError.TheVariants.{TrailingBytes}
-use Rattle.image_reading.specs.declared.fields.Needs.{Needs}
 use Rattle.image_reading.specs.declared.front.Front.{Front}
 use Rattle.image_reading.specs.Area.{values_of}
 use Rattle.image_reading.specs.Checks.{AllPass, Check, FailsWith}
@@ -36,16 +36,17 @@ abbrev pub ReadsDigestFault : Chip → Front → ImageError → Type 0
 ReadsDigestFault chip front fault = (values : List (List ℕ)) → IsOccurrence chip values [] front.unprotected.digest
     → FailsWith (digest_checks values (bytes_of chip front.hashed)) fault
 
--- The gathered dependencies and groups of a front are these needs.
-abbrev pub ReadsNeeds : Front → Needs → Type 0
-ReadsNeeds front needs = (values others : List (List ℕ)) → HaveMetDependencies values [] front.protected.dependencies
-    → HaveMetGroups others [] front.protected.groups → AreNeeds values others needs
+-- The gathered dependencies and groups of a front are those of a description.
+abbrev pub ReadsNeeds : Front → Desc → Type 0
+ReadsNeeds front needs = (values others : List (List ℕ))
+    → HaveMetDependencies values [] needs.dependencies.items front.protected.dependencies
+    → HaveMetGroups others [] needs.groups.items front.protected.groups → AreNeeds values others needs
 
 -- This is the fault of the gathered dependencies and groups.
-abbrev pub ReadsNeedsFault : Front → ImageError → Type 0
-ReadsNeedsFault front fault = (values others : List (List ℕ))
-    → HaveMetDependencies values [] front.protected.dependencies
-    → HaveMetGroups others [] front.protected.groups → FailsWith (need_checks values others) fault
+abbrev pub ReadsNeedsFault : Front → Desc → ImageError → Type 0
+ReadsNeedsFault front needs fault = (values others : List (List ℕ))
+    → HaveMetDependencies values [] needs.dependencies.items front.protected.dependencies
+    → HaveMetGroups others [] needs.groups.items front.protected.groups → FailsWith (need_checks values others) fault
 
 -- The gathered security counter of a front is this one.
 abbrev pub ReadsCounter : Chip → Front → ℕ → Type 0
@@ -81,14 +82,14 @@ passes_digest chip bytes front image is own =
     sym (unprotected_values chip bytes front image digest_kind is) ∙ own
     ∙ ap (λ (hashed : List ℕ). sha256 hashed ∷ []) is.hashed
 
-digest_passed : (chip : Chip) (bytes : List ℕ) (front : Front) (image : Image) → IsFrontOf chip bytes front image
-    → HasGathered chip front → ReadsDigest chip front → PassesDigest image
-digest_passed chip bytes front image is gathered read =
+digest_passed : (chip : Chip) (bytes : List ℕ) (front : Front) (image : Image) (needs : Desc)
+    → IsFrontOf chip bytes front image → HasGathered chip front needs → ReadsDigest chip front → PassesDigest image
+digest_passed chip bytes front image needs is gathered read =
     passes_digest chip bytes front image is
     (read (values_at digest_kind chip front.unprotected.entries) gathered.unprotected)
 
 -- The needs of a front's entries are the image's.
-has_needs : (chip : Chip) (bytes : List ℕ) (front : Front) (image : Image) (needs : Needs)
+has_needs : (chip : Chip) (bytes : List ℕ) (front : Front) (image : Image) (needs : Desc)
     → IsFrontOf chip bytes front image
     → AreNeeds (values_at dependency_kind chip front.protected.entries)
     (values_at group_kind chip front.protected.entries) needs
@@ -100,8 +101,8 @@ has_needs chip bytes front image needs is needed =
     let half = subst (λ (values : List (List ℕ)). AreNeeds values read needs) same needed in
     subst (λ (groups : List (List ℕ)). AreNeeds (dependency_values image) groups needs) same_groups half
 
-needs_passed : (chip : Chip) (bytes : List ℕ) (front : Front) (image : Image) (needs : Needs)
-    → IsFrontOf chip bytes front image → HasGathered chip front → ReadsNeeds front needs
+needs_passed : (chip : Chip) (bytes : List ℕ) (front : Front) (image : Image) (needs : Desc)
+    → IsFrontOf chip bytes front image → HasGathered chip front needs → ReadsNeeds front needs
     → AreNeeds (dependency_values image) (group_values image) needs
     × AllPass (need_checks (dependency_values image) (group_values image))
 needs_passed chip bytes front image needs is gathered checked =
@@ -144,10 +145,10 @@ first_in_entries chip bytes front image fault is failed =
     )
 
 -- The fault of the digest entries is the first fault.
-pub first_in_digest : (chip : Chip) (bytes : List ℕ) (front : Front) (image : Image) (fault : ImageError)
-    → IsFrontOf chip bytes front image → HasGathered chip front → ReadsDigestFault chip front fault
-    → IsFrontFault bytes fault
-first_in_digest chip bytes front image fault is gathered failed =
+pub first_in_digest : (chip : Chip) (bytes : List ℕ) (front : Front) (image : Image) (needs : Desc)
+    (fault : ImageError) → IsFrontOf chip bytes front image → HasGathered chip front needs
+    → ReadsDigestFault chip front fault → IsFrontFault bytes fault
+first_in_digest chip bytes front image needs fault is gathered failed =
     let read = values_at digest_kind chip front.unprotected.entries in
     let same = unprotected_values chip bytes front image digest_kind is in
     let found = failed read gathered.unprotected in
@@ -158,10 +159,10 @@ first_in_digest chip bytes front image fault is gathered failed =
     (fails_in_first (first_checks image) (later_checks image) fault own)
 
 -- If the digest passes, the fault of the dependencies and groups is the first fault.
-pub first_in_needs : (chip : Chip) (bytes : List ℕ) (front : Front) (image : Image) (fault : ImageError)
-    → IsFrontOf chip bytes front image → HasGathered chip front → ReadsDigest chip front
-    → ReadsNeedsFault front fault → IsFrontFault bytes fault
-first_in_needs chip bytes front image fault is gathered read failed =
+pub first_in_needs : (chip : Chip) (bytes : List ℕ) (front : Front) (image : Image) (needs : Desc)
+    (fault : ImageError) → IsFrontOf chip bytes front image → HasGathered chip front needs → ReadsDigest chip front
+    → ReadsNeedsFault front needs fault → IsFrontFault bytes fault
+first_in_needs chip bytes front image needs fault is gathered read failed =
     let dependencies = values_at dependency_kind chip front.protected.entries in
     let groups = values_at group_kind chip front.protected.entries in
     let found = failed dependencies groups gathered.protected.dependencies gathered.protected.groups in
@@ -171,15 +172,15 @@ first_in_needs chip bytes front image fault is gathered read failed =
     let own =
     subst (λ (values : List (List ℕ)). FailsWith (need_checks (dependency_values image) values) fault) same_groups
     half in
-    let digest = digest_passes _ (hashed_bytes image) (digest_passed chip bytes front image is gathered read) in
-    let needs = need_checks (dependency_values image) (group_values image) in
+    let digest = digest_passes _ (hashed_bytes image) (digest_passed chip bytes front image needs is gathered read) in
+    let checks = need_checks (dependency_values image) (group_values image) in
     first_in_entries chip bytes front image fault is
     (fails_in_second (first_checks image) (later_checks image) fault digest
-    (fails_in_first needs (counter_check (counter_values image)) fault own))
+    (fails_in_first checks (counter_check (counter_values image)) fault own))
 
 -- If these pass too, the fault of the security counter is the first fault.
-pub first_in_counter : (chip : Chip) (bytes : List ℕ) (front : Front) (image : Image) (needs : Needs)
-    (fault : ImageError) → IsFrontOf chip bytes front image → HasGathered chip front → ReadsDigest chip front
+pub first_in_counter : (chip : Chip) (bytes : List ℕ) (front : Front) (image : Image) (needs : Desc)
+    (fault : ImageError) → IsFrontOf chip bytes front image → HasGathered chip front needs → ReadsDigest chip front
     → ReadsNeeds front needs → ReadsCounterFault chip front fault → IsFrontFault bytes fault
 first_in_counter chip bytes front image needs fault is gathered read checked failed =
     let values = values_at counter_kind chip front.protected.entries in
@@ -187,7 +188,7 @@ first_in_counter chip bytes front image needs fault is gathered read checked fai
     let same = protected_values chip bytes front image counter_kind is in
     let own = subst (λ (values : List (List ℕ)). FailsWith (counter_check values) fault) same found in
     let passes = (needs_passed chip bytes front image needs is gathered checked).1 in
-    let digest = digest_passes _ (hashed_bytes image) (digest_passed chip bytes front image is gathered read) in
+    let digest = digest_passes _ (hashed_bytes image) (digest_passed chip bytes front image needs is gathered read) in
     first_in_entries chip bytes front image fault is
     (fails_in_second (first_checks image) (later_checks image) fault digest
     (fails_in_second (need_checks (dependency_values image) (group_values image))
@@ -196,8 +197,8 @@ first_in_counter chip bytes front image needs fault is gathered read checked fai
 -- ---- the description
 
 -- If a front passes all checks, the bytes begin with an intact image.
-pub intact_front : (chip : Chip) (bytes : List ℕ) (front : Front) (image : Image) (digest : List ℕ) (needs : Needs)
-    (counter : ℕ) → IsFrontOf chip bytes front image → HasGathered chip front → ReadsDigest chip front
+pub intact_front : (chip : Chip) (bytes : List ℕ) (front : Front) (image : Image) (digest : List ℕ) (needs : Desc)
+    (counter : ℕ) → IsFrontOf chip bytes front image → HasGathered chip front needs → ReadsDigest chip front
     → ReadsNeeds front needs → digest ≡ sha256 (bytes_of chip front.hashed) → ReadsCounter chip front counter
     → BeginsIntact bytes
     (desc front.header.version counter front.header.flags front.length needs.dependencies.items needs.groups.items
@@ -223,6 +224,6 @@ intact_front chip bytes front image digest needs counter is gathered read checke
           groups = passed.0.groups;
           counter = counts;
         },
-        passes_counter image counter (digest_passed chip bytes front image is gathered read) passed.1 counts,
+        passes_counter image counter (digest_passed chip bytes front image needs is gathered read) passed.1 counts,
       ),
     )

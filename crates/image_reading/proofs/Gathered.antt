@@ -1,21 +1,22 @@
 -- The items that a walk over the entries of one type keeps.
 use Rattle.std.proofs.Common.{◌≡◌, ℕ, ◌+◌, ◌<◌, ◌≤◌, Bool, true, false, List, [], ◌∷◌, ◌++◌, length, map, refl, sym, ap, subst, ◌∙◌, arith}
 use Rattle.std.specs.List.{AllByRecursion, Any}
-use Rattle.std.proofs.lemmas.Bool.{le-ltb, lt-ltb, ltb-true, ltb-false}
+use Rattle.std.proofs.lemmas.Bool.{le-ltb, lt-ltb, ltb-true, ltb-false, true≢false}
 use Rattle.std.proofs.lemmas.List.{append-nil, append_assoc, length-map, length-take, length_push, map-append, take_all, take-append-le}
 use Rattle.common.proofs.Items.{AllByRecursion-push, Any-between}
-use Rattle.image_reading.specs.declared.met.Met.{Met}
+use Rattle.image_reading.specs.declared.met.ItemFaults.{ItemFaults}
 use Rattle.image_reading.specs.Area.{Entry, values_of}
 use Rattle.image_reading.specs.Gathered.{AreKept, HasMet, Spelling}
 use Rattle.image_reading.proofs.FieldLaws.{values_of-same}
 
 -- If the next entry has the type, its value is the next one.
 pub HasMet-next : {X : Type 0} (spelling : Spelling X) (most : ℕ) (values : List (List ℕ)) (kind : ℕ) (entry : Entry)
-    (left : List Entry) (met : Met X most) → entry.kind ≡ kind
-    → HasMet spelling most values (values_of kind (entry ∷ left)) met
-    → HasMet spelling most values (entry.value ∷ values_of kind left) met
-HasMet-next spelling most values kind entry left met same before =
-    subst (λ (rest : List (List ℕ)). HasMet spelling most values rest met) (values_of-same kind entry left same) before
+    (left : List Entry) (items : List X) (faults : ItemFaults) → entry.kind ≡ kind
+    → HasMet spelling most values (values_of kind (entry ∷ left)) items faults
+    → HasMet spelling most values (entry.value ∷ values_of kind left) items faults
+HasMet-next spelling most values kind entry left items faults same before =
+    subst (λ (rest : List (List ℕ)). HasMet spelling most values rest items faults)
+    (values_of-same kind entry left same) before
 
 -- One more value encodes an item.
 spelled_more : {X : Type 0} (bytes : X → List ℕ) (values left : List (List ℕ)) (value : List ℕ) (found : List X)
@@ -36,6 +37,21 @@ AreKept-none {X = X} spelling most values = record {
   first = sym (take_all {A = X} most [] (omega arith));
   over = sym (le-ltb most 0 (omega arith));
 }
+
+-- No value was read yet, and there is no item and no fault.
+pub HasMet-none : {X : Type 0} (spelling : Spelling X) (most : ℕ) (items : List X) (faults : ItemFaults)
+    → items ≡ [] → faults.bad ≡ false → faults.too_many ≡ false
+    → (values : List (List ℕ)) → HasMet spelling most values values items faults
+HasMet-none spelling most items faults none good few = λ values. record {
+  bad = λ bad. absurd (true≢false (sym bad ∙ good));
+  kept = λ _. rw (none, few) (AreKept-none spelling most values);
+}
+
+-- No more items are kept than the limit.
+pub few_kept : {X : Type 0} (spelling : Spelling X) (most : ℕ) (values left : List (List ℕ)) (items : List X)
+    (too_many : Bool) → AreKept spelling most values left items too_many → length items ≤ most
+few_kept spelling most values left items too_many kept =
+    omega (arith, ap length kept.first, length-take most kept.found)
 
 -- One more item is kept, if the limit isn't reached.
 pub AreKept-push : {X : Type 0} (spelling : Spelling X) (most : ℕ) (values left : List (List ℕ)) (value : List ℕ)

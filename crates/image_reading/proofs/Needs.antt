@@ -6,7 +6,8 @@ use Rattle.common.proofs.Items.{AllByRecursion-no_Any, same_cons}
 use Rattle.version_order.specs.declared.dependency.Dependency.{Dependency}
 use Rattle.version_order.specs.declared.group.Group.{Group}
 use Rattle.image_reading.specs.declared.error.ImageError.TheVariants.{BadDependency, TooManyDependencies, TooManyGroups}
-use Rattle.image_reading.specs.declared.met.Met.{Met}
+use Rattle.image_reading.specs.declared.desc.Desc.{Desc}
+use Rattle.image_reading.specs.declared.met.ItemFaults.{ItemFaults}
 use Rattle.image_reading.specs.Fields.{HaveForms, IsDependencyForm, IsGroupForm, SpellCounter, SpellDependencies, SpellDigest, SpellGroups, counter_check, dependency_bytes, digest_checks, digest_kind, need_checks}
 use Rattle.image_reading.specs.Gathered.{AreKept, HaveMetDependencies, HaveMetGroups, Spelling, dependency_spelling, group_spelling}
 use Rattle.image_reading.specs.Area.{values_of}
@@ -83,14 +84,15 @@ groups-good = spelled-good group_spelling IsGroupForm-group_bytes
 -- ---- what a walk has kept
 
 -- If no value is bad, each has its form.
-forms_kept : (values others : List (List ℕ)) (dependencies : Met Dependency MOST_DEPENDENCIES)
-    (groups : Met Group MOST_GROUPS) → HaveMetDependencies values [] dependencies → HaveMetGroups others [] groups
-    → dependencies.bad ≡ false → groups.bad ≡ false → HaveForms values others
-forms_kept values others dependencies groups met met_groups good good_groups =
+forms_kept : (values others : List (List ℕ)) (description : Desc) (faults group_faults : ItemFaults)
+    → HaveMetDependencies values [] description.dependencies.items faults
+    → HaveMetGroups others [] description.groups.items group_faults
+    → faults.bad ≡ false → group_faults.bad ≡ false → HaveForms values others
+forms_kept values others description faults group_faults met met_groups good good_groups =
     let kept = met.kept good in
     let kept_groups = met_groups.kept good_groups in
-    let all = found_at_end dependency_spelling 16 values dependencies.kept.items dependencies.too_many kept in
-    let all_groups = found_at_end group_spelling 4 others groups.kept.items groups.too_many kept_groups in (
+    let all = found_at_end dependency_spelling 16 values description.dependencies.items faults.too_many kept in
+    let all_groups = found_at_end group_spelling 4 others description.groups.items group_faults.too_many kept_groups in (
       (kept.found, record { fit = all.fit; spelled = all.spelled }),
       (kept_groups.found, record { fit = all_groups.fit; spelled = all_groups.spelled }),
     )
@@ -104,27 +106,29 @@ bad_forms values others (inr some) forms = groups-good others forms.1.0
     (record { fit = forms.1.1.fit; spelled = forms.1.1.spelled }) some
 
 -- There were too many dependencies.
-pub too_many_dependencies : (values others : List (List ℕ)) (dependencies : Met Dependency MOST_DEPENDENCIES)
-    (groups : Met Group MOST_GROUPS) → HaveMetDependencies values [] dependencies → HaveMetGroups others [] groups
-    → dependencies.bad ≡ false → groups.bad ≡ false → dependencies.too_many ≡ true
+pub too_many_dependencies : (values others : List (List ℕ)) (description : Desc) (faults group_faults : ItemFaults)
+    → HaveMetDependencies values [] description.dependencies.items faults
+    → HaveMetGroups others [] description.groups.items group_faults
+    → faults.bad ≡ false → group_faults.bad ≡ false → faults.too_many ≡ true
     → FailsWith (need_checks values others) TooManyDependencies
-too_many_dependencies values others dependencies groups met met_groups good good_groups many =
+too_many_dependencies values others description faults group_faults met met_groups good good_groups many =
     let over : 16 < length values =
-    many_at_end dependency_spelling 16 values dependencies.kept.items dependencies.too_many (met.kept good) many in
-    let forms = forms_kept values others dependencies groups met met_groups good good_groups in
+    many_at_end dependency_spelling 16 values description.dependencies.items faults.too_many (met.kept good) many in
+    let forms = forms_kept values others description faults group_faults met met_groups good good_groups in
     inr (forms, inl (λ few. omega (arith, few, over), refl))
 
 -- There were not too many dependencies, but too many groups.
-pub too_many_groups : (values others : List (List ℕ)) (dependencies : Met Dependency MOST_DEPENDENCIES)
-    (groups : Met Group MOST_GROUPS) → HaveMetDependencies values [] dependencies → HaveMetGroups others [] groups
-    → dependencies.bad ≡ false → groups.bad ≡ false → dependencies.too_many ≡ false → groups.too_many ≡ true
+pub too_many_groups : (values others : List (List ℕ)) (description : Desc) (faults group_faults : ItemFaults)
+    → HaveMetDependencies values [] description.dependencies.items faults
+    → HaveMetGroups others [] description.groups.items group_faults
+    → faults.bad ≡ false → group_faults.bad ≡ false → faults.too_many ≡ false → group_faults.too_many ≡ true
     → FailsWith (need_checks values others) TooManyGroups
-too_many_groups values others dependencies groups met met_groups good good_groups few many =
+too_many_groups values others description faults group_faults met met_groups good good_groups few many =
     let within =
-    few_at_end dependency_spelling 16 values dependencies.kept.items dependencies.too_many (met.kept good) few in
+    few_at_end dependency_spelling 16 values description.dependencies.items faults.too_many (met.kept good) few in
     let over : 4 < length others =
-    many_at_end group_spelling 4 others groups.kept.items groups.too_many (met_groups.kept good_groups) many in
-    let forms = forms_kept values others dependencies groups met met_groups good good_groups in
+    many_at_end group_spelling 4 others description.groups.items group_faults.too_many (met_groups.kept good_groups) many in
+    let forms = forms_kept values others description faults group_faults met met_groups good good_groups in
     inr (forms, inr (within, inl (λ few. omega (arith, few, over), refl)))
 
 -- If a value is bad, that is the fault.

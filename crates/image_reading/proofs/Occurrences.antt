@@ -1,12 +1,10 @@
 -- Fields that were gathered can be read, and no fields are gathered if there are no entries.
 use Rattle.std.proofs.Common.{◌≡◌, ℕ, List, [], length, sym, ap, subst, arith}
-use Rattle.common.specs.declared.limits.TheConstants.{MOST_DEPENDENCIES, MOST_GROUPS}
 use Rattle.flash_model.specs.Chip.{Chip}
-use Rattle.version_order.specs.declared.dependency.Dependency.{Dependency}
-use Rattle.version_order.specs.declared.group.Group.{Group}
+use Rattle.image_reading.specs.declared.desc.Desc.{Desc}
 use Rattle.image_reading.specs.declared.gathering.Occurrence.{Occurrence}
 use Rattle.image_reading.specs.declared.gathering.Occurrence.TheVariants.{Absent, Once, Repeated}
-use Rattle.image_reading.specs.declared.met.Met.{Met}
+use Rattle.image_reading.specs.declared.met.ItemFaults.{ItemFaults}
 use Rattle.image_reading.specs.declared.span.Span.{Span}
 use Rattle.image_reading.specs.Area.{values_of}
 use Rattle.image_reading.specs.Fields.{counter_kind, dependency_kind, group_kind}
@@ -28,16 +26,16 @@ no_values kind bytes none =
     ap (values_of kind) (entries_of-none bytes (first_entry-short bytes (omega (arith, none))))
 
 -- So no fields are gathered from no bytes.
-pub HasGatheredProtected-none : (chip : Chip) (entries : Span) (dependencies : Met Dependency MOST_DEPENDENCIES)
-    (groups : Met Group MOST_GROUPS) → length (bytes_of chip entries) ≡ 0
-    → ((values : List (List ℕ)) → HaveMetDependencies values values dependencies)
-    → ((values : List (List ℕ)) → HaveMetGroups values values groups)
+pub HasGatheredProtected-none : (chip : Chip) (entries : Span) (faults group_faults : ItemFaults) (description : Desc)
+    → length (bytes_of chip entries) ≡ 0
+    → ((values : List (List ℕ)) → HaveMetDependencies values values description.dependencies.items faults)
+    → ((values : List (List ℕ)) → HaveMetGroups values values description.groups.items group_faults)
     → HasGatheredProtected chip
-    (record { entries = entries; dependencies = dependencies; groups = groups; counter = Absent })
-HasGatheredProtected-none chip entries dependencies groups none fresh fresh_groups = record {
-  dependencies = subst (λ (values : List (List ℕ)). HaveMetDependencies values [] dependencies)
+    (record { entries = entries; dependencies = faults; groups = group_faults; counter = Absent }) description
+HasGatheredProtected-none chip entries faults group_faults description none fresh fresh_groups = record {
+  dependencies = subst (λ (values : List (List ℕ)). HaveMetDependencies values [] description.dependencies.items faults)
       (sym (no_values dependency_kind (bytes_of chip entries) none)) (fresh []);
-  groups = subst (λ (values : List (List ℕ)). HaveMetGroups values [] groups)
+  groups = subst (λ (values : List (List ℕ)). HaveMetGroups values [] description.groups.items group_faults)
       (sym (no_values group_kind (bytes_of chip entries) none)) (fresh_groups []);
   counter = no_values counter_kind (bytes_of chip entries) none;
 }

@@ -1,6 +1,7 @@
 -- The image at the beginning of bytes, whatever values its entries have and whatever follows it.
 use Rattle.std.specs.Prelude.{◌≡◌, ℕ, ◌<◌, ◌≤◌, ◌⊎◌, List, [], length, drop, Some}
 use Rattle.flash_model.specs.Chip.{Chip}
+use Rattle.image_reading.specs.declared.desc.Desc.{Desc}
 use Rattle.image_reading.specs.declared.front.Front.{Front}
 use Rattle.image_reading.specs.Area.{entries_bytes, protected_magic}
 use Rattle.image_reading.specs.Fault.{IsArea, entries_at}
@@ -32,8 +33,9 @@ pub record IsFrontOf (chip : Chip) (bytes : List ℕ) (front : Front) (image : I
 abbrev pub IsFront : Chip → List ℕ → Front → Type 0
 IsFront chip bytes front = (image : Image) × IsFrontOf chip bytes front image
 
--- The bytes that the digest covers can be read, and the fields of both areas were gathered.
-pub record HasGathered (chip : Chip) (front : Front) : Type 0 where
+-- The bytes that the digest covers can be read, and the fields of both areas were gathered. The
+-- dependencies and the groups are in a description.
+pub record HasGathered (chip : Chip) (front : Front) (description : Desc) : Type 0 where
   pub hashed : CanRead chip front.hashed
-  pub protected : HasGatheredProtected chip front.protected
+  pub protected : HasGatheredProtected chip front.protected description
   pub unprotected : HasGatheredUnprotected chip front.unprotected

@@ -6,12 +6,12 @@ use Rattle.common.specs.Limits.{MOST_DEPENDENCIES, MOST_GROUPS}
 use Rattle.flash_model.specs.Chip.{Chip}
 use Rattle.version_order.specs.declared.dependency.Dependency.{Dependency}
 use Rattle.version_order.specs.declared.group.Group.{Group}
-use Rattle.image_reading.specs.declared.fields.Needs.{Needs}
+use Rattle.image_reading.specs.declared.desc.Desc.{Desc}
 use Rattle.image_reading.specs.declared.gathering.Occurrence.{Occurrence}
 use Rattle.image_reading.specs.declared.gathering.Occurrence.TheVariants.{Absent, Once, Repeated}
 use Rattle.image_reading.specs.declared.gathering.ProtectedFields.{ProtectedFields}
 use Rattle.image_reading.specs.declared.gathering.UnprotectedFields.{UnprotectedFields}
-use Rattle.image_reading.specs.declared.met.Met.{Met}
+use Rattle.image_reading.specs.declared.met.ItemFaults.{ItemFaults}
 use Rattle.image_reading.specs.Fields.{FitsDependency, FitsGroup, IsDependencyForm, IsGroupForm, SpellDependencies, SpellGroups, counter_kind, dependency_bytes, dependency_kind, digest_kind, group_bytes, group_kind}
 use Rattle.image_reading.specs.SlotTlvs.{values_at}
 use Rattle.image_reading.specs.Span.{CanRead, bytes_of}
@@ -55,31 +55,41 @@ pub record AreKept {X : Type 0} (spelling : Spelling X) (most : ℕ) (values lef
 
 -- The values encode items, or it was recorded that a value doesn't have the form of one.
 pub record HasMet {X : Type 0} (spelling : Spelling X) (most : ℕ) (values left : List (List ℕ))
-    (met : Met X most) : Type 0 where
-  pub bad : met.bad ≡ true → Any (λ value. spelling.IsForm value → ⊥) values
-  pub kept : met.bad ≡ false → AreKept spelling most values left met.kept.items met.too_many
+    (items : List X) (faults : ItemFaults) : Type 0 where
+  pub bad : faults.bad ≡ true → Any (λ value. spelling.IsForm value → ⊥) values
+  pub kept : faults.bad ≡ false → AreKept spelling most values left items faults.too_many
 
 -- Dependencies were read.
-abbrev pub HaveMetDependencies : List (List ℕ) → List (List ℕ)
-    → Met Dependency MOST_DEPENDENCIES → Type 0
-HaveMetDependencies values left met = HasMet dependency_spelling MOST_DEPENDENCIES values left met
+abbrev pub HaveMetDependencies : List (List ℕ) → List (List ℕ) → List Dependency
+    → ItemFaults → Type 0
+HaveMetDependencies values left items faults =
+    HasMet dependency_spelling MOST_DEPENDENCIES values left items faults
 
 -- Groups were read.
-abbrev pub HaveMetGroups : List (List ℕ) → List (List ℕ) → Met Group MOST_GROUPS → Type 0
-HaveMetGroups values left met = HasMet group_spelling MOST_GROUPS values left met
+abbrev pub HaveMetGroups : List (List ℕ) → List (List ℕ) → List Group → ItemFaults → Type 0
+HaveMetGroups values left items faults = HasMet group_spelling MOST_GROUPS values left items faults
 
--- Values encode these dependencies and others these groups, no more than an image may have.
-pub record AreNeeds (values others : List (List ℕ)) (needs : Needs) : Type 0 where
-  pub dependencies : SpellDependencies values needs.dependencies.items
-  pub groups : SpellGroups others needs.groups.items
-  pub few_dependencies : length needs.dependencies.items ≤ MOST_DEPENDENCIES
-  pub few_groups : length needs.groups.items ≤ MOST_GROUPS
+-- Values encode the dependencies of a description and others its groups, no more than an image may
+-- have.
+pub record AreNeeds (values others : List (List ℕ)) (description : Desc) : Type 0 where
+  pub dependencies : SpellDependencies values description.dependencies.items
+  pub groups : SpellGroups others description.groups.items
+  pub few_dependencies : length description.dependencies.items ≤ MOST_DEPENDENCIES
+  pub few_groups : length description.groups.items ≤ MOST_GROUPS
 
--- The dependencies, the groups and the security counter of a protected area were gathered.
-pub record HasGatheredProtected (chip : Chip) (fields : ProtectedFields) : Type 0 where
+-- No dependency and no group was gathered yet.
+pub record HasNoNeeds (description : Desc) : Type 0 where
+  pub dependencies : description.dependencies.items ≡ []
+  pub groups : description.groups.items ≡ []
+
+-- The dependencies, the groups and the security counter of a protected area were gathered. The
+-- dependencies and the groups are in a description.
+pub record HasGatheredProtected (chip : Chip) (fields : ProtectedFields) (description : Desc)
+    : Type 0 where
   pub dependencies : HaveMetDependencies (values_at dependency_kind chip fields.entries) []
-      fields.dependencies
-  pub groups : HaveMetGroups (values_at group_kind chip fields.entries) [] fields.groups
+      description.dependencies.items fields.dependencies
+  pub groups : HaveMetGroups (values_at group_kind chip fields.entries) []
+      description.groups.items fields.groups
   pub counter : IsOccurrence chip (values_at counter_kind chip fields.entries) [] fields.counter
 
 -- The digest of an unprotected area was gathered.

@@ -1,5 +1,5 @@
 -- The bytes of a slot and of a file in it, and the errors of describing them.
-use Rattle.std.specs.Prelude.{◌≡◌, ℕ, Bool, false, true, List, Option, Some, None, take}
+use Rattle.std.specs.Prelude.{◌≡◌, ℕ, Bool, false, true, List, Option, Some, None, Result, Ok, Err, take}
 use Rattle.flash_model.specs.Chip.{Chip}
 use Rattle.flash_model.specs.declared.error.FlashError.TheVariants.{Off}
 use Rattle.sector_map.specs.declared.layout.SectorMap.{SectorMap}
@@ -37,3 +37,8 @@ IsFoundIntact bytes None = (fault : ImageError) × IsFrontFault bytes fault
 abbrev pub found_in : Desc → Bool → Option Desc
 found_in description true = Some description
 found_in description false = None
+
+-- The result of a call that fills a place, read as if it returned the description.
+abbrev pub read_in : {E : Type 0} → Desc → Result Unit E → Result Desc E
+read_in description (Ok done) = Ok description
+read_in description (Err fault) = Err fault

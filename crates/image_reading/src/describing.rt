@@ -13,7 +13,7 @@ ghost use Rattle.image_reading.specs.declared.error.ImageError.{ImageError};
 
 use crate::desc::Desc;
 use crate::error::ImageError;
-use crate::fields::{checked_needs, counter, digest_value, is_digest};
+use crate::fields::{check_needs, counter, digest_value, is_digest};
 use crate::front::Front;
 use crate::gathering::Occurrence;
 use crate::medium::{Medium, Memory};
@@ -68,11 +68,28 @@ pub(crate) fn describe_whole<M: Medium>(medium: &mut M, bytes: Span) -> Result<D
     ensures described { IfOk result (IsIntact (bytes_of (M.chip medium.old) bytes)) }
     ensures fault { IfErr result (IsFirstFault (bytes_of (M.chip medium.old) bytes)) }
 {
-    let description = describe_front(medium, bytes)?;
+    let mut description = Desc::default();
+    describe_whole_into(medium, bytes, &mut description)?;
+    Ok(description)
+}
+
+/// Describes the image that these bytes are, in a place of the caller. No bytes may follow it.
+pub(crate) fn describe_whole_into<M: Medium>(
+    medium: &mut M,
+    bytes: Span,
+    description: &mut Desc,
+) -> Result<(), ImageError>
+    requires { CanRead (M.chip medium.old) bytes }
+    ensures same { M.chip medium.new ≡ M.chip medium.old }
+    ensures described { OnOk result
+        (IsIntact (bytes_of (M.chip medium.old) bytes) description.new) }
+    ensures fault { IfErr result (IsFirstFault (bytes_of (M.chip medium.old) bytes)) }
+{
+    describe_front_into(medium, bytes, description)?;
     if description.length < bytes.len as u64 {
         return Err(ImageError::TrailingBytes);
     }
-    Ok(description)
+    Ok(())
 }
 
 /// Describes the image at the beginning of these bytes, whatever follows it.
@@ -82,21 +99,32 @@ pub(crate) fn describe_front<M: Medium>(medium: &mut M, bytes: Span) -> Result<D
     ensures described { IfOk result (BeginsIntact (bytes_of (M.chip medium.old) bytes)) }
     ensures fault { IfErr result (IsFrontFault (bytes_of (M.chip medium.old) bytes)) }
 {
-    let front = Front::read(medium, bytes)?;
-    let digest = own_digest(medium, front.hashed, front.unprotected.digest)?;
-    // Dependencies and groups are moved out of the front, so its other fields are read first.
-    let (header, length, counter_entry) = (front.header, front.length, front.protected.counter);
-    let needs = checked_needs(front.protected.dependencies, front.protected.groups)?;
-    let counter = counter(medium, counter_entry)?;
-    Ok(Desc {
-        version: header.version,
-        counter,
-        flags: header.flags,
-        dependencies: needs.dependencies,
-        groups: needs.groups,
-        digest,
-        length: length as u64,
-    })
+    let mut description = Desc::default();
+    describe_front_into(medium, bytes, &mut description)?;
+    Ok(description)
+}
+
+/// Describes the image at the beginning of these bytes, whatever follows it, in a place of the
+/// caller.
+pub(crate) fn describe_front_into<M: Medium>(
+    medium: &mut M,
+    bytes: Span,
+    description: &mut Desc,
+) -> Result<(), ImageError>
+    requires { CanRead (M.chip medium.old) bytes }
+    ensures same { M.chip medium.new ≡ M.chip medium.old }
+    ensures described { OnOk result
+        (BeginsIntact (bytes_of (M.chip medium.old) bytes) description.new) }
+    ensures fault { IfErr result (IsFrontFault (bytes_of (M.chip medium.old) bytes)) }
+{
+    let front = Front::read(medium, bytes, description)?;
+    description.digest = own_digest(medium, front.hashed, front.unprotected.digest)?;
+    check_needs(front.protected.dependencies, front.protected.groups)?;
+    description.counter = counter(medium, front.protected.counter)?;
+    description.version = front.header.version;
+    description.flags = front.header.flags;
+    description.length = front.length as u64;
+    Ok(())
 }
 
 // The SHA-256 of the hashed bytes, if the only digest entry holds it.

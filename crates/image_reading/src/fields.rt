@@ -1,22 +1,21 @@
 //! Reads the fields that entries hold: digest, security counter, dependencies and groups.
 
-ghost use Rattle.std.specs.Prelude.{◌≡◌, ◌≢◌, ◌↔◌, ℕ, ◌∷◌, [], List, length, IsTrue, IfOk, IfErr, IfSome, IfNone};
+ghost use Rattle.std.specs.Prelude.{◌≡◌, ◌≢◌, ◌↔◌, ℕ, ◌∷◌, [], List, length, IsTrue, IfOk, IfErr, IfSome, IfNone, OnOk};
 ghost use Rattle.flash_model.specs.Chip.{Chip};
 ghost use Rattle.image_reading.specs.Checks.{FailsWith};
 ghost use Rattle.image_reading.specs.Fields.{FitsDependency, IsDependencyForm, SpellCounter, counter_bytes, counter_check, dependency_bytes, digest_checks, need_checks};
 ghost use Rattle.image_reading.specs.Gathered.{AreNeeds, CanReadOccurrence, HaveMetDependencies, HaveMetGroups, IsOccurrence};
 ghost use Rattle.image_reading.specs.Span.{CanRead, bytes_of};
+ghost use Rattle.image_reading.specs.declared.desc.Desc.{Desc};
 
 use crate::error::ImageError;
 use crate::format::{COUNTER_LENGTH, DEPENDENCY_LENGTH, DIGEST_LENGTH};
 use crate::gathering::Occurrence;
 use crate::medium::Medium;
-use crate::met::{Met, Spelled};
+use crate::met::{ItemFaults, Spelled};
 use crate::span::Span;
-use arrayvec::ArrayVec;
 use byteorder::{ByteOrder, LittleEndian};
-use common::limits::{MOST_DEPENDENCIES, MOST_GROUPS};
-use version_order::{Dependency, Group, Version};
+use version_order::{Dependency, Version};
 
 /// The span of the value of the only digest entry.
 ///
@@ -123,29 +122,21 @@ fn dependency_of(value: &[u8]) -> Option<Dependency>
     })
 }
 
-/// What an image requires of the images of the device.
-#[derive(Drop)]
-pub(crate) struct Needs {
-    /// The dependencies, in the order of their entries.
-    pub(crate) dependencies: ArrayVec<Dependency, MOST_DEPENDENCIES>,
-    /// The groups, in the order of their entries.
-    pub(crate) groups: ArrayVec<Group, MOST_GROUPS>,
-}
-
 /// Checks the dependencies and the groups, after all entries were read.
 ///
 /// # Errors
 /// `BadDependency` if a value doesn't have its form. Otherwise `TooManyDependencies` if there are
-/// more than [`MOST_DEPENDENCIES`] dependencies. Otherwise `TooManyGroups` if there are more than
-/// [`MOST_GROUPS`] groups.
-pub(crate) fn checked_needs(
-    dependencies: Met<Dependency, MOST_DEPENDENCIES>,
-    groups: Met<Group, MOST_GROUPS>,
-) -> Result<Needs, ImageError>
-    ensures ok { (values others : List (List ℕ)) → HaveMetDependencies values [] dependencies
-        → HaveMetGroups others [] groups → IfOk result (AreNeeds values others) }
-    ensures err { (values others : List (List ℕ)) → HaveMetDependencies values [] dependencies
-        → HaveMetGroups others [] groups → IfErr result (FailsWith (need_checks values others)) }
+/// more than [`MOST_DEPENDENCIES`](common::limits::MOST_DEPENDENCIES) dependencies. Otherwise
+/// `TooManyGroups` if there are more than [`MOST_GROUPS`](common::limits::MOST_GROUPS) groups.
+pub(crate) fn check_needs(dependencies: ItemFaults, groups: ItemFaults) -> Result<(), ImageError>
+    ensures ok { (description : Desc) (values others : List (List ℕ))
+        → HaveMetDependencies values [] description.dependencies.items dependencies
+        → HaveMetGroups others [] description.groups.items groups
+        → OnOk result (AreNeeds values others description) }
+    ensures err { (description : Desc) (values others : List (List ℕ))
+        → HaveMetDependencies values [] description.dependencies.items dependencies
+        → HaveMetGroups others [] description.groups.items groups
+        → IfErr result (FailsWith (need_checks values others)) }
 {
     if dependencies.bad || groups.bad {
         return Err(ImageError::BadDependency);
@@ -156,8 +147,5 @@ pub(crate) fn checked_needs(
     if groups.too_many {
         return Err(ImageError::TooManyGroups);
     }
-    Ok(Needs {
-        dependencies: dependencies.kept,
-        groups: groups.kept,
-    })
+    Ok(())
 }

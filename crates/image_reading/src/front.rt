@@ -8,19 +8,20 @@ ghost use Rattle.image_reading.specs.Front.{HasGathered, IsFront, IsProtected};
 ghost use Rattle.image_reading.specs.Gathered.{HasGatheredProtected, HasGatheredUnprotected};
 ghost use Rattle.image_reading.specs.Span.{CanRead, bytes_of};
 
+use crate::desc::Desc;
 use crate::error::ImageError;
 use crate::format::{HEAD_LENGTH, PROTECTED_MAGIC, UNPROTECTED_MAGIC};
 use crate::gathering::{
     Occurrence, ProtectedFields, UnprotectedFields, protected_fields, unprotected_fields,
 };
 use crate::medium::Medium;
-use crate::met::Met;
+use crate::met::ItemFaults;
 use crate::span::Span;
 use crate::walk::head;
 use image_header::{HEADER_LENGTH, Header, HeaderError};
 
 /// The image at the beginning of bytes: header, body, protected area and unprotected area.
-#[derive(Drop)]
+#[derive(Clone, Copy)]
 pub(crate) struct Front {
     /// The header.
     pub(crate) header: Header,
@@ -36,20 +37,26 @@ pub(crate) struct Front {
 
 impl Front {
     /// Reads the image at the beginning of bytes, whatever values its entries have and whatever
-    /// follows it.
-    pub(crate) fn read<M: Medium>(medium: &mut M, bytes: Span) -> Result<Front, ImageError>
+    /// follows it. Its dependencies and groups replace those of the description.
+    pub(crate) fn read<M: Medium>(
+        medium: &mut M,
+        bytes: Span,
+        description: &mut Desc,
+    ) -> Result<Front, ImageError>
         requires { CanRead (M.chip medium.old) bytes }
         ensures same { M.chip medium.new ≡ M.chip medium.old }
         // The result is an image, by its parts, with the fields of its areas.
         ensures found { IfOk result
             (IsFront (M.chip medium.old) (bytes_of (M.chip medium.old) bytes)) }
-        ensures gathered { IfOk result (HasGathered (M.chip medium.old)) }
+        ensures gathered { IfOk result (λ front.
+            HasGathered (M.chip medium.old) front description.new) }
         // The error is the first check that fails.
         ensures fault { IfErr result (IsFrontFault (bytes_of (M.chip medium.old) bytes)) }
     {
         let header = header(medium, bytes)?;
         let protected_place = usize::from(header.header_size) + header.body_size as usize;
-        let protected = protected_area(medium, bytes, protected_place, header.protected_size)?;
+        let size = header.protected_size;
+        let protected = protected_area(medium, bytes, protected_place, size, description)?;
         let unprotected_place = protected_place + usize::from(header.protected_size);
         let unprotected = unprotected_area(medium, bytes, unprotected_place)?;
         Ok(Front {
@@ -78,32 +85,37 @@ fn header<M: Medium>(medium: &mut M, bytes: Span) -> Result<Header, HeaderError>
 }
 
 // Reads the fields of the protected area, which has `size` bytes. It has no fields if it is absent.
+// Its dependencies and groups replace those of the description.
 fn protected_area<M: Medium>(
     medium: &mut M,
     bytes: Span,
     place: usize,
     size: u16,
+    description: &mut Desc,
 ) -> Result<ProtectedFields, ImageError>
     requires readable { CanRead (M.chip medium.old) bytes }
     requires near { place < 2 ^ 62 }
     ensures same { M.chip medium.new ≡ M.chip medium.old }
     ensures found { IfOk result (λ fields. IsProtected (bytes_of (M.chip medium.old) bytes)
         place size (bytes_of (M.chip medium.old) fields.entries)) }
-    ensures gathered { IfOk result (HasGatheredProtected (M.chip medium.old)) }
+    ensures gathered { IfOk result (λ fields.
+        HasGatheredProtected (M.chip medium.old) fields description.new) }
     ensures some { OnErr result (0 < size) }
     ensures fault { IfErr result
         (IsAreaFault (bytes_of (M.chip medium.old) bytes) place protected_magic (Some size)) }
 {
+    description.dependencies.clear();
+    description.groups.clear();
     if size == 0 {
         return Ok(ProtectedFields {
             entries: bytes.first(0),
-            dependencies: Met::new(),
-            groups: Met::new(),
+            dependencies: ItemFaults::new(),
+            groups: ItemFaults::new(),
             counter: Occurrence::Absent,
         });
     }
     let entries = area_entries(medium, bytes, place, PROTECTED_MAGIC, Some(size))?;
-    protected_fields(medium, entries).ok_or(ImageError::BadTlvSize)
+    protected_fields(medium, entries, description).ok_or(ImageError::BadTlvSize)
 }
 
 // Reads the fields of the unprotected area.

@@ -4,17 +4,16 @@ ghost use Rattle.std.specs.Prelude.{◌≡◌, ℕ, ◌+◌, ◌^◌, ◌<◌, �
 ghost use Rattle.flash_model.specs.Chip.{Chip};
 ghost use Rattle.image_reading.specs.Area.{Entry, values_of};
 ghost use Rattle.image_reading.specs.Fault.{IsFilled};
-ghost use Rattle.image_reading.specs.Gathered.{HasGatheredProtected, HasGatheredUnprotected, IsOccurrence};
+ghost use Rattle.image_reading.specs.Gathered.{HasGatheredProtected, HasGatheredUnprotected, HasNoNeeds, IsOccurrence};
 ghost use Rattle.image_reading.specs.SlotTlvs.{slot_tlv_view};
 ghost use Rattle.image_reading.specs.Span.{CanRead, bytes_of};
 
+use crate::desc::Desc;
 use crate::format::{COUNTER_KIND, DEPENDENCY_KIND, DIGEST_KIND, GROUP_KIND};
 use crate::medium::Medium;
-use crate::met::Met;
+use crate::met::ItemFaults;
 use crate::slot_tlvs::{SlotTlv, SlotTlvs};
 use crate::span::Span;
-use common::limits::{MOST_DEPENDENCIES, MOST_GROUPS};
-use version_order::{Dependency, Group};
 
 /// How often a type occurs of which an area may have only one entry.
 #[derive(Clone, Copy)]
@@ -46,16 +45,16 @@ impl Occurrence {
     }
 }
 
-/// The fields of a protected area.
-#[derive(Drop)]
+/// The fields of a protected area, except its dependencies and groups: these are in a description.
+#[derive(Clone, Copy)]
 pub(crate) struct ProtectedFields {
     /// The span of the entries, without the area's first four bytes; no bytes if the area is
     /// absent.
     pub(crate) entries: Span,
-    /// The dependencies of these entries.
-    pub(crate) dependencies: Met<Dependency, MOST_DEPENDENCIES>,
-    /// The groups of these entries.
-    pub(crate) groups: Met<Group, MOST_GROUPS>,
+    /// The faults of the dependencies of these entries.
+    pub(crate) dependencies: ItemFaults,
+    /// The faults of the groups of these entries.
+    pub(crate) groups: ItemFaults,
     /// The security counter of these entries.
     pub(crate) counter: Occurrence,
 }
@@ -69,23 +68,35 @@ pub(crate) struct UnprotectedFields {
     pub(crate) digest: Occurrence,
 }
 
-/// Gathers the fields of a protected area, if the entries fill it.
-pub(crate) fn protected_fields<M: Medium>(medium: &mut M, area: Span) -> Option<ProtectedFields>
+/// Gathers the fields of a protected area, if the entries fill it. Adds its dependencies and groups
+/// to a description that has none yet.
+pub(crate) fn protected_fields<M: Medium>(
+    medium: &mut M,
+    area: Span,
+    description: &mut Desc,
+) -> Option<ProtectedFields>
     requires readable { CanRead (M.chip medium.old) area }
     requires short { 4 + area.len < 2 ^ 16 }
+    requires blank { HasNoNeeds description.old }
     ensures same { M.chip medium.new ≡ M.chip medium.old }
     ensures filled { OnSome result (IsFilled (bytes_of (M.chip medium.old) area)) }
     ensures not_filled { IfNone result (IsFilled (bytes_of (M.chip medium.old) area) → ⊥) }
     ensures place { IfSome result (λ fields. fields.entries ≡ area) }
-    ensures gathered { IfSome result (HasGatheredProtected (M.chip medium.old)) }
+    ensures gathered { IfSome result (λ fields.
+        HasGatheredProtected (M.chip medium.old) fields description.new) }
 {
     let mut protected = SlotTlvs::new(area);
-    let mut dependencies = Met::new();
-    let mut groups = Met::new();
+    let mut dependencies = ItemFaults::new();
+    let mut groups = ItemFaults::new();
     let mut counter = Occurrence::Absent;
     while let Some(entry) = protected.step(medium) {
-        dependencies.meet(medium, DEPENDENCY_KIND, entry);
-        groups.meet(medium, GROUP_KIND, entry);
+        dependencies.meet(
+            &mut description.dependencies,
+            medium,
+            DEPENDENCY_KIND,
+            entry,
+        );
+        groups.meet(&mut description.groups, medium, GROUP_KIND, entry);
         counter = counter.with(COUNTER_KIND, entry);
     }
     let is_filled = protected.rest().len == 0;

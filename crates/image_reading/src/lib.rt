@@ -36,7 +36,9 @@ pub use error::{ImageError, SlotError};
 pub use laws::{
     a_walk_gives_the_entries_of_its_area, no_image_begins_another, one_front_is_an_image,
 };
-pub use slot::{describe_file, describe_slot, digest_file, intact_image, intact_image_into};
+pub use slot::{
+    describe_file, describe_file_into, describe_slot, digest_file, intact_image, intact_image_into,
+};
 pub use slot_tlvs::{SlotTlv, SlotTlvs};
 pub use span::Span;
 pub use tlvs::{Tlv, Tlvs};

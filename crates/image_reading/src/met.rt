@@ -1,6 +1,6 @@
 //! Collects the items of the entries of one type, entry by entry.
 
-ghost use Rattle.std.specs.Prelude.{◌≡◌, ◌∷◌, ℕ, List, IfNone, IfSome};
+ghost use Rattle.std.specs.Prelude.{◌≡◌, ◌∷◌, ℕ, List, IfNone, IfSome, false};
 ghost use Rattle.image_reading.specs.Area.{Entry, values_of};
 ghost use Rattle.image_reading.specs.Gathered.{HasMet, Spelling};
 ghost use Rattle.image_reading.specs.SlotTlvs.{slot_tlv_view};
@@ -25,37 +25,42 @@ pub(crate) trait Spelled: Default + Drop {
         ensures none { IfNone result (spelling.IsForm (bytes_of (M.chip medium.old) value) → ⊥) };
 }
 
-/// The items of the entries of one type that were read so far.
-#[derive(Drop)]
-pub(crate) struct Met<T, const MOST: usize> {
-    /// The first items: no more than an image may have.
-    pub(crate) kept: ArrayVec<T, MOST>,
-    /// Whether there were more.
+/// The faults of the entries of one type that were read so far.
+#[derive(Clone, Copy)]
+pub(crate) struct ItemFaults {
+    /// Whether there were more items than an image may have.
     pub(crate) too_many: bool,
     /// Whether a value didn't have the form of an item. Later values aren't read.
     pub(crate) bad: bool,
 }
 
-impl<T: Spelled, const MOST: usize> Met<T, MOST> {
-    /// No item was read.
-    pub(crate) fn new() -> Met<T, MOST>
-        ensures { (values : List (List ℕ)) → HasMet T.spelling MOST values values result }
+impl ItemFaults {
+    /// No entry was read.
+    pub(crate) fn new() -> ItemFaults
+        ensures bad { result.bad ≡ false }
+        ensures too_many { result.too_many ≡ false }
     {
-        Met {
-            kept: ArrayVec::new(),
+        ItemFaults {
             too_many: false,
             bad: false,
         }
     }
 
-    /// Takes an entry. Its value is read if the entry is of this type.
-    pub(crate) fn meet<M: Medium>(&mut self, medium: &mut M, kind: u16, entry: SlotTlv)
+    /// Takes an entry. Its value is read if the entry is of this type. `kept` has the first items:
+    /// no more than an image may have.
+    pub(crate) fn meet<T: Spelled, const MOST: usize, M: Medium>(
+        &mut self,
+        kept: &mut ArrayVec<T, MOST>,
+        medium: &mut M,
+        kind: u16,
+        entry: SlotTlv,
+    )
         requires { CanRead (M.chip medium.old) entry.value }
         ensures same { M.chip medium.new ≡ M.chip medium.old }
         ensures met { (values : List (List ℕ)) (left : List Entry)
             → HasMet T.spelling MOST values (values_of kind
-            (slot_tlv_view (M.chip medium.old) entry ∷ left)) self.old
-            → HasMet T.spelling MOST values (values_of kind left) self.new }
+            (slot_tlv_view (M.chip medium.old) entry ∷ left)) kept.old.items self.old
+            → HasMet T.spelling MOST values (values_of kind left) kept.new.items self.new }
     {
         if entry.kind != kind || self.bad {
             return;
@@ -64,10 +69,10 @@ impl<T: Spelled, const MOST: usize> Met<T, MOST> {
             self.bad = true;
             return;
         };
-        if self.kept.is_full() {
+        if kept.is_full() {
             self.too_many = true;
         } else {
-            self.kept.push(item);
+            kept.push(item);
         }
     }
 }

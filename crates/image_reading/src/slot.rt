@@ -8,14 +8,14 @@ ghost use Rattle.sector_map.specs.Map.{HasImage, IsLaidOut, length_of};
 ghost use Rattle.sector_map.specs.Part.{Slot};
 ghost use Rattle.image_reading.specs.Fault.{IsFirstFault, IsFrontFault};
 ghost use Rattle.image_reading.specs.Image.{BeginsIntact, IsIntact};
-ghost use Rattle.image_reading.specs.Slot.{IsFoundIntact, IsSlotFault, file_bytes, found_in, slot_bytes};
+ghost use Rattle.image_reading.specs.Slot.{IsFoundIntact, IsSlotFault, file_bytes, found_in, read_in, slot_bytes};
 ghost use Rattle.image_reading.specs.Span.{CanRead, bytes_of};
 ghost use Rattle.image_reading.specs.declared.desc.Desc.{Desc};
 ghost use Rattle.image_reading.specs.declared.error.ImageError.{ImageError};
 ghost use Rattle.image_reading.specs.declared.error.SlotError.{SlotError};
 
 use crate::desc::Desc;
-use crate::describing::{describe_front, describe_whole};
+use crate::describing::{describe_front, describe_front_into, describe_whole_into};
 use crate::error::SlotError;
 use crate::medium::Medium;
 use crate::span::Span;
@@ -125,11 +125,8 @@ pub fn intact_image_into<F: Flash>(
     ensures ends { Ends result (F.chip flash.old) (F.chip flash.new) }
 {
     flash.read(0, &mut [])?;
-    match describe_front(flash, slot_span(map, image, side)) {
-        Ok(front) => {
-            *description = front;
-            Ok(true)
-        }
+    match describe_front_into(flash, slot_span(map, image, side), description) {
+        Ok(()) => Ok(true),
         Err(_) => Ok(false),
     }
 }
@@ -172,10 +169,56 @@ pub fn describe_file<F: Flash>(
     ensures off { (F.chip flash.old).is_on ≡ false
         → result ≡ Err (SlotError.Flash FlashError.Off) }
 {
+    let mut description = Desc::default();
+    describe_file_into(flash, map, image, side, len, &mut description)?;
+    Ok(description)
+}
+
+/// Describes the file that the first `len` bytes of a slot are, in a place of the caller. Does not
+/// allocate. It takes less stack than [`describe_file`], which returns the description. If the
+/// result isn't `Ok`, the place may hold any description.
+///
+/// The map must be laid out on the flash, and must have the image. `image` is its number, from 0.
+/// The slot must have at least `len` bytes.
+///
+/// # Errors
+/// As [`describe_file`]. The flash doesn't change in any case.
+pub fn describe_file_into<F: Flash>(
+    flash: &mut F,
+    map: &SectorMap,
+    image: u8,
+    side: Side,
+    len: u32,
+    description: &mut Desc,
+) -> Result<(), SlotError>
+    requires laid_out { IsLaidOut map.now (F.chip flash.old) }
+    requires there { image < map.now.images }
+    requires room { len ≤ length_of map.now (Slot image side) }
+    ensures same { F.chip flash.new ≡ F.chip flash.old }
+    // The file is an intact image with this description.
+    ensures described { IfOk (read_in description.new result)
+        (IsIntact (file_bytes map.now (F.chip flash.old) image side len)) }
+    // Each such image is described.
+    ensures only { (F.chip flash.old).is_on ≡ true → (intact : Desc)
+        → IsIntact (file_bytes map.now (F.chip flash.old) image side len) intact
+        → read_in description.new result ≡ Ok intact }
+    // The error is the first check that fails, or that the flash was off.
+    ensures fault { IfErr result (IsSlotFault (F.chip flash.old).is_on
+        (IsFirstFault (file_bytes map.now (F.chip flash.old) image side len))) }
+    // The first check that fails is the error.
+    ensures refused { (F.chip flash.old).is_on ≡ true → (fault : ImageError)
+        → IsFirstFault (file_bytes map.now (F.chip flash.old) image side len) fault
+        → result ≡ Err (SlotError.Image fault) }
+    ensures on { OnOk result ((F.chip flash.old).is_on ≡ true) }
+    ensures off { (F.chip flash.old).is_on ≡ false
+        → result ≡ Err (SlotError.Flash FlashError.Off) }
+{
     flash.read(0, &mut [])?;
     let file = slot_span(map, image, side).first(len as usize);
-    let description = describe_whole(flash, file)?;
-    Ok(description)
+    match describe_whole_into(flash, file, description) {
+        Ok(()) => Ok(()),
+        Err(fault) => Err(SlotError::Image(fault)),
+    }
 }
 
 /// Returns the SHA-256 of the first `len` bytes of a slot (FIPS 180-4). Does not allocate.

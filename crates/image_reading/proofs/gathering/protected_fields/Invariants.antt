@@ -8,9 +8,11 @@ abbrev pub invariant-loop-entry : goal.invariant-loop-entry
 invariant-loop-entry g l = record {
   walked : HasWalked (g.M.Medium.chip l.fn.medium) (g.M.Medium.chip l.medium) l.fn.area (slot_tlvs_rest l.protected);
   dependencies : HaveMetDependencies (values_at dependency_kind (g.M.Medium.chip l.fn.medium) l.fn.area)
-      (slot_values_left dependency_kind (g.M.Medium.chip l.fn.medium) l.protected) l.dependencies;
+      (slot_values_left dependency_kind (g.M.Medium.chip l.fn.medium) l.protected)
+      l.description.dependencies.items l.dependencies;
   groups : HaveMetGroups (values_at group_kind (g.M.Medium.chip l.fn.medium) l.fn.area)
-      (slot_values_left group_kind (g.M.Medium.chip l.fn.medium) l.protected) l.groups;
+      (slot_values_left group_kind (g.M.Medium.chip l.fn.medium) l.protected)
+      l.description.groups.items l.groups;
   counter : IsOccurrence (g.M.Medium.chip l.fn.medium)
       (values_at counter_kind (g.M.Medium.chip l.fn.medium) l.fn.area)
       (slot_values_left counter_kind (g.M.Medium.chip l.fn.medium) l.protected) l.counter;
