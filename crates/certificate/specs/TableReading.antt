@@ -25,6 +25,15 @@ new_entry version counter =
       groups = record { items = [] };
     }
 
+-- An image with this version, security counter and floor, without anything else.
+abbrev pub new_image : Version → ℕ → ℕ → Image
+new_image version counter floor =
+    record { running = new_entry version counter; request = request.None; floor = floor }
+
+-- The version 0.0.0+0.
+abbrev pub no_version : Version
+no_version = record { major = 0; minor = 0; revision = 0; build = 0 }
+
 -- An entry with one more dependency. There are at most 16, and they come before the groups.
 abbrev pub with_dependency : Dependency → Entry → Option Entry
 with_dependency dependency entry =
@@ -89,8 +98,7 @@ with_image images number image =
 -- Images with the meaning of one more line.
 unfoldable pub with_line_of_images : List Image → TableLine → Option (List Image)
 with_line_of_images images (line.Image number version counter floor) =
-    with_image images number
-    (record { running = new_entry version counter; request = request.None; floor = floor })
+    with_image images number (new_image version counter floor)
 with_line_of_images images (line.Needs dependency) =
     with_line_in_last images (line.Needs dependency)
 with_line_of_images images (line.NeedsOne group) = with_line_in_last images (line.NeedsOne group)

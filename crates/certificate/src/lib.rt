@@ -3,7 +3,7 @@
 //!
 //! - Promises: Tables and reports are read exactly, and a refusal names the first bad line. A yes
 //!   says that a report is right, and the set of a right report is the greatest valid one.
-//! - Main calls: `Table::parse`, `Report::parse`, `is_valid`, `check`
+//! - Main calls: `Table::parse`, `Report::parse`, and `parse_into` of both; `is_valid`, `check`
 //! - Allocates: no.
 //! - Callers: any crate.
 //!

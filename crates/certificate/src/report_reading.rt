@@ -1,6 +1,6 @@
 //! Reads a report line by line.
 
-ghost use Rattle.std.specs.Prelude.{◌≡◌, Ok, Some, None, IfOk, IfErr, MatchBool};
+ghost use Rattle.std.specs.Prelude.{◌≡◌, Ok, Some, None, IfOk, IfErr, IsOk, OnOk, MatchBool};
 ghost use Rattle.common.specs.Lines.{IsFirstBadLine};
 ghost use Rattle.certificate.specs.ReportReading.{with_reported_image, with_refusal, with_report_line, with_text_of_report};
 ghost use Rattle.certificate.specs.ReportText.{FitsReport, IsReportText, IsSomeReport};
@@ -37,13 +37,35 @@ impl Report {
         ensures line { IfErr result (λ bad. IsFirstBadLine IsSomeReport text.now bad.0) }
     {
         let mut report = Report::default();
-        if let Err(line) = read_lines(&mut report, text) {
+        Report::parse_into(text, &mut report)?;
+        Ok(report)
+    }
+
+    /// Reads the text of a report as [`Report::parse`] does, and writes it to a place, so that none
+    /// is copied.
+    ///
+    /// # Errors
+    /// As those of [`Report::parse`]. Afterwards the place may have any report.
+    pub fn parse_into(text: &[u8], report: &mut Report) -> Result<(), BadReport>
+        // A report that is read has this text.
+        ensures spelled { OnOk result (IsReportText text.now report.new) }
+        // A report that is read fits its fields.
+        ensures fits { OnOk result (FitsReport report.new) }
+        // Any text of a report is read as that report.
+        ensures only { (other : Report) → IsReportText text.now other
+            → IsOk result × (report.new ≡ other) }
+        // The line that an error names.
+        ensures line { IfErr result (λ bad. IsFirstBadLine IsSomeReport text.now bad.0) }
+    {
+        report.images.clear();
+        report.refusals.clear();
+        if let Err(line) = read_lines(report, text) {
             return Err(BadReport(line));
         }
         if report.images.is_empty() {
             return Err(BadReport(1));
         }
-        Ok(report)
+        Ok(())
     }
 }
 

@@ -1,7 +1,8 @@
 //! Adds the meaning of one more line of a table to the image that it is about.
 
-ghost use Rattle.std.specs.Prelude.{◌≡◌, Some, None, MatchBool};
-ghost use Rattle.certificate.specs.TableReading.{new_entry, with_dependency, with_group, with_needs, with_needs_one, with_request, with_line, with_line_in_last, with_image, with_line_of_images};
+ghost use Rattle.std.specs.Prelude.{◌≡◌, ◌<◌, ◌++◌, ◌∷◌, [], length, Some, None, MatchBool, if◌then◌else◌};
+ghost use Rattle.certificate.specs.declared.table.Request.TheVariants as request;
+ghost use Rattle.certificate.specs.TableReading.{new_entry, new_image, no_version, with_dependency, with_group, with_needs, with_needs_one, with_request, with_line, with_line_in_last, with_image, with_line_of_images};
 
 use crate::table::{Entry, Image, Request};
 use crate::table_line::TableLine;
@@ -22,39 +23,52 @@ pub(crate) fn place_line(images: &mut ArrayVec<Image, MOST_IMAGES>, line: TableL
             version,
             counter,
             floor,
-        } => {
-            let running = new_entry(version, counter);
-            let request = Request::None;
-            place_image(
-                images,
-                number,
-                Image {
-                    running,
-                    request,
-                    floor,
-                },
-            )
-        }
+        } => place_image(images, number, version, counter, floor),
         later => place_in_last(images, later),
     }
 }
 
-fn new_entry(version: Version, counter: u32) -> Entry
-    ensures { result ≡ new_entry version counter }
-{
-    Entry {
-        version,
-        counter,
-        dependencies: ArrayVec::new(),
-        groups: ArrayVec::new(),
-    }
-}
-
-fn place_image(images: &mut ArrayVec<Image, MOST_IMAGES>, number: u8, image: Image) -> bool
-    ensures { MatchBool result (with_image images.old.items number image ≡ Some images.new.items)
+/// Adds an image that has its first line alone.
+fn place_image(
+    images: &mut ArrayVec<Image, MOST_IMAGES>,
+    number: u8,
+    version: Version,
+    counter: u32,
+    floor: u32,
+) -> bool
+    ensures { let image = new_image version counter floor in
+        MatchBool result (with_image images.old.items number image ≡ Some images.new.items)
         (with_image images.old.items number image ≡ None) }
 {
-    usize::from(number) == images.len() && images.try_push(image).is_ok()
+    let count = images.len();
+    if usize::from(number) != count || images.is_full() {
+        return false;
+    }
+    push_default(images);
+    put_numbers(&mut images[count], version, counter, floor);
+    true
+}
+
+/// Adds an image without anything, which is filled in its place. The temporary image takes stack
+/// only here.
+#[inline(never)]
+fn push_default(images: &mut ArrayVec<Image, MOST_IMAGES>)
+    requires { length images.old.items < MOST_IMAGES }
+    ensures { images.new.items ≡ images.old.items ++ new_image no_version 0 0 ∷ [] }
+{
+    images.push(Image::default());
+}
+
+/// Writes the numbers of an image's first line.
+fn put_numbers(image: &mut Image, version: Version, counter: u32, floor: u32)
+    ensures { image.new ≡ record image.old {
+      running = record image.old.running { version = version; counter = counter };
+      floor = floor;
+    } }
+{
+    image.running.version = version;
+    image.running.counter = counter;
+    image.floor = floor;
 }
 
 #[tactic(auto, unfolding(crate::specs::TableReading::with_line_in_last))]
@@ -74,10 +88,8 @@ fn place_in_image(image: &mut Image, line: TableLine) -> bool
         TableLine::Image { .. } => false,
         TableLine::Needs(dependency) => place_needs(image, dependency),
         TableLine::NeedsOne(group) => place_needs_one(image, group),
-        TableLine::Request { version, counter } => {
-            place_request(image, Request::Entry(new_entry(version, counter)))
-        }
-        TableLine::Damaged => place_request(image, Request::Damaged),
+        TableLine::Request { version, counter } => place_request(image, version, counter),
+        TableLine::Damaged => place_damaged(image),
     }
 }
 
@@ -117,13 +129,46 @@ fn place_group(entry: &mut Entry, group: Group) -> bool
     entry.groups.try_push(group).is_ok()
 }
 
-fn place_request(image: &mut Image, request: Request) -> bool
-    ensures { MatchBool result (with_request image.old request image.old.request ≡ Some image.new)
-        (with_request image.old request image.old.request ≡ None) }
+fn place_request(image: &mut Image, version: Version, counter: u32) -> bool
+    ensures { let asked = request.Entry (new_entry version counter) in
+        MatchBool result (with_request image.old asked image.old.request ≡ Some image.new)
+        (with_request image.old asked image.old.request ≡ None) }
 {
-    if matches!(image.request, Request::None) {
-        image.request = request;
-        return true;
+    if !takes_a_request(image) {
+        return false;
     }
-    false
+    put_request(&mut image.request, version, counter);
+    true
+}
+
+fn place_damaged(image: &mut Image) -> bool
+    ensures { let asked = request.Damaged in
+        MatchBool result (with_request image.old asked image.old.request ≡ Some image.new)
+        (with_request image.old asked image.old.request ≡ None) }
+{
+    if !takes_a_request(image) {
+        return false;
+    }
+    image.request = Request::Damaged;
+    true
+}
+
+/// Returns whether nothing is requested of an image yet.
+fn takes_a_request(image: &Image) -> bool
+    ensures { (asked : Request) → with_request image.now asked image.now.request
+        ≡ (if result then Some (record image.now { request = asked }) else None) }
+{
+    matches!(image.request, Request::None)
+}
+
+/// Writes a request without dependencies and groups. It is filled in its place, so that no entry is
+/// copied.
+fn put_request(place: &mut Request, version: Version, counter: u32)
+    ensures { place.new ≡ request.Entry (new_entry version counter) }
+{
+    *place = Request::Entry(Entry::default());
+    if let Request::Entry(entry) = place {
+        entry.version = version;
+        entry.counter = counter;
+    }
 }

@@ -1,6 +1,6 @@
 //! Reads a table line by line.
 
-ghost use Rattle.std.specs.Prelude.{◌≡◌, Ok, IfOk, IfErr};
+ghost use Rattle.std.specs.Prelude.{◌≡◌, Ok, IfOk, IfErr, IsOk, OnOk};
 ghost use Rattle.common.specs.Lines.{IsFirstBadLine};
 ghost use Rattle.certificate.specs.TableReading.{with_text_of_table};
 ghost use Rattle.certificate.specs.TableText.{FitsTable, IsTableText, IsSomeTable};
@@ -40,13 +40,34 @@ impl Table {
         ensures line { IfErr result (λ bad. IsFirstBadLine IsSomeTable text.now bad.0) }
     {
         let mut table = Table::default();
-        if let Err(line) = read_lines(&mut table, text) {
+        Table::parse_into(text, &mut table)?;
+        Ok(table)
+    }
+
+    /// Reads the text of a table as [`Table::parse`] does, and writes it to a place, so that none
+    /// is copied.
+    ///
+    /// # Errors
+    /// As those of [`Table::parse`]. Afterwards the place may have any table.
+    pub fn parse_into(text: &[u8], table: &mut Table) -> Result<(), BadTable>
+        // A table that is read has this text.
+        ensures spelled { OnOk result (IsTableText text.now table.new) }
+        // A table that is read fits its fields.
+        ensures fits { OnOk result (FitsTable table.new) }
+        // Any text of a table is read as that table.
+        ensures only { (other : Table) → IsTableText text.now other
+            → IsOk result × (table.new ≡ other) }
+        // The line that an error names.
+        ensures line { IfErr result (λ bad. IsFirstBadLine IsSomeTable text.now bad.0) }
+    {
+        table.images.clear();
+        if let Err(line) = read_lines(table, text) {
             return Err(BadTable(line));
         }
         if table.images.is_empty() {
             return Err(BadTable(1));
         }
-        Ok(table)
+        Ok(())
     }
 }
 

@@ -64,7 +64,7 @@ fn has_request(table: &Table, number: usize) -> bool
     ensures { result ≡ has_request table.now number }
 {
     match table.images.get(number) {
-        Some(image) => image.request != Request::None,
+        Some(image) => !matches!(image.request, Request::None),
         None => false,
     }
 }
