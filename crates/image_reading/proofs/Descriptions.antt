@@ -1,9 +1,10 @@
 -- An intact image has one description, and no check of it fails.
-use Rattle.std.proofs.Common.{◌≡◌, ℕ, ◌+◌, ◌^◌, ◌<◌, ◌≤◌, inl, inr, List, [], ◌∷◌, ◌++◌, length, refl, sym, ap, subst, ◌∙◌, arith}
+use Rattle.std.proofs.Common.{◌≡◌, ℕ, ◌+◌, ◌^◌, ◌<◌, ◌≤◌, inl, inr, List, [], ◌∷◌, ◌++◌, drop, length, refl, sym, ap, subst, ◌∙◌, arith}
 use Rattle.std.proofs.lemmas.List.{append-nil, length-append, nil_from_length}
 use Rattle.byteorder.specs.Endian.{little_number}
 use Rattle.byteorder.specs.Numbers.{little_number-reads_back}
 use Rattle.common.proofs.Items.{same_cons}
+use Rattle.flash_model.specs.Chip.{Chip}
 use Rattle.version_order.specs.declared.dependency.Dependency.{Dependency}
 use Rattle.version_order.specs.declared.group.Group.{Group}
 use Rattle.version_order.specs.declared.version.Version.{Version}
@@ -16,6 +17,8 @@ use Rattle.image_reading.specs.declared.error.ImageError.TheVariants.{TrailingBy
 use Rattle.image_reading.specs.Checks.{AllPass, Check, FailsWith}
 use Rattle.image_reading.specs.Fault.{IsFirstFault, IsFrontFault, head_checks, part_checks}
 use Rattle.image_reading.specs.Fields.{SpellCounter, counter_bytes}
+use Rattle.image_reading.specs.Front.{IsFront}
+use Rattle.image_reading.specs.declared.front.Front.{Front}
 use Rattle.image_reading.specs.Image.{BeginsIntact, BeginsWithImage, Describes, Image, IsIntact, counter_values, dependency_values, entry_checks, group_values, image_bytes}
 use Rattle.image_reading.proofs.CheckLaws.{fails_in_second, passing_has_no_fault, second_fails}
 use Rattle.image_reading.proofs.ImageLaws.{image_passes_parts, image-unique, parts_of_image}
@@ -189,3 +192,12 @@ intact_whole bytes description intact whole =
     let same : intact.0 ≡ bytes =
     sym (append-nil intact.0) ∙ ap (λ (rest : List ℕ). intact.0 ++ rest) (sym none) ∙ sym intact.2 in
     subst (λ (front : List ℕ). IsIntact front description) same intact.3
+
+-- The image at the beginning of bytes, if it is intact, has the length in its description.
+pub front_long : (chip : Chip) (bytes : List ℕ) (front : Front) (description : Desc) → IsFront chip bytes front
+    → BeginsIntact bytes description → front.length ≡ description.length
+front_long chip bytes front description found intact =
+    let same : found.0 ≡ intact.3.0 =
+    (image-unique bytes found.0 intact.3.0 (drop front.length bytes) intact.1 found.1.begins
+    (begins_with bytes description intact)).0 in
+    found.1.length_of ∙ ap (λ (image : Image). length (image_bytes image)) same ∙ sym intact.3.2.length_of

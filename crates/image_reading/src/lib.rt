@@ -22,6 +22,7 @@ mod front;
 mod gathering;
 mod groups;
 mod laws;
+mod length;
 mod medium;
 mod met;
 mod slot;
@@ -36,6 +37,7 @@ pub use error::{ImageError, SlotError};
 pub use laws::{
     a_walk_gives_the_entries_of_its_area, no_image_begins_another, one_front_is_an_image,
 };
+pub use length::image_length;
 pub use slot::{
     describe_file, describe_file_into, describe_slot, digest_file, intact_image, intact_image_into,
 };

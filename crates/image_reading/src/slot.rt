@@ -250,7 +250,7 @@ pub fn digest_file<F: Flash>(
 }
 
 // The span of a slot.
-fn slot_span(map: &SectorMap, image: u8, side: Side) -> Span
+pub(crate) fn slot_span(map: &SectorMap, image: u8, side: Side) -> Span
     requires { image < map.now.images }
     ensures bytes { (chip : Chip) → IsLaidOut map.now chip
         → bytes_of chip result ≡ slot_bytes map.now chip image side }
