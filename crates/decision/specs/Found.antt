@@ -7,6 +7,7 @@ use Rattle.sector_map.specs.declared.layout.Side.TheVariants.{Primary, Secondary
 use Rattle.sector_map.specs.Part.{is_member}
 use Rattle.certificate.specs.declared.table.Entry.{Entry}
 use Rattle.certificate.specs.declared.table.Image.{Image}
+use Rattle.certificate.specs.declared.table.Request.{Request}
 use Rattle.certificate.specs.declared.table.Request.TheVariants as request
 use Rattle.certificate.specs.Combination.{IsGreatest, entry_in}
 use Rattle.certificate.specs.Rightness.{taken_in}
@@ -52,6 +53,18 @@ IsRowAsked w false i (Some row) = request_in w i ≡ None → row.request ≡ re
 IsRowAsked w true i (Some row) = Unit {0}
 IsRowAsked w is_swapped i None = Unit {0}
 
+-- A requested entry is that of the intact image at the start of a slot.
+abbrev pub IsRequestHeld : List ℕ → Request → Type 0
+IsRequestHeld slot (request.Entry entry) = HoldsEntry slot entry
+IsRequestHeld slot other = Unit {0}
+
+-- Unless the slots are swapped, the requested entry of a row is that of the image in the secondary
+-- slot.
+abbrev pub IsRowWanted : View → Bool → ℕ → Option Image → Type 0
+IsRowWanted w false i (Some row) = IsRequestHeld (w.slot i Secondary) row.request
+IsRowWanted w true i (Some row) = Unit {0}
+IsRowWanted w is_swapped i None = Unit {0}
+
 -- The rows of a table are those of the images on the flash. The slots of the mask's images are
 -- swapped.
 pub record AreRowsHeld (w : View) (mask : ℕ) (rows : List Image) : Type 0 where
@@ -59,6 +72,8 @@ pub record AreRowsHeld (w : View) (mask : ℕ) (rows : List Image) : Type 0 wher
       → IsRowHeld w (is_member mask i) i (Some row)
   pub asked : (i : ℕ) (row : Image) → slice_get rows i ≡ Some row
       → IsRowAsked w (is_member mask i) i (Some row)
+  pub wanted : (i : ℕ) (row : Image) → slice_get rows i ≡ Some row
+      → IsRowWanted w (is_member mask i) i (Some row)
 
 -- If a table is read, its rows are those of the images on the flash.
 abbrev pub IsTableHeld : View → ℕ → Reading → Type 0

@@ -32,10 +32,6 @@ abbrev pub some_if : {A : Type 0} → A → Bool → Option A
 some_if value true = Some value
 some_if value false = None
 
--- What a call left in a place, if it succeeded.
-abbrev pub in_place : {A B : Type 0} → A → B → A
-in_place value done = value
-
 -- A request that has an entry.
 abbrev pub IsEntryRequest : Request → Type 0
 IsEntryRequest (request.Entry entry) = Unit {0}

@@ -1,5 +1,5 @@
 -- Contracts of the calls that read an image, a row or a table of the flash.
-use Rattle.std.specs.Prelude.{◌≡◌, ◌++◌, ◌∷◌, [], ℕ, Bool, List, Option, Result, IfOk}
+use Rattle.std.specs.Prelude.{◌≡◌, ◌++◌, ◌∷◌, [], ℕ, Bool, List, Option, Result, IfOk, OnOk}
 use Rattle.flash_model.specs.declared.error.FlashError.{FlashError}
 use Rattle.flash_model.specs.Chip.{Chip, Ends}
 use Rattle.sector_map.specs.declared.layout.SectorMap.{SectorMap}
@@ -18,7 +18,7 @@ use Rattle.machine.specs.Boots.{IsRequestOf}
 use Rattle.machine.specs.Reading.{CanReadAt, HasRows, IsReadOf, IsReading, IsRowRead}
 use Rattle.machine.specs.declared.finding.Reading.{Reading}
 use Rattle.decision.specs.Found.{IsEntryAt, IsEntryRead, IsReadBy, IsReadingAt, IsRowAt}
-use Rattle.decision.specs.Found.{IsRowAsked, IsRowHeld, IsTableHeld}
+use Rattle.decision.specs.Found.{IsRequestHeld, IsRowAsked, IsRowHeld, IsRowWanted, IsTableHeld}
 use Rattle.decision.specs.Places.{read_as, some_if}
 
 -- A call reads what a decision uses of the image at the start of a slot.
@@ -48,6 +48,17 @@ IsRequestIn map image chip request = (wanted : Option Wanted)
     → IsRequested (fields_at map chip image Secondary) (slot_bytes map chip image Secondary) wanted
     → IsRequestOf wanted request
 
+-- A call reads what is requested for an image into a place.
+pub record ReadsWanted (map : SectorMap) (image : ℕ) (old new : Chip) (request : Request)
+    (result : Result Unit FlashError) : Type 0 where
+  -- The flash doesn't change.
+  pub same : new ≡ old
+  -- The place has what is requested by the trailer and the slot.
+  pub ok : OnOk result (IsRequestIn map image old request)
+  -- On any flash, a requested entry is that of the image in the secondary slot.
+  pub held : OnOk result (IsRequestHeld (slot_bytes map old image Secondary) request)
+  pub ends : Ends result old new
+
 -- A call reads the row of an image, whose slots are swapped or not.
 pub record ReadsRow (map : SectorMap) (image : ℕ) (is_swapped : Bool) (floor : ℕ) (old new : Chip)
     (result : Result (Option Image) FlashError) : Type 0 where
@@ -61,6 +72,7 @@ pub record ReadsRow (map : SectorMap) (image : ℕ) (is_swapped : Bool) (floor :
   -- On any flash, the row is that of the images on the flash.
   pub held : IfOk result (IsRowHeld (view map old) is_swapped image)
   pub asked : IfOk result (IsRowAsked (view map old) is_swapped image)
+  pub wanted : IfOk result (IsRowWanted (view map old) is_swapped image)
   pub ends : Ends result old new
 
 -- A call adds the row of an image, whose slots are swapped or not.

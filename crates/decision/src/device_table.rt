@@ -5,9 +5,8 @@ ghost use Rattle.sector_map.specs.Map.{HasImage, IsLaidOut};
 ghost use Rattle.machine.specs.States.{entry_of};
 ghost use Rattle.common.specs.Limits.{MOST_IMAGES};
 ghost use Rattle.certificate.specs.declared.table.Image.{Image};
-ghost use Rattle.decision.specs.Places.{IsEntryRequest, in_place, read_as, reading_in, some_if};
-ghost use Rattle.decision.specs.Rows.{IsRequestIn, PushesRow, ReadsRequest, ReadsRow, ReadsSlot, ReadsTable};
-ghost use Rattle.decision.specs.Telling.{Tells};
+ghost use Rattle.decision.specs.Places.{IsEntryRequest, read_as, reading_in, some_if};
+ghost use Rattle.decision.specs.Rows.{PushesRow, ReadsRequest, ReadsRow, ReadsSlot, ReadsTable, ReadsWanted};
 
 use arrayvec::ArrayVec;
 use certificate::{Entry, Image, Request, Table};
@@ -53,7 +52,7 @@ pub fn read_slot<F: Flash>(
 }
 
 /// Writes what a decision uses of an image's description to a place.
-fn put_entry(description: Desc, entry: &mut Entry)
+pub fn put_entry(description: Desc, entry: &mut Entry)
     ensures { entry.new ≡ entry_of description }
 {
     entry.version = description.version;
@@ -122,8 +121,7 @@ fn read_request_into<F: Flash>(
     request: &mut Request,
 ) -> Result<()>
     requires { HasImage map.now image (F.chip flash.old) }
-    ensures { Tells (IsRequestIn map.now image) (F.chip flash.old) (F.chip flash.new)
-        (read_as (in_place request.new) result) }
+    ensures { ReadsWanted map.now image (F.chip flash.old) (F.chip flash.new) request.new result }
 {
     match standing(flash, map, image)? {
         None => *request = Request::None,
@@ -202,9 +200,9 @@ fn read_row_into<F: Flash>(
     }
 }
 
-/// Adds an empty row. The temporary one takes stack only here.
+/// Adds a row to fill: an empty one. The temporary one takes stack only here.
 #[inline(never)]
-fn push_blank_row(images: &mut ArrayVec<Image, MOST_IMAGES>)
+pub fn push_blank_row(images: &mut ArrayVec<Image, MOST_IMAGES>)
     requires { length images.old.items < MOST_IMAGES }
     ensures { (blank : Image) × (images.new.items ≡ images.old.items ++ blank ∷ []) }
 {

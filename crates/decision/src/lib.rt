@@ -13,5 +13,7 @@ mod device_table;
 mod places;
 
 pub use deciding::{find, find_into};
-pub use device_table::{entry_of, read_slot, read_slot_into, read_table, read_table_into};
+pub use device_table::{
+    entry_of, push_blank_row, put_entry, read_slot, read_slot_into, read_table, read_table_into,
+};
 pub use places::Verdict;

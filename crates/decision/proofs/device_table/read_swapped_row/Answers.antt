@@ -10,5 +10,6 @@ returns g c =
       front = search rules;
       held = search rules;
       asked = search rules;
+      wanted = tt;
       ends = search rules;
     }

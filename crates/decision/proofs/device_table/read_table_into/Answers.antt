@@ -62,7 +62,7 @@ loop-image-preserved g c =
           (sym pushed.pushed)
           (held_more c.args.map.now _ _ c.args.mask c.loop-image.image _ _ _ _ c.loop-image.invariant.same
           c.loop-image.invariant.count c.is_member-is_swapped.ensures pushed.reads.held
-          pushed.reads.asked some c.loop-image.invariant.held);
+          pushed.reads.asked pushed.reads.wanted some c.loop-image.invariant.held);
     }
 
 pub returns : goal.returns
