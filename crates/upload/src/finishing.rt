@@ -17,7 +17,7 @@ use crate::sessions::{UNIT, Upload, Uploads};
 use crate::slots::write_slot;
 use arrayvec::ArrayVec;
 use flash_model::{Flash, Result};
-use image_reading::{SlotError, describe_file, digest_file};
+use image_reading::{Desc, SlotError, describe_file_into, digest_file};
 use sector_map::{SectorMap, Side};
 use trailer::request;
 
@@ -73,7 +73,8 @@ fn digest_incoming<F: Flash>(
 }
 
 /// Checks the first `size` bytes of a secondary slot: first their digest, then whether they are an
-/// intact image.
+/// intact image. It isn't inlined: the description takes stack only during this call.
+#[inline(never)]
 fn judge<F: Flash>(
     flash: &mut F,
     map: &SectorMap,
@@ -90,8 +91,9 @@ fn judge<F: Flash>(
     if found != *digest {
         return Err(UploadError::DigestWrong);
     }
-    match describe_file(flash, map, image, Side::Secondary, size) {
-        Ok(_) => Ok(()),
+    let mut description = Desc::default();
+    match describe_file_into(flash, map, image, Side::Secondary, size, &mut description) {
+        Ok(()) => Ok(()),
         Err(SlotError::Image(fault)) => Err(UploadError::NotAnImage(fault)),
         Err(SlotError::Flash(error)) => Err(UploadError::Flash(error)),
         Err(SlotError::NoMemory) => unreachable!(),

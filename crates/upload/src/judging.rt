@@ -9,7 +9,7 @@ ghost use Rattle.upload.specs.Judging.{ReadsState};
 
 use crate::error::UploadError;
 use flash_model::{Flash, Result};
-use image_reading::intact_image;
+use image_reading::{Desc, intact_image_into};
 use manifest::{Component, Manifest};
 use sector_map::{SectorMap, Side};
 use set_log::{LogError, State, read_state};
@@ -35,6 +35,9 @@ pub(crate) fn is_same_digest(one: &[u8; 32], other: &[u8; 32]) -> bool
 }
 
 /// Returns whether the running image is the one that a component requires, if it requires one.
+///
+/// It isn't inlined: its description takes stack only during this call.
+#[inline(never)]
 fn follows<F: Flash>(flash: &mut F, map: &SectorMap, component: &Component) -> Result<bool>
     requires { HasImage map.now component.now.image (F.chip flash.old) }
     ensures { ReadsPrecursor map.now component.now (F.chip flash.old) (F.chip flash.new) result }
@@ -42,10 +45,13 @@ fn follows<F: Flash>(flash: &mut F, map: &SectorMap, component: &Component) -> R
     let Some(digest) = component.precursor else {
         return Ok(true);
     };
-    match intact_image(flash, map, component.image, Side::Primary)? {
-        Some(description) => Ok(is_same_digest(&description.digest, &digest)),
-        None => Ok(false),
+    let mut description = Desc::default();
+    let image = component.image;
+    let is_intact = intact_image_into(flash, map, image, Side::Primary, &mut description)?;
+    if !is_intact {
+        return Ok(false);
     }
+    Ok(is_same_digest(&description.digest, &digest))
 }
 
 /// Returns whether each component follows the running image.

@@ -81,7 +81,8 @@ impl Uploads {
         }
     }
 
-    /// Closes all uploads.
+    /// Closes all uploads. It isn't inlined: the empty table takes stack only during this call.
+    #[inline(never)]
     pub(crate) fn close(&mut self)
         ensures { AllClosed self.new.sessions }
     {

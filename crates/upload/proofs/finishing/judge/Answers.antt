@@ -22,30 +22,30 @@ returns-in_err-found g c =
 
 pub returns-in-Ok : goal.returns-in-Ok
 returns-in-Ok g c = record {
-  same = c.describe_file.ensures.same ∙ c.digest_incoming.ensures.same;
+  same = c.describe_file_into.ensures.same ∙ c.digest_incoming.ensures.same;
   judges = (
     sym c.in_ok-found.ensures.ok
         ∙ same_text c.in_ok-found.found c.args.digest.now (sym (not-false _ (sym c.if-ne.ensures))),
     (
-      c.in-Ok.field-0,
+      c.describe_file_into.new.description,
       subst (λ chip. IsIntact (take c.args.size (part_of c.args.map.now chip (Slot c.args.image Secondary)))
-          c.in-Ok.field-0) c.digest_incoming.ensures.same c.in-Ok.ensures.described,
+          c.describe_file_into.new.description) c.digest_incoming.ensures.same c.in-Ok.ensures.described,
     ),
   );
   off = λ off. absurd (true≢false (sym c.in_ok-found.ensures.on ∙ off));
-  ends = ends_read _ _ _ refl (c.describe_file.ensures.same ∙ c.digest_incoming.ensures.same);
+  ends = ends_read _ _ _ refl (c.describe_file_into.ensures.same ∙ c.digest_incoming.ensures.same);
 }
 
 pub returns-in-Err-Image : goal.returns-in-Err-Image
 returns-in-Err-Image g c =
     let fault = rw c.in-Err-Image.field-0-is at c.in-Err-Image.ensures.fault in
     record {
-      same = c.describe_file.ensures.same ∙ c.digest_incoming.ensures.same;
+      same = c.describe_file_into.ensures.same ∙ c.digest_incoming.ensures.same;
       judges = (
         search rules,
         subst (λ chip. IsFirstFault (take c.args.size (part_of c.args.map.now chip (Slot c.args.image Secondary)))
             c.in-Err-Image.fault) c.digest_incoming.ensures.same fault.1,
       );
       off = λ off. absurd (true≢false (sym c.in_ok-found.ensures.on ∙ off));
-      ends = ends_read _ _ _ refl (c.describe_file.ensures.same ∙ c.digest_incoming.ensures.same);
+      ends = ends_read _ _ _ refl (c.describe_file_into.ensures.same ∙ c.digest_incoming.ensures.same);
     }
