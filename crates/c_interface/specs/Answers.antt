@@ -31,16 +31,18 @@ pub data Answers (setup : Setup) (cuts : List CutRow) (call : DeviceCall) (old :
   NotCalled : IsRefusedBefore setup cuts old number → new ≡ old → is ≡ was → call_result ≡ no_result
       → Answers setup cuts call old was new is call_result says number
 
--- Nothing more is said of the reply.
-abbrev pub no_more : Reply → Type 0
-no_more reply = Unit {0}
+-- The call wrote no texts: their lengths are 0.
+abbrev pub HasNoTexts : CallResult → Reply → Type 0
+HasNoTexts call_result reply =
+    (call_result.table_length ≡ 0) × (call_result.report_length ≡ 0)
 
 -- The answer of a call that accepts a manifest, which may have too many components.
 pub data Accepts (setup : Setup) (cuts : List CutRow) (row : ManifestRow) (old : List ℕ)
     (was : SavedState) (new : List ℕ) (is : SavedState) (call_result : CallResult) (number : ℕ)
     : Type 0 where
   Given : (manifest : Bor Manifest) → IsManifestOf row manifest.now
-      → Answers setup cuts (Accept manifest) old was new is call_result no_more number
+      → Answers setup cuts (Accept manifest) old was new is call_result (HasNoTexts call_result)
+      number
       → Accepts setup cuts row old was new is call_result number
   TooMany : MOST_COMPONENTS < row.count → number ≡ TOO_MANY → new ≡ old → is ≡ was
       → call_result ≡ no_result → Accepts setup cuts row old was new is call_result number

@@ -18,7 +18,7 @@ use Rattle.manifest.specs.declared.rows.ManifestRow.{ManifestRow}
 use Rattle.c_interface.specs.declared.saved_state.SavedState.{SavedState}
 use Rattle.c_interface.specs.declared.setup.CheckedSetup.{CheckedSetup}
 use Rattle.c_interface.specs.declared.setup.Setup.{Setup}
-use Rattle.c_interface.specs.Answers.{no_more}
+use Rattle.c_interface.specs.Answers.{HasNoTexts}
 use Rattle.c_interface.specs.CallResult.{IsResultOf, no_result, number_of}
 use Rattle.c_interface.specs.Calls.{StepsBetween, journal_bound}
 use Rattle.manifest.specs.Rows.{IsManifestOf}
@@ -102,8 +102,8 @@ pub data AcceptsRecorded (setup : Setup) (row : ManifestRow) (old : List ℕ) (w
     (new : List ℕ) (is : SavedState) (before after : List ℕ) (call_result : CallResult)
     (number : ℕ) : Type 0 where
   Given : (manifest : Bor Manifest) → IsManifestOf row manifest.now
-      → AnswersRecorded setup (Accept manifest) old was new is before after call_result no_more
-      number
+      → AnswersRecorded setup (Accept manifest) old was new is before after call_result
+      (HasNoTexts call_result) number
       → AcceptsRecorded setup row old was new is before after call_result number
   TooMany : MOST_COMPONENTS < row.count → number ≡ TOO_MANY → new ≡ old → is ≡ was
       → after ≡ before → call_result ≡ no_result

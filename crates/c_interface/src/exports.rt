@@ -1,6 +1,6 @@
 //! The calls of a device, as C makes them.
 
-ghost use Rattle.c_interface.specs.Answers.{Accepts, Answers, HasTexts, no_more};
+ghost use Rattle.c_interface.specs.Answers.{Accepts, Answers, HasNoTexts, HasTexts};
 ghost use Rattle.c_interface.specs.Lifecycle.{IsBoot};
 ghost use Rattle.c_interface.specs.SavedState.{IsNotBooted};
 ghost use Rattle.c_interface.specs.declared.dispatch.DeviceCall.TheVariants as call;
@@ -26,7 +26,7 @@ fn call_and_report(
     call_result: &mut CallResult,
 ) -> u32
     ensures { Answers setup.now cuts.now asked.now flash.old saved.old flash.new saved.new
-        call_result.new no_more result }
+        call_result.new (HasNoTexts call_result.new) result }
 {
     let mut reply = Reply::Done;
     match call_device(setup, flash, saved, cuts, asked, &mut reply) {
@@ -47,7 +47,7 @@ fn call_and_report(
 /// Returns `BOOTED`, `REVERTED` or `TRIAL_AGAIN`, and the device is booted; or `REFUSED`, `CUT`, or
 /// why no call was made: then nothing changed.
 #[unsafe(no_mangle)]
-pub extern "C" fn bootswap_boot(
+pub extern "C" fn bootswap_simulate_boot(
     setup: &Setup,
     flash: &mut [u8],
     saved: &mut SavedState,
@@ -81,7 +81,7 @@ pub extern "C" fn bootswap_boot(
 /// Returns `DONE`, `REFUSED`, `CUT`, or why no call was made, which includes `TOO_MANY` components:
 /// then nothing changed.
 #[unsafe(no_mangle)]
-pub extern "C" fn bootswap_accept(
+pub extern "C" fn bootswap_simulate_accept(
     setup: &Setup,
     flash: &mut [u8],
     saved: &mut SavedState,
@@ -111,11 +111,11 @@ pub extern "C" fn bootswap_accept(
 /// makes. Before it writes, the call checks only the number of received bytes, the trailer of the
 /// slot, and that the range to write is erased. If one of these doesn't match, the piece is refused
 /// with `NoSession`. Whatever was saved, a flash at rest without a trial holds the same state
-/// afterwards, and `bootswap_finish` requests nothing of an upload that doesn't match.
+/// afterwards, and `bootswap_simulate_finish` requests nothing of an upload that doesn't match.
 ///
 /// Returns `DONE`, `REFUSED`, `CUT`, or why no call was made: then nothing changed.
 #[unsafe(no_mangle)]
-pub extern "C" fn bootswap_piece(
+pub extern "C" fn bootswap_simulate_piece(
     setup: &Setup,
     flash: &mut [u8],
     saved: &mut SavedState,
@@ -125,7 +125,7 @@ pub extern "C" fn bootswap_piece(
     call_result: &mut CallResult,
 ) -> u32
     ensures { Answers setup.now cuts.now (call.Piece image bytes.entry) flash.old saved.old
-        flash.new saved.new call_result.new no_more result }
+        flash.new saved.new call_result.new (HasNoTexts call_result.new) result }
 {
     let call = DeviceCall::Piece(image, bytes);
     call_and_report(setup, flash, saved, cuts, &call, call_result)
@@ -136,7 +136,7 @@ pub extern "C" fn bootswap_piece(
 ///
 /// Returns `DONE`, `REFUSED`, `CUT`, or why no call was made: then nothing changed.
 #[unsafe(no_mangle)]
-pub extern "C" fn bootswap_finish(
+pub extern "C" fn bootswap_simulate_finish(
     setup: &Setup,
     flash: &mut [u8],
     saved: &mut SavedState,
@@ -145,7 +145,7 @@ pub extern "C" fn bootswap_finish(
     call_result: &mut CallResult,
 ) -> u32
     ensures { Answers setup.now cuts.now (call.Finish image) flash.old saved.old flash.new
-        saved.new call_result.new no_more result }
+        saved.new call_result.new (HasNoTexts call_result.new) result }
 {
     let call = DeviceCall::Finish(image);
     call_and_report(setup, flash, saved, cuts, &call, call_result)
@@ -155,7 +155,7 @@ pub extern "C" fn bootswap_finish(
 ///
 /// Returns `DONE`, `REFUSED`, `CUT`, or why no call was made: then nothing changed.
 #[unsafe(no_mangle)]
-pub extern "C" fn bootswap_withdraw(
+pub extern "C" fn bootswap_simulate_withdraw(
     setup: &Setup,
     flash: &mut [u8],
     saved: &mut SavedState,
@@ -164,7 +164,7 @@ pub extern "C" fn bootswap_withdraw(
     call_result: &mut CallResult,
 ) -> u32
     ensures { Answers setup.now cuts.now (call.Withdraw image) flash.old saved.old flash.new
-        saved.new call_result.new no_more result }
+        saved.new call_result.new (HasNoTexts call_result.new) result }
 {
     let call = DeviceCall::Withdraw(image);
     call_and_report(setup, flash, saved, cuts, &call, call_result)
@@ -174,7 +174,7 @@ pub extern "C" fn bootswap_withdraw(
 ///
 /// Returns `DONE`, `REFUSED`, `CUT`, or why no call was made: then nothing changed.
 #[unsafe(no_mangle)]
-pub extern "C" fn bootswap_confirm(
+pub extern "C" fn bootswap_simulate_confirm(
     setup: &Setup,
     flash: &mut [u8],
     saved: &mut SavedState,
@@ -183,7 +183,7 @@ pub extern "C" fn bootswap_confirm(
     call_result: &mut CallResult,
 ) -> u32
     ensures { Answers setup.now cuts.now (call.Confirm image) flash.old saved.old flash.new
-        saved.new call_result.new no_more result }
+        saved.new call_result.new (HasNoTexts call_result.new) result }
 {
     let call = DeviceCall::Confirm(image);
     call_and_report(setup, flash, saved, cuts, &call, call_result)

@@ -1,7 +1,7 @@
 //! The calls of a device with a journal of its writes, as C makes them.
 
 ghost use Rattle.std.specs.Prelude.{◌≡◌};
-ghost use Rattle.c_interface.specs.Answers.{HasTexts, no_more};
+ghost use Rattle.c_interface.specs.Answers.{HasNoTexts, HasTexts};
 ghost use Rattle.c_interface.specs.Lifecycle.{HoldsFirstIn, IsBoot};
 ghost use Rattle.c_interface.specs.Numbers.{DONE};
 ghost use Rattle.c_interface.specs.Recording.{AcceptsRecorded, AnswersProvisionRecorded};
@@ -30,7 +30,7 @@ fn record_and_report(
 ) -> u32
     ensures { AnswersRecorded setup.now asked.now flash.now saved.old
         (performed flash.now journal.new call_result.new) saved.new journal.old journal.new
-        call_result.new no_more result }
+        call_result.new (HasNoTexts call_result.new) result }
 {
     let mut reply = Reply::Done;
     match record_device(setup, flash, journal, saved, asked, &mut reply) {
@@ -46,8 +46,8 @@ fn record_and_report(
     }
 }
 
-/// Provisions bytes as the flash of a device, as `bootswap_provision` does, and records the writes
-/// in the journal. The journal has room for them if it has 144 bytes, and 24 for each image.
+/// Provisions bytes as the flash of a device, as `bootswap_simulate_provision` does, and records the
+/// writes in the journal. The journal has room for them if it has 144 bytes, and 24 for each image.
 ///
 /// Returns `DONE`, `REFUSED`, or why no call was made; or `CUT`, only if the journal was too short.
 /// After `CUT` it may be called again.
@@ -78,13 +78,36 @@ pub extern "C" fn bootswap_journal_provision(
     }
 }
 
-/// Boots the device, as `bootswap_boot` does, and records the writes in the journal. If the journal
-/// is too short, the call returns `CUT` after the writes that fit, and the next boot continues.
+/// Boots the device, as `bootswap_simulate_boot` does but without texts, and records the writes in
+/// the journal. If the journal is too short, the call returns `CUT` after the writes that fit, and
+/// the next boot continues.
 ///
 /// Returns `BOOTED`, `REVERTED` or `TRIAL_AGAIN`, and the device is booted; or `REFUSED`, `CUT`, or
 /// why no call was made: then nothing changed.
 #[unsafe(no_mangle)]
 pub extern "C" fn bootswap_journal_boot(
+    setup: &Setup,
+    flash: &[u8],
+    saved: &mut SavedState,
+    journal: &mut [u8],
+    call_result: &mut CallResult,
+) -> u32
+    ensures boot { IsBoot setup.now flash.now saved.old
+        (performed flash.now journal.new call_result.new) saved.new result }
+    ensures all { AnswersRecorded setup.now call.Boot flash.now saved.old
+        (performed flash.now journal.new call_result.new) saved.new journal.old journal.new
+        call_result.new (HasNoTexts call_result.new) result }
+{
+    record_and_report(setup, flash, saved, journal, &DeviceCall::Boot, call_result)
+}
+
+/// Boots the device, as `bootswap_journal_boot` does. A boot that decides also writes its table and
+/// its report as texts. A text that is longer than its buffer is left out, and its length is 0.
+///
+/// Returns `BOOTED`, `REVERTED` or `TRIAL_AGAIN`, and the device is booted; or `REFUSED`, `CUT`, or
+/// why no call was made: then nothing changed.
+#[unsafe(no_mangle)]
+pub extern "C" fn bootswap_journal_boot_with_texts(
     setup: &Setup,
     flash: &[u8],
     saved: &mut SavedState,
@@ -115,9 +138,9 @@ pub extern "C" fn bootswap_journal_boot(
     }
 }
 
-/// Accepts a manifest, as `bootswap_accept` does, and records the writes in the journal. The
-/// journal has room for them if it has 120 bytes, and for each component 44 bytes, and 12 for each
-/// sector of its slot.
+/// Accepts a manifest, as `bootswap_simulate_accept` does, and records the writes in the journal.
+/// The journal has room for them if it has 120 bytes, and for each component 44 bytes, and 12 for
+/// each sector of its slot.
 ///
 /// Returns `DONE`, `REFUSED`, or why no call was made, which includes `TOO_MANY` components: then
 /// nothing changed; or `CUT`, only if the journal was too short.
@@ -146,9 +169,9 @@ pub extern "C" fn bootswap_journal_accept(
     }
 }
 
-/// Adds bytes to the upload of an image, as `bootswap_piece` does, and records the writes in the
-/// journal. The journal has room for them if it is 31 bytes longer than the added bytes. Images are
-/// numbered from 0.
+/// Adds bytes to the upload of an image, as `bootswap_simulate_piece` does, and records the writes
+/// in the journal. The journal has room for them if it is 31 bytes longer than the added bytes.
+/// Images are numbered from 0.
 ///
 /// Returns `DONE`, `REFUSED`, or why no call was made; or `CUT`, only if the journal was too short.
 #[unsafe(no_mangle)]
@@ -163,14 +186,14 @@ pub extern "C" fn bootswap_journal_piece(
 ) -> u32
     ensures { AnswersRecorded setup.now (call.Piece image bytes.entry) flash.now saved.old
         (performed flash.now journal.new call_result.new) saved.new journal.old journal.new
-        call_result.new no_more result }
+        call_result.new (HasNoTexts call_result.new) result }
 {
     let call = DeviceCall::Piece(image, bytes);
     record_and_report(setup, flash, saved, journal, &call, call_result)
 }
 
-/// Finishes the upload of an image, as `bootswap_finish` does, and records the writes in the
-/// journal. A journal of 68 bytes has room for them. Images are numbered from 0.
+/// Finishes the upload of an image, as `bootswap_simulate_finish` does, and records the writes in
+/// the journal. A journal of 68 bytes has room for them. Images are numbered from 0.
 ///
 /// Returns `DONE`, `REFUSED`, or why no call was made; or `CUT`, only if the journal was too short.
 #[unsafe(no_mangle)]
@@ -184,14 +207,14 @@ pub extern "C" fn bootswap_journal_finish(
 ) -> u32
     ensures { AnswersRecorded setup.now (call.Finish image) flash.now saved.old
         (performed flash.now journal.new call_result.new) saved.new journal.old journal.new
-        call_result.new no_more result }
+        call_result.new (HasNoTexts call_result.new) result }
 {
     let call = DeviceCall::Finish(image);
     record_and_report(setup, flash, saved, journal, &call, call_result)
 }
 
-/// Withdraws the request of an image, as `bootswap_withdraw` does, and records the writes in the
-/// journal. A journal of 44 bytes has room for them. Images are numbered from 0.
+/// Withdraws the request of an image, as `bootswap_simulate_withdraw` does, and records the writes
+/// in the journal. A journal of 44 bytes has room for them. Images are numbered from 0.
 ///
 /// Returns `DONE`, `REFUSED`, or why no call was made; or `CUT`, only if the journal was too short.
 #[unsafe(no_mangle)]
@@ -205,14 +228,14 @@ pub extern "C" fn bootswap_journal_withdraw(
 ) -> u32
     ensures { AnswersRecorded setup.now (call.Withdraw image) flash.now saved.old
         (performed flash.now journal.new call_result.new) saved.new journal.old journal.new
-        call_result.new no_more result }
+        call_result.new (HasNoTexts call_result.new) result }
 {
     let call = DeviceCall::Withdraw(image);
     record_and_report(setup, flash, saved, journal, &call, call_result)
 }
 
-/// Confirms an image of the set on trial, as `bootswap_confirm` does, and records the writes in the
-/// journal. A journal of 20 bytes has room for them. Images are numbered from 0.
+/// Confirms an image of the set on trial, as `bootswap_simulate_confirm` does, and records the
+/// writes in the journal. A journal of 20 bytes has room for them. Images are numbered from 0.
 ///
 /// Returns `DONE`, `REFUSED`, or why no call was made; or `CUT`, only if the journal was too short.
 #[unsafe(no_mangle)]
@@ -226,7 +249,7 @@ pub extern "C" fn bootswap_journal_confirm(
 ) -> u32
     ensures { AnswersRecorded setup.now (call.Confirm image) flash.now saved.old
         (performed flash.now journal.new call_result.new) saved.new journal.old journal.new
-        call_result.new no_more result }
+        call_result.new (HasNoTexts call_result.new) result }
 {
     let call = DeviceCall::Confirm(image);
     record_and_report(setup, flash, saved, journal, &call, call_result)

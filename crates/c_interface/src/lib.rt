@@ -2,11 +2,12 @@
 //!
 //! - Promises: Each call from C is one step of the machine over whole images, from what the
 //!   caller's bytes hold to what they hold then; a piece if the saved uploads match the flash.
-//! - Main calls: `bootswap_boot`, `bootswap_accept`, `bootswap_piece`, `bootswap_finish`,
-//!   `bootswap_withdraw`, `bootswap_confirm`, `bootswap_provision`, `bootswap_slot`,
-//!   `bootswap_state`, `bootswap_describe`, `bootswap_choose`, `bootswap_check`,
-//!   `bootswap_make_image`; and with a journal `bootswap_journal_boot`,
-//!   `bootswap_journal_accept`, ..
+//! - Main calls: with a journal `bootswap_journal_boot`, `bootswap_journal_boot_with_texts`,
+//!   `bootswap_journal_accept`, `bootswap_journal_piece`, `bootswap_journal_finish`,
+//!   `bootswap_journal_withdraw`, `bootswap_journal_confirm`, `bootswap_journal_provision`; on bytes
+//!   in memory that may be cut `bootswap_simulate_boot`, `bootswap_simulate_accept`, ..; and
+//!   `bootswap_slot`, `bootswap_state`, `bootswap_describe`, `bootswap_choose`, `bootswap_check`,
+//!   `bootswap_make_image`.
 //! - Allocates: no.
 //! - Callers: programs in C, and of languages that call C. `include/bootswap.h` declares the calls.
 //!

@@ -47,7 +47,7 @@ fn provision_on<L: Ledger>(
 /// why no call was made, or `REFUSED`: with reason 5 and the lowest image whose primary slot begins
 /// with no intact image, or with reason 6 if the images don't fit each other.
 #[unsafe(no_mangle)]
-pub extern "C" fn bootswap_provision(
+pub extern "C" fn bootswap_simulate_provision(
     setup: &Setup,
     flash: &mut [u8],
     cuts: &[CutRow],

@@ -1,27 +1,5 @@
-use Rattle.std.proofs.Common.{ℕ, refl, sym, subst}
-use Rattle.c_interface.specs.declared.dispatch.DeviceCall.TheVariants.{Boot}
-use Rattle.slice_flash.specs.Overlay.{replayed}
-use Rattle.c_interface.specs.Recording.{Replied, NotCalled, RecordsOn}
 use Rattle.c_interface.proofs.Lifecycle.{boot_recorded}
-use Rattle.c_interface.proofs.TextLengths.{texts_of_result}
 use Rattle.c_interface.proofs.journal_exports.bootswap_journal_boot.Goals as goal
 
-pub returns-in-Ok-clause-all : goal.returns-in-Ok-clause-all
-returns-in-Ok-clause-all c =
-    let on = λ (n u : ℕ). RecordsOn c.args.setup.now Boot c.args.flash.now c.args.saved.now
-    (replayed c.args.flash.now c.record_device.new.journal n) c.record_device.new.saved c.args.journal.now c.record_device.new.journal c.record_device.new.reply n u in
-    Replied c.record_device.new.reply
-    (subst (λ n. on n c.recorded_result_of.result.journal_length) (sym c.recorded_result_of.ensures.writes)
-    (subst (λ u. on c.in-Ok.outcome.writes u) (sym c.recorded_result_of.ensures.journal) c.in-Ok.ensures.outcome))
-    c.recorded_result_of.ensures.fields
-    (texts_of_result c.record_device.new.reply c.put_texts-lengths.result.table c.put_texts-lengths.result.report _ _ _ _
-    c.recorded_result_of.result c.recorded_result_of.ensures.lengths c.put_texts-lengths.ensures) c.number_of.ensures
-
-pub returns-in-Err-clause-all : goal.returns-in-Err-clause-all
-returns-in-Err-clause-all c = let none = c.in-Err.ensures.refused in NotCalled none.0 refl none.1 none.2 refl
-
-pub returns-in-Ok-clause-boot : goal.returns-in-Ok-clause-boot
-returns-in-Ok-clause-boot c = boot_recorded c.args.setup.now _ _ _ _ _ _ _ _ (returns-in-Ok-clause-all c)
-
-pub returns-in-Err-clause-boot : goal.returns-in-Err-clause-boot
-returns-in-Err-clause-boot c = boot_recorded c.args.setup.now _ _ _ _ _ _ _ _ (returns-in-Err-clause-all c)
+pub returns-clause-boot : goal.returns-clause-boot
+returns-clause-boot c = boot_recorded c.args.setup.now _ _ _ _ _ _ _ _ c.record_and_report.ensures

@@ -6,7 +6,7 @@ use Rattle.c_interface.specs.Provisioning.{ProvisionsOn, Replied, NotCalled}
 use Rattle.slice_flash.specs.Rows.{fixed_by}
 use Rattle.c_interface.proofs.Asked.{same_asked}
 use Rattle.c_interface.proofs.Lifecycle.{first_in}
-use Rattle.c_interface.proofs.provisioning.bootswap_provision.Goals as goal
+use Rattle.c_interface.proofs.provisioning.bootswap_simulate_provision.Goals as goal
 
 pub returns-in-Err-clause-all : goal.returns-in-Err-clause-all
 returns-in-Err-clause-all c = NotCalled (inl c.in-Err.ensures.refused) refl refl

@@ -4,7 +4,7 @@ use Rattle.c_interface.specs.Answers.{Replied, NotCalled}
 use Rattle.c_interface.specs.Calls.{CallsOn}
 use Rattle.c_interface.proofs.Lifecycle.{boot_in}
 use Rattle.c_interface.proofs.TextLengths.{texts_of_result}
-use Rattle.c_interface.proofs.exports.bootswap_boot.Goals as goal
+use Rattle.c_interface.proofs.exports.bootswap_simulate_boot.Goals as goal
 
 pub returns-in-Ok-clause-all : goal.returns-in-Ok-clause-all
 returns-in-Ok-clause-all c = Replied c.call_device.new.reply
