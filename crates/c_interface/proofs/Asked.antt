@@ -25,8 +25,8 @@ use Rattle.slice_flash.specs.Rows.{cutting_of, fixed_by, kind_of, numbers_in, pa
 use Rattle.slice_flash.specs.declared.table.ArmedCut.{ArmedCut}
 use Rattle.slice_flash.specs.declared.table.Left.{Left}
 use Rattle.slice_flash.specs.declared.table.Left.TheVariants.{Keep, Done, Bytes}
-use Rattle.c_interface.specs.declared.dispatch.DeviceCall.{DeviceCall}
-use Rattle.c_interface.specs.declared.dispatch.DeviceCall.TheVariants.{Accept, Piece, Finish, Withdraw, Confirm, Boot}
+use Rattle.c_interface.specs.DeviceCall.{DeviceCall}
+use Rattle.c_interface.specs.DeviceCall.{Accept, Piece, Finish, Withdraw, Confirm, Boot}
 use Rattle.c_interface.specs.declared.cuts.CutRow.{CutRow}
 use Rattle.c_interface.specs.Calls.{IsCallOf}
 use Rattle.c_interface.specs.Cuts.{AreCutsOf, IsCutAsAsked, IsCutOf, IsLeftBy, WritesAsAsked, asked_by, cutting_by, kind_by, numbers_of, pattern_by}

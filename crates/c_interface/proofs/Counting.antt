@@ -17,8 +17,8 @@ use Rattle.boot_core.specs.Answers.{reply_of_result}
 use Rattle.boot_core.specs.Provisions.{Provisions}
 use Rattle.slice_flash.specs.Rows.{numbers_in}
 use Rattle.slice_flash.specs.declared.table.ArmedCut.{ArmedCut}
-use Rattle.c_interface.specs.declared.dispatch.DeviceCall.{DeviceCall}
-use Rattle.c_interface.specs.declared.dispatch.DeviceCall.TheVariants.{Accept, Piece, Finish, Withdraw, Confirm, Boot}
+use Rattle.c_interface.specs.DeviceCall.{DeviceCall}
+use Rattle.c_interface.specs.DeviceCall.{Accept, Piece, Finish, Withdraw, Confirm, Boot}
 use Rattle.c_interface.specs.declared.cuts.CutRow.{CutRow}
 use Rattle.c_interface.specs.Calls.{IsCallOf}
 use Rattle.c_interface.specs.Cuts.{AreCutsOf, IsCutAsAsked, numbers_of}

@@ -13,7 +13,7 @@ use Rattle.boot_core.specs.Device.{seen}
 use Rattle.boot_core.proofs.Stopping.{holds_down}
 use Rattle.c_interface.specs.declared.call_result.CallResult.{CallResult}
 use Rattle.c_interface.specs.declared.cuts.CutRow.{CutRow}
-use Rattle.c_interface.specs.declared.dispatch.DeviceCall.TheVariants.{Boot}
+use Rattle.c_interface.specs.DeviceCall.{Boot}
 use Rattle.c_interface.specs.declared.saved_state.SavedState.{SavedState}
 use Rattle.c_interface.specs.declared.setup.CheckedSetup.{CheckedSetup}
 use Rattle.c_interface.specs.declared.setup.Setup.{Setup}

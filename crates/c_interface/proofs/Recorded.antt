@@ -10,8 +10,8 @@ use Rattle.slice_flash.specs.Overlay.{replayed}
 use Rattle.slice_flash.specs.OverlayFlash.{ShowsJournal}
 use Rattle.slice_flash.specs.Steps.{IsRecordedBy, IsTooShort, fixed_over}
 use Rattle.c_interface.specs.declared.call_result.CallResult.{CallResult}
-use Rattle.c_interface.specs.declared.dispatch.DeviceCall.{DeviceCall}
-use Rattle.c_interface.specs.declared.dispatch.DeviceCall.TheVariants.{Accept, Piece, Finish, Withdraw, Confirm, Boot}
+use Rattle.c_interface.specs.DeviceCall.{DeviceCall}
+use Rattle.c_interface.specs.DeviceCall.{Accept, Piece, Finish, Withdraw, Confirm, Boot}
 use Rattle.c_interface.specs.CallResult.{IsResultOf}
 use Rattle.c_interface.specs.Calls.{IsJournaled}
 use Rattle.boot_core.specs.Journal.{GetsFurther}

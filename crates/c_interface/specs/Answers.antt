@@ -6,8 +6,8 @@ use Rattle.certificate.specs.TableText.{table_text}
 use Rattle.manifest.specs.declared.manifest.Manifest.{Manifest}
 use Rattle.machine.specs.declared.reply.Reply.{Reply}
 use Rattle.machine.specs.declared.reply.Reply.TheVariants.{Booted}
-use Rattle.c_interface.specs.declared.dispatch.DeviceCall.{DeviceCall}
-use Rattle.c_interface.specs.declared.dispatch.DeviceCall.TheVariants.{Accept}
+use Rattle.c_interface.specs.DeviceCall.{DeviceCall}
+use Rattle.c_interface.specs.DeviceCall.{Accept}
 use Rattle.c_interface.specs.declared.saved_state.SavedState.{SavedState}
 use Rattle.manifest.specs.declared.rows.ManifestRow.{ManifestRow}
 use Rattle.c_interface.specs.declared.cuts.CutRow.{CutRow}

@@ -30,8 +30,8 @@ use Rattle.boot_core.specs.Device.{StaysHeld, made}
 use Rattle.boot_core.specs.Journal.{AsksToBoot}
 use Rattle.boot_core.specs.Ready.{LogsRest}
 use Rattle.boot_core.specs.Taking.{ConfirmsHere, FinishesHere, TakesHere, TakesManifestHere, TakesPieceHere}
-use Rattle.c_interface.specs.declared.dispatch.DeviceCall.{DeviceCall}
-use Rattle.c_interface.specs.declared.dispatch.DeviceCall.TheVariants.{Accept, Piece, Finish, Withdraw, Confirm, Boot}
+use Rattle.c_interface.specs.DeviceCall.{DeviceCall}
+use Rattle.c_interface.specs.DeviceCall.{Accept, Piece, Finish, Withdraw, Confirm, Boot}
 use Rattle.c_interface.specs.declared.cuts.CutRow.{CutRow}
 use Rattle.c_interface.specs.declared.saved_state.SavedState.{SavedState}
 use Rattle.c_interface.specs.declared.setup.CheckedSetup.{CheckedSetup}

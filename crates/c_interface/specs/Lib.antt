@@ -1,5 +1,6 @@
 pub mod Numbers
 pub mod Setup
+pub mod DeviceCall
 pub mod SavedState
 pub mod Cuts
 pub mod Calls

@@ -12,8 +12,8 @@ use Rattle.slice_flash.specs.Overlay.{replayed}
 use Rattle.slice_flash.specs.Steps.{IsRecordedBy, IsTooShort}
 use Rattle.std.specs.Borrow.{Bor}
 use Rattle.c_interface.specs.declared.call_result.CallResult.{CallResult}
-use Rattle.c_interface.specs.declared.dispatch.DeviceCall.{DeviceCall}
-use Rattle.c_interface.specs.declared.dispatch.DeviceCall.TheVariants.{Accept, Boot}
+use Rattle.c_interface.specs.DeviceCall.{DeviceCall}
+use Rattle.c_interface.specs.DeviceCall.{Accept, Boot}
 use Rattle.manifest.specs.declared.rows.ManifestRow.{ManifestRow}
 use Rattle.c_interface.specs.declared.saved_state.SavedState.{SavedState}
 use Rattle.c_interface.specs.declared.setup.CheckedSetup.{CheckedSetup}

@@ -11,8 +11,8 @@ use Rattle.upload.specs.View.{view}
 use Rattle.upload.specs.Sessions.{AllClosed, AllOpenAt, upload_at}
 use Rattle.upload.specs.declared.sessions.Upload.{Upload}
 use Rattle.machine.specs.Holding.{DeviceView}
-use Rattle.c_interface.specs.declared.dispatch.DeviceCall.{DeviceCall}
-use Rattle.c_interface.specs.declared.dispatch.DeviceCall.TheVariants.{Piece}
+use Rattle.c_interface.specs.DeviceCall.{DeviceCall}
+use Rattle.c_interface.specs.DeviceCall.{Piece}
 use Rattle.c_interface.specs.declared.saved_state.SavedState.{SavedState}
 use Rattle.c_interface.specs.declared.saved_state.SavedUpload.{SavedUpload}
 

@@ -9,28 +9,22 @@ ghost use Rattle.slice_flash.specs.Rows.{fixed_by};
 ghost use Rattle.upload.specs.declared.sessions.Upload.{Upload};
 ghost use Rattle.c_interface.specs.Calls.{CallsOn, IsJournaled, IsRefusedBefore, StepsBetween};
 ghost use Rattle.c_interface.specs.Calls.{StepsOn};
-ghost use Rattle.c_interface.specs.SavedState.{IsSavedFor, IsSavedWith, IsTakenBy, SavesDevice};
+ghost use Rattle.c_interface.specs.SavedState.{IsSavedFor, IsSavedWith, IsTakenBy, SavesDevice, is_piece};
+ghost use Rattle.c_interface.specs.DeviceCall.{DeviceCall};
 ghost use Rattle.c_interface.specs.Setup.{HasRoom, IsTrial};
 
+use crate::answers::Answer;
+use crate::calls::Call;
 use crate::cuts::{CutRow, MOST_CUTS, table_of};
-use crate::dispatch::{DeviceCall, dispatch, is_piece};
 use crate::numbers::TOO_MANY;
 use crate::saved_state::{NOT_BOOTED, SavedState, load_uploads, upload_rows};
 use crate::setup::{CheckedSetup, Setup, check_setup};
 use flash_model::Flash;
-use machine::Reply;
 use sector_map::SectorMap;
 use slice_flash::{ArmedCut, SliceFlash};
 use std::marker::Brand;
 use std::sync::ledger::{Blank, Ledger};
 use upload::Uploads;
-
-/// The state of a device that its flash doesn't hold.
-#[derive(Drop)]
-struct VolatileState {
-    uploads: Uploads,
-    is_booted: bool,
-}
 
 /// The saved uploads, if the saved state is a booted device. They may not match the flash.
 fn saved_uploads(saved: &SavedState) -> Option<Uploads>
@@ -51,18 +45,19 @@ fn uploads_for<F: Flash>(
     flash: &mut F,
     map: &SectorMap,
     saved: &SavedState,
-    call: &DeviceCall<'_>,
+    unchecked: bool,
 ) -> Option<Uploads>
     requires laid_out { IsLaidOut map.now (F.chip flash.old) }
     requires on { (F.chip flash.old).is_on ≡ true }
     ensures same { F.chip flash.new ≡ F.chip flash.old }
-    ensures some { IfSome result (λ uploads.
-        IsTakenBy call.now map.now (F.chip flash.old) saved.now uploads.sessions) }
-    ensures none { result ≡ None → (sessions : List (Option Upload))
-        → IsTakenBy call.now map.now (F.chip flash.old) saved.now sessions → ⊥ }
+    ensures some { IfSome result (λ uploads. (call : DeviceCall) → is_piece call ≡ unchecked
+        → IsTakenBy call map.now (F.chip flash.old) saved.now uploads.sessions) }
+    ensures none { result ≡ None → (call : DeviceCall) → is_piece call ≡ unchecked
+        → (sessions : List (Option Upload))
+        → IsTakenBy call map.now (F.chip flash.old) saved.now sessions → ⊥ }
 {
     let uploads = saved_uploads(saved)?;
-    if is_piece(call) {
+    if unchecked {
         return Some(uploads);
     }
     match uploads.stand(flash, map) {
@@ -71,99 +66,107 @@ fn uploads_for<F: Flash>(
     }
 }
 
-/// The state of the device on which a call is made: booted, with the uploads that the call takes
-/// from the saved state, or not booted if it takes none.
+/// Restores the device on which a call is made, and returns whether it is booted: it is, with the
+/// uploads that the call takes from the saved state, or it isn't if the call takes none.
+#[inline(never)]
 fn restore<F: Flash>(
     flash: &mut F,
     map: &SectorMap,
     saved: &SavedState,
-    call: &DeviceCall<'_>,
-) -> VolatileState
+    unchecked: bool,
+    uploads: &mut Uploads,
+) -> bool
     requires laid_out { IsLaidOut map.now (F.chip flash.old) }
     requires on { (F.chip flash.old).is_on ≡ true }
     ensures same { F.chip flash.new ≡ F.chip flash.old }
-    ensures restored { IsSavedFor call.now map.now saved.now
-        (seen (F.chip flash.old) result.uploads.sessions result.is_booted) }
+    ensures restored { (call : DeviceCall) → is_piece call ≡ unchecked
+        → IsSavedFor call map.now saved.now
+        (seen (F.chip flash.old) uploads.new.sessions result) }
 {
-    match uploads_for(flash, map, saved, call) {
-        Some(uploads) => VolatileState {
-            uploads,
-            is_booted: true,
-        },
-        None => VolatileState {
-            uploads: Uploads::new(),
-            is_booted: false,
-        },
+    match uploads_for(flash, map, saved, unchecked) {
+        Some(taken) => {
+            *uploads = taken;
+            true
+        }
+        None => {
+            *uploads = Uploads::new();
+            false
+        }
     }
 }
 
 /// The form in which the caller keeps a state until the next call.
-fn save(state: &VolatileState) -> SavedState
-    ensures { SavesDevice result state.now.uploads.sessions state.now.is_booted }
+fn saved_form(uploads: &Uploads, is_booted: bool) -> SavedState
+    ensures { SavesDevice result uploads.now.sessions is_booted }
 {
-    if !state.is_booted {
+    if !is_booted {
         return NOT_BOOTED;
     }
     SavedState {
         is_booted: 1,
         unused: [0; 3],
-        uploads: upload_rows(&state.uploads.sessions),
+        uploads: upload_rows(&uploads.sessions),
     }
 }
 
-/// Restores the state of the device over a flash with power, makes the call, writes the reply, and
+/// Saves the state of the device until the next call. A temporary one takes stack only here.
+#[inline(never)]
+fn save(uploads: &Uploads, is_booted: bool, saved: &mut SavedState)
+    ensures { SavesDevice saved.new uploads.now.sessions is_booted }
+{
+    *saved = saved_form(uploads, is_booted);
+}
+
+/// Restores the state of the device over a flash with power, makes the call, writes the answer, and
 /// saves the state.
-pub(crate) fn resume_and_run<F: Flash>(
+pub(crate) fn resume_and_run<F: Flash, C: Call>(
     flash: &mut F,
     checked: &CheckedSetup,
     saved: &mut SavedState,
-    call: &DeviceCall<'_>,
-    reply: &mut Reply,
+    call: &C,
+    answer: &mut C::Answer,
 )
     requires laid_out { IsLaidOut checked.now.map (F.chip flash.old) }
     requires on { (F.chip flash.old).is_on ≡ true }
     requires images { checked.now.identity.images ≡ checked.now.map.images }
     requires trial { IsTrial checked.now.boots }
     ensures fixed { (F.chip flash.new).fixed ≡ (F.chip flash.old).fixed }
-    ensures cuts { (F.chip flash.new).cuts ≡ (F.chip flash.old).cuts + cut_of reply.new }
-    ensures dark { cut_of reply.new ≡ 1 → (F.chip flash.new).is_on ≡ false }
+    ensures cuts { (F.chip flash.new).cuts
+        ≡ (F.chip flash.old).cuts + cut_of (C.Answer.reply answer.new) }
+    ensures dark { cut_of (C.Answer.reply answer.new) ≡ 1 → (F.chip flash.new).is_on ≡ false }
     ensures laid { IsLaidOut checked.now.map (F.chip flash.new) }
-    ensures journal { IsJournaled checked.now.map call.now (F.chip flash.old) (F.chip flash.new) }
-    ensures steps { StepsBetween checked.now call.now (F.chip flash.old).bytes saved.old
-        (F.chip flash.new).bytes saved.new reply.new (F.chip flash.old) (F.chip flash.new) }
+    ensures journal { IsJournaled checked.now.map (C.call call.now) (F.chip flash.old)
+        (F.chip flash.new) }
+    ensures steps { StepsBetween checked.now (C.call call.now) (F.chip flash.old).bytes saved.old
+        (F.chip flash.new).bytes saved.new (C.Answer.reply answer.new) (F.chip flash.old)
+        (F.chip flash.new) }
 {
-    let mut state = restore(flash, &checked.map, saved, call);
-    dispatch(
-        flash,
-        checked,
-        &mut state.uploads,
-        &mut state.is_booted,
-        call,
-        reply,
-    );
-    *saved = save(&state);
+    let mut uploads = Uploads::new();
+    let mut is_booted = restore(flash, &checked.map, saved, call.is_piece(), &mut uploads);
+    call.make(flash, checked, &mut uploads, &mut is_booted, answer);
+    save(&uploads, is_booted, saved);
 }
 
-/// Runs a call on the flash of these bytes, writes the reply, and returns the number of writes that
+/// Runs a call on the flash of these bytes, writes the answer, and returns the number of writes that
 /// the call began. The writes in the table are cut.
-fn run_over_bytes<L: Ledger>(
+fn run_over_bytes<L: Ledger, C: Call>(
     blank: Blank,
     checked: &CheckedSetup,
     bytes: &mut [u8],
     table: &[ArmedCut<'_>],
     saved: &mut SavedState,
-    call: &DeviceCall<'_>,
-    reply: &mut Reply,
+    call: &C,
+    answer: &mut C::Answer,
 ) -> u64
     requires blank { IsBlankOf blank L.name L.parts 2 }
     requires room { HasRoom checked.now.map bytes.old }
     requires images { checked.now.identity.images ≡ checked.now.map.images }
     requires trial { IsTrial checked.now.boots }
-    ensures { StepsOn checked.now (fixed_by table.now [] 0) call.now bytes.old saved.old bytes.new
-        saved.new reply.new result }
+    ensures { StepsOn checked.now (fixed_by table.now [] 0) (C.call call.now) bytes.old saved.old bytes.new
+        saved.new (C.Answer.reply answer.new) result }
 {
     let mut flash = SliceFlash::<L>::new(blank, bytes, checked.map.sector_size, table);
-    resume_and_run(&mut flash, checked, saved, call, reply);
+    resume_and_run(&mut flash, checked, saved, call, answer);
     flash.writes()
 }
 
@@ -172,16 +175,16 @@ fn run_over_bytes<L: Ledger>(
 ///
 /// # Errors
 /// The number to return. Nothing has changed then.
-pub(crate) fn call_device(
+pub(crate) fn call_device<C: Call>(
     setup: &Setup,
     bytes: &mut [u8],
     saved: &mut SavedState,
     cuts: &[CutRow],
-    call: &DeviceCall<'_>,
-    reply: &mut Reply,
+    call: &C,
+    answer: &mut C::Answer,
 ) -> Result<u64, u32>
-    ensures outcome { IfOk result (λ writes. CallsOn setup.now cuts.now call.now bytes.old
-        saved.old bytes.new saved.new reply.new writes) }
+    ensures outcome { IfOk result (λ writes. CallsOn setup.now cuts.now (C.call call.now) bytes.old
+        saved.old bytes.new saved.new (C.Answer.reply answer.new) writes) }
     ensures refused { IfErr result (λ number. IsRefusedBefore setup.now cuts.now bytes.old number
         × (bytes.new ≡ bytes.old) × (saved.new ≡ saved.old)) }
 {
@@ -194,5 +197,5 @@ pub(crate) fn call_device(
     }
     let table = table_of(cuts);
     let rows = &table[..cuts.len()];
-    Ok(run_over_bytes::<Brand>(Blank::new(2), &checked, bytes, rows, saved, call, reply))
+    Ok(run_over_bytes::<Brand, C>(Blank::new(2), &checked, bytes, rows, saved, call, answer))
 }

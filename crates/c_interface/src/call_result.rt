@@ -4,7 +4,8 @@ ghost use Rattle.std.specs.Prelude.{◌≡◌, ◌<◌, ◌≤◌, ◌^◌, leng
 ghost use Rattle.c_interface.specs.CallResult.{AreNeedRows, AreRefusalRows, AreVersionRows};
 ghost use Rattle.c_interface.specs.CallResult.{IsRefusalRow, HasTextLengths, IsResultOf, IsResultOfReport};
 ghost use Rattle.c_interface.specs.CallResult.{check_of, detail_of, needs_of, number_of, reason_number};
-ghost use Rattle.c_interface.specs.CallResult.{taken_mask, fault_result, need_row, version_row};
+ghost use Rattle.c_interface.specs.CallResult.{taken_mask, fault_result, need_row, no_result, version_row};
+ghost use Rattle.machine.specs.Codes.{code_of};
 
 use crate::numbers::{BOOTED, CUT, DONE, REFUSED, REVERTED, TRIAL_AGAIN};
 use crate::texts::Lengths;
@@ -299,22 +300,34 @@ fn report_result(report: &Report, permanent: bool, writes: u64, lengths: Lengths
     }
 }
 
+/// Writes why a call is refused.
+pub(crate) fn put_fault(fault: Fault, call_result: &mut CallResult)
+    ensures { call_result.new ≡ record call_result.old {
+      fault = code_of fault;
+      detail = detail_of fault;
+      check = check_of fault;
+    } }
+{
+    call_result.fault = u32::from(fault.code());
+    call_result.detail = detail_of(fault);
+    call_result.check = check_of(fault);
+}
+
 /// The result of a refused call.
 fn fault_result(fault: Fault, writes: u64) -> CallResult
     ensures { result ≡ fault_result fault writes 0 }
 {
-    CallResult {
+    let mut call_result = CallResult {
         writes,
-        fault: u32::from(fault.code()),
-        detail: detail_of(fault),
-        check: check_of(fault),
         ..NO_RESULT
-    }
+    };
+    put_fault(fault, &mut call_result);
+    call_result
 }
 
 /// The result of a call with this reply and no journal. The lengths of texts count only for a boot
 /// that decided.
-pub(crate) fn result_of(reply: &Reply, writes: u64, lengths: Lengths) -> CallResult
+fn result_of(reply: &Reply, writes: u64, lengths: Lengths) -> CallResult
     ensures fields { IsResultOf reply.now result }
     ensures writes { result.writes ≡ writes }
     ensures journal { result.journal_length ≡ 0 }
@@ -346,12 +359,7 @@ pub(crate) fn result_of(reply: &Reply, writes: u64, lengths: Lengths) -> CallRes
 }
 
 /// The result of a call with this reply, of whose journal this number of bytes is used.
-pub(crate) fn recorded_result_of(
-    reply: &Reply,
-    writes: u64,
-    used: u64,
-    lengths: Lengths,
-) -> CallResult
+fn recorded_result_of(reply: &Reply, writes: u64, used: u64, lengths: Lengths) -> CallResult
     ensures fields { IsResultOf reply.now result }
     ensures writes { result.writes ≡ writes }
     ensures journal { result.journal_length ≡ used }
@@ -361,6 +369,32 @@ pub(crate) fn recorded_result_of(
         journal_length: used,
         ..result_of(reply, writes, lengths)
     }
+}
+
+/// Writes the result of a call with this reply, of whose journal this number of bytes is used. A
+/// temporary result takes stack only here.
+#[inline(never)]
+pub(crate) fn put_result(
+    reply: &Reply,
+    writes: u64,
+    used: u64,
+    lengths: Lengths,
+    call_result: &mut CallResult,
+)
+    ensures fields { IsResultOf reply.now call_result.new }
+    ensures writes { call_result.new.writes ≡ writes }
+    ensures journal { call_result.new.journal_length ≡ used }
+    ensures lengths { HasTextLengths reply.now lengths.table lengths.report call_result.new }
+{
+    *call_result = recorded_result_of(reply, writes, used, lengths);
+}
+
+/// Writes the result if no call was made. A temporary one takes stack only here.
+#[inline(never)]
+pub(crate) fn put_no_result(call_result: &mut CallResult)
+    ensures { call_result.new ≡ no_result }
+{
+    *call_result = NO_RESULT;
 }
 
 /// The number that a call returns.

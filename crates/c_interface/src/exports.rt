@@ -3,39 +3,37 @@
 ghost use Rattle.c_interface.specs.Answers.{Accepts, Answers, HasNoTexts, HasTexts};
 ghost use Rattle.c_interface.specs.Lifecycle.{IsBoot};
 ghost use Rattle.c_interface.specs.SavedState.{IsNotBooted};
-ghost use Rattle.c_interface.specs.declared.dispatch.DeviceCall.TheVariants as call;
+ghost use Rattle.c_interface.specs.DeviceCall as call;
 
+use crate::answers::Answer;
 use crate::borrowed::call_device;
-use crate::call_result::{CallResult, NO_RESULT, number_of, result_of};
+use crate::call_result::{CallResult, number_of, put_no_result, put_result};
+use crate::calls::{Accept, Boot, Call, Confirm, Finish, Piece, Withdraw};
 use crate::cuts::CutRow;
-use crate::dispatch::DeviceCall;
 use crate::numbers::TOO_MANY;
 use crate::saved_state::{NOT_BOOTED, SavedState};
 use crate::setup::Setup;
-use crate::texts::{NO_TEXTS, put_texts};
+use crate::texts::put_texts;
 use machine::Reply;
 use manifest::{ManifestRow, manifest_in};
 
 /// Makes a call on the device of a setup, reports its outcome, and returns the number of its reply.
-fn call_and_report(
+fn call_and_report<C: Call>(
     setup: &Setup,
     flash: &mut [u8],
     saved: &mut SavedState,
     cuts: &[CutRow],
-    asked: &DeviceCall<'_>,
+    asked: &C,
+    answer: &mut C::Answer,
     call_result: &mut CallResult,
 ) -> u32
-    ensures { Answers setup.now cuts.now asked.now flash.old saved.old flash.new saved.new
+    ensures { Answers setup.now cuts.now (C.call asked.now) flash.old saved.old flash.new saved.new
         call_result.new (HasNoTexts call_result.new) result }
 {
-    let mut reply = Reply::Done;
-    match call_device(setup, flash, saved, cuts, asked, &mut reply) {
-        Ok(writes) => {
-            *call_result = result_of(&reply, writes, NO_TEXTS);
-            number_of(&reply)
-        }
+    match call_device(setup, flash, saved, cuts, asked, answer) {
+        Ok(writes) => answer.report(writes, 0, call_result),
         Err(number) => {
-            *call_result = NO_RESULT;
+            put_no_result(call_result);
             number
         }
     }
@@ -62,14 +60,14 @@ pub extern "C" fn bootswap_simulate_boot(
         table.old table.new report.old report.new) result }
 {
     let mut reply = Reply::Done;
-    match call_device(setup, flash, saved, cuts, &DeviceCall::Boot, &mut reply) {
+    match call_device(setup, flash, saved, cuts, &Boot, &mut reply) {
         Ok(writes) => {
             let lengths = put_texts(&reply, table, report);
-            *call_result = result_of(&reply, writes, lengths);
+            put_result(&reply, writes, 0, lengths, call_result);
             number_of(&reply)
         }
         Err(number) => {
-            *call_result = NO_RESULT;
+            put_no_result(call_result);
             number
         }
     }
@@ -94,11 +92,12 @@ pub extern "C" fn bootswap_simulate_accept(
 {
     match manifest_in(manifest) {
         Some(manifest) => {
-            let call = DeviceCall::Accept(&manifest);
-            call_and_report(setup, flash, saved, cuts, &call, call_result)
+            let call = Accept(&manifest);
+            let mut given = Ok(());
+            call_and_report(setup, flash, saved, cuts, &call, &mut given, call_result)
         }
         None => {
-            *call_result = NO_RESULT;
+            put_no_result(call_result);
             TOO_MANY
         }
     }
@@ -127,8 +126,9 @@ pub extern "C" fn bootswap_simulate_piece(
     ensures { Answers setup.now cuts.now (call.Piece image bytes.entry) flash.old saved.old
         flash.new saved.new call_result.new (HasNoTexts call_result.new) result }
 {
-    let call = DeviceCall::Piece(image, bytes);
-    call_and_report(setup, flash, saved, cuts, &call, call_result)
+    let call = Piece(image, bytes);
+    let mut given = Ok(());
+    call_and_report(setup, flash, saved, cuts, &call, &mut given, call_result)
 }
 
 /// Finishes the upload of an image. The image is requested if the upload is complete, has the
@@ -147,8 +147,9 @@ pub extern "C" fn bootswap_simulate_finish(
     ensures { Answers setup.now cuts.now (call.Finish image) flash.old saved.old flash.new
         saved.new call_result.new (HasNoTexts call_result.new) result }
 {
-    let call = DeviceCall::Finish(image);
-    call_and_report(setup, flash, saved, cuts, &call, call_result)
+    let call = Finish(image);
+    let mut given = Ok(());
+    call_and_report(setup, flash, saved, cuts, &call, &mut given, call_result)
 }
 
 /// Withdraws the request of an image. Images are numbered from 0.
@@ -166,8 +167,9 @@ pub extern "C" fn bootswap_simulate_withdraw(
     ensures { Answers setup.now cuts.now (call.Withdraw image) flash.old saved.old flash.new
         saved.new call_result.new (HasNoTexts call_result.new) result }
 {
-    let call = DeviceCall::Withdraw(image);
-    call_and_report(setup, flash, saved, cuts, &call, call_result)
+    let call = Withdraw(image);
+    let mut given = Ok(());
+    call_and_report(setup, flash, saved, cuts, &call, &mut given, call_result)
 }
 
 /// Confirms an image of the set on trial. Images are numbered from 0.
@@ -185,8 +187,9 @@ pub extern "C" fn bootswap_simulate_confirm(
     ensures { Answers setup.now cuts.now (call.Confirm image) flash.old saved.old flash.new
         saved.new call_result.new (HasNoTexts call_result.new) result }
 {
-    let call = DeviceCall::Confirm(image);
-    call_and_report(setup, flash, saved, cuts, &call, call_result)
+    let call = Confirm(image);
+    let mut given = Ok(());
+    call_and_report(setup, flash, saved, cuts, &call, &mut given, call_result)
 }
 
 /// Resets the device: all uploads are closed, and it isn't booted. It also makes the first saved

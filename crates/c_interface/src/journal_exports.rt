@@ -6,41 +6,38 @@ ghost use Rattle.c_interface.specs.Lifecycle.{HoldsFirstIn, IsBoot};
 ghost use Rattle.c_interface.specs.Numbers.{DONE};
 ghost use Rattle.c_interface.specs.Recording.{AcceptsRecorded, AnswersProvisionRecorded};
 ghost use Rattle.c_interface.specs.Recording.{AnswersRecorded, performed};
-ghost use Rattle.c_interface.specs.declared.dispatch.DeviceCall.TheVariants as call;
+ghost use Rattle.c_interface.specs.DeviceCall as call;
 
-use crate::call_result::{CallResult, NO_RESULT, number_of, recorded_result_of};
-use crate::dispatch::DeviceCall;
+use crate::answers::Answer;
+use crate::call_result::{CallResult, number_of, put_no_result, put_result};
+use crate::calls::{Accept, Boot, Call, Confirm, Finish, Piece, Withdraw};
 use crate::numbers::TOO_MANY;
 use crate::recording::{RecordedWrites, record_device, record_provision};
 use crate::saved_state::SavedState;
 use crate::setup::Setup;
-use crate::texts::{NO_TEXTS, put_texts};
+use crate::texts::put_texts;
 use machine::Reply;
 use manifest::{ManifestRow, manifest_in};
 
 /// Makes a call on the device of a setup, records its writes, reports its outcome, and returns the
 /// number of its reply.
-fn record_and_report(
+fn record_and_report<C: Call>(
     setup: &Setup,
     flash: &[u8],
     saved: &mut SavedState,
     journal: &mut [u8],
-    asked: &DeviceCall<'_>,
+    asked: &C,
+    answer: &mut C::Answer,
     call_result: &mut CallResult,
 ) -> u32
-    ensures { AnswersRecorded setup.now asked.now flash.now saved.old
+    ensures { AnswersRecorded setup.now (C.call asked.now) flash.now saved.old
         (performed flash.now journal.new call_result.new) saved.new journal.old journal.new
         call_result.new (HasNoTexts call_result.new) result }
 {
-    let mut reply = Reply::Done;
-    match record_device(setup, flash, journal, saved, asked, &mut reply) {
-        Ok(outcome) => {
-            let RecordedWrites { writes, used } = outcome;
-            *call_result = recorded_result_of(&reply, writes, used, NO_TEXTS);
-            number_of(&reply)
-        }
+    match record_device(setup, flash, journal, saved, asked, answer) {
+        Ok(outcome) => answer.report(outcome.writes, outcome.used, call_result),
         Err(number) => {
-            *call_result = NO_RESULT;
+            put_no_result(call_result);
             number
         }
     }
@@ -64,15 +61,11 @@ pub extern "C" fn bootswap_journal_provision(
         (performed flash.now journal.new call_result.new) journal.old journal.new call_result.new
         result }
 {
-    let mut reply = Reply::Done;
-    match record_provision(setup, flash, journal, &mut reply) {
-        Ok(outcome) => {
-            let RecordedWrites { writes, used } = outcome;
-            *call_result = recorded_result_of(&reply, writes, used, NO_TEXTS);
-            number_of(&reply)
-        }
+    let mut given = Ok(());
+    match record_provision(setup, flash, journal, &mut given) {
+        Ok(outcome) => given.report(outcome.writes, outcome.used, call_result),
         Err(number) => {
-            *call_result = NO_RESULT;
+            put_no_result(call_result);
             number
         }
     }
@@ -98,7 +91,8 @@ pub extern "C" fn bootswap_journal_boot(
         (performed flash.now journal.new call_result.new) saved.new journal.old journal.new
         call_result.new (HasNoTexts call_result.new) result }
 {
-    record_and_report(setup, flash, saved, journal, &DeviceCall::Boot, call_result)
+    let mut reply = Reply::Done;
+    record_and_report(setup, flash, saved, journal, &Boot, &mut reply, call_result)
 }
 
 /// Boots the device, as `bootswap_journal_boot` does. A boot that decides also writes its table and
@@ -124,15 +118,15 @@ pub extern "C" fn bootswap_journal_boot_with_texts(
         call_result.new.report_length table.old table.new report.old report.new) result }
 {
     let mut reply = Reply::Done;
-    match record_device(setup, flash, journal, saved, &DeviceCall::Boot, &mut reply) {
+    match record_device(setup, flash, journal, saved, &Boot, &mut reply) {
         Ok(outcome) => {
             let RecordedWrites { writes, used } = outcome;
             let lengths = put_texts(&reply, table, report);
-            *call_result = recorded_result_of(&reply, writes, used, lengths);
+            put_result(&reply, writes, used, lengths, call_result);
             number_of(&reply)
         }
         Err(number) => {
-            *call_result = NO_RESULT;
+            put_no_result(call_result);
             number
         }
     }
@@ -159,11 +153,12 @@ pub extern "C" fn bootswap_journal_accept(
 {
     match manifest_in(manifest) {
         Some(manifest) => {
-            let call = DeviceCall::Accept(&manifest);
-            record_and_report(setup, flash, saved, journal, &call, call_result)
+            let call = Accept(&manifest);
+            let mut given = Ok(());
+            record_and_report(setup, flash, saved, journal, &call, &mut given, call_result)
         }
         None => {
-            *call_result = NO_RESULT;
+            put_no_result(call_result);
             TOO_MANY
         }
     }
@@ -188,8 +183,9 @@ pub extern "C" fn bootswap_journal_piece(
         (performed flash.now journal.new call_result.new) saved.new journal.old journal.new
         call_result.new (HasNoTexts call_result.new) result }
 {
-    let call = DeviceCall::Piece(image, bytes);
-    record_and_report(setup, flash, saved, journal, &call, call_result)
+    let call = Piece(image, bytes);
+    let mut given = Ok(());
+    record_and_report(setup, flash, saved, journal, &call, &mut given, call_result)
 }
 
 /// Finishes the upload of an image, as `bootswap_simulate_finish` does, and records the writes in
@@ -209,8 +205,9 @@ pub extern "C" fn bootswap_journal_finish(
         (performed flash.now journal.new call_result.new) saved.new journal.old journal.new
         call_result.new (HasNoTexts call_result.new) result }
 {
-    let call = DeviceCall::Finish(image);
-    record_and_report(setup, flash, saved, journal, &call, call_result)
+    let call = Finish(image);
+    let mut given = Ok(());
+    record_and_report(setup, flash, saved, journal, &call, &mut given, call_result)
 }
 
 /// Withdraws the request of an image, as `bootswap_simulate_withdraw` does, and records the writes
@@ -230,8 +227,9 @@ pub extern "C" fn bootswap_journal_withdraw(
         (performed flash.now journal.new call_result.new) saved.new journal.old journal.new
         call_result.new (HasNoTexts call_result.new) result }
 {
-    let call = DeviceCall::Withdraw(image);
-    record_and_report(setup, flash, saved, journal, &call, call_result)
+    let call = Withdraw(image);
+    let mut given = Ok(());
+    record_and_report(setup, flash, saved, journal, &call, &mut given, call_result)
 }
 
 /// Confirms an image of the set on trial, as `bootswap_simulate_confirm` does, and records the
@@ -251,6 +249,7 @@ pub extern "C" fn bootswap_journal_confirm(
         (performed flash.now journal.new call_result.new) saved.new journal.old journal.new
         call_result.new (HasNoTexts call_result.new) result }
 {
-    let call = DeviceCall::Confirm(image);
-    record_and_report(setup, flash, saved, journal, &call, call_result)
+    let call = Confirm(image);
+    let mut given = Ok(());
+    record_and_report(setup, flash, saved, journal, &call, &mut given, call_result)
 }

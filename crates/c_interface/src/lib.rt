@@ -30,13 +30,14 @@
 //! part. Such a call returns `CUT` only if its journal is shorter than what its writes ask for.
 #![tactic(auto)]
 
+mod answers;
 mod borrowed;
 mod call_result;
+mod calls;
 mod choosing;
 mod cuts;
 mod describing;
 mod description;
-mod dispatch;
 mod exports;
 mod journal_exports;
 mod making;

@@ -1,6 +1,7 @@
 //! Provisioning: making the flash of a device.
 
 ghost use Rattle.std.specs.Prelude.{◌≡◌, []};
+ghost use Rattle.boot_core.specs.Answers.{reply_of_result};
 ghost use Rattle.flash_model.specs.Blanks.{IsBlankOf};
 ghost use Rattle.slice_flash.specs.Rows.{fixed_by};
 ghost use Rattle.c_interface.specs.Lifecycle.{HoldsFirstIn};
@@ -8,34 +9,34 @@ ghost use Rattle.c_interface.specs.Numbers.{DONE};
 ghost use Rattle.c_interface.specs.Provisioning.{AnswersProvision, ProvisionsOn};
 ghost use Rattle.c_interface.specs.Setup.{HasRoom};
 
-use crate::call_result::{CallResult, NO_RESULT, number_of, result_of};
+use crate::answers::Answer;
+use crate::call_result::{CallResult, put_no_result};
 use crate::cuts::{CutRow, MOST_CUTS, table_of};
-use crate::dispatch::put_answer;
 use crate::numbers::TOO_MANY;
 use crate::setup::{Setup, check_setup};
-use crate::texts::NO_TEXTS;
 use boot_core::provision;
-use machine::Reply;
+use machine::Fault;
 use sector_map::SectorMap;
 use slice_flash::{ArmedCut, SliceFlash};
 use std::marker::Brand;
 use std::sync::ledger::{Blank, Ledger};
 
-/// Provisions bytes as the flash of a device of this map, writes the reply, and returns the number
+/// Provisions bytes as the flash of a device of this map, writes the answer, and returns the number
 /// of writes that it began.
 fn provision_on<L: Ledger>(
     blank: Blank,
     map: &SectorMap,
     bytes: &mut [u8],
     table: &[ArmedCut<'_>],
-    reply: &mut Reply,
+    given: &mut Result<(), Fault>,
 ) -> u64
     requires blank { IsBlankOf blank L.name L.parts 2 }
     requires room { HasRoom map.now bytes.old }
-    ensures { ProvisionsOn map.now (fixed_by table.now [] 0) bytes.old bytes.new reply.new result }
+    ensures { ProvisionsOn map.now (fixed_by table.now [] 0) bytes.old bytes.new
+        (reply_of_result given.new) result }
 {
     let mut flash = SliceFlash::<L>::new(blank, bytes, map.sector_size, table);
-    put_answer(reply, provision(&mut flash, map));
+    *given = provision(&mut flash, map);
     flash.writes()
 }
 
@@ -59,18 +60,17 @@ pub extern "C" fn bootswap_simulate_provision(
     let checked = match check_setup(setup, flash) {
         Ok(checked) => checked,
         Err(number) => {
-            *call_result = NO_RESULT;
+            put_no_result(call_result);
             return number;
         }
     };
     if cuts.len() > MOST_CUTS {
-        *call_result = NO_RESULT;
+        put_no_result(call_result);
         return TOO_MANY;
     }
     let table = table_of(cuts);
-    let mut reply = Reply::Done;
+    let mut given = Ok(());
     let rows = &table[..cuts.len()];
-    let writes = provision_on::<Brand>(Blank::new(2), &checked.map, flash, rows, &mut reply);
-    *call_result = result_of(&reply, writes, NO_TEXTS);
-    number_of(&reply)
+    let writes = provision_on::<Brand>(Blank::new(2), &checked.map, flash, rows, &mut given);
+    given.report(writes, 0, call_result)
 }

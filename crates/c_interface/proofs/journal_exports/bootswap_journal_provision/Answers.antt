@@ -1,6 +1,8 @@
-use Rattle.std.proofs.Common.{ℕ, refl, sym, subst}
+use Rattle.std.proofs.Common.{ℕ, ap, sym, subst}
+use Rattle.boot_core.specs.Answers.{reply_of_result}
 use Rattle.slice_flash.specs.Overlay.{replayed}
-use Rattle.c_interface.specs.Recording.{Provisioned, NotProvisioned, ProvisionsOf}
+use Rattle.c_interface.specs.declared.call_result.CallResult.{CallResult}
+use Rattle.c_interface.specs.Recording.{Provisioned, NotProvisioned, ProvisionsOf, performed}
 use Rattle.c_interface.proofs.Lifecycle.{first_recorded}
 use Rattle.c_interface.proofs.journal_exports.bootswap_journal_provision.Goals as goal
 
@@ -8,14 +10,16 @@ pub returns-in-Ok-clause-all : goal.returns-in-Ok-clause-all
 returns-in-Ok-clause-all c =
     let on = λ (n u : ℕ). ProvisionsOf c.args.setup.now c.args.flash.now
     (replayed c.args.flash.now c.record_provision.new.journal n) c.args.journal.now
-    c.record_provision.new.journal c.record_provision.new.reply n u in
-    Provisioned c.record_provision.new.reply
-    (subst (λ n. on n c.recorded_result_of.result.journal_length) (sym c.recorded_result_of.ensures.writes)
-    (subst (λ u. on c.in-Ok.outcome.writes u) (sym c.recorded_result_of.ensures.journal) c.in-Ok.ensures.outcome))
-    c.recorded_result_of.ensures.fields c.number_of.ensures
+    c.record_provision.new.journal (reply_of_result c.record_provision.new.given) n u in
+    Provisioned (reply_of_result c.record_provision.new.given)
+    (subst (λ n. on n c.report.new.call_result.journal_length) (sym c.report.ensures.writes)
+    (subst (λ u. on c.in-Ok.outcome.writes u) (sym c.report.ensures.journal) c.in-Ok.ensures.outcome))
+    c.report.ensures.fields c.report.ensures.number
 
 pub returns-in-Err-clause-all : goal.returns-in-Err-clause-all
-returns-in-Err-clause-all c = let none = c.in-Err.ensures.refused in NotProvisioned none.0 refl none.1 refl
+returns-in-Err-clause-all c = let none = c.in-Err.ensures.refused in NotProvisioned none.0
+    (ap (λ (r : CallResult). performed c.args.flash.now c.record_provision.new.journal r) c.put_no_result.ensures) none.1
+    c.put_no_result.ensures
 
 pub returns-in-Ok-clause-first : goal.returns-in-Ok-clause-first
 returns-in-Ok-clause-first c = first_recorded c.args.setup.now _ _ _ _ _ _ (returns-in-Ok-clause-all c)

@@ -1,4 +1,5 @@
 use Rattle.std.proofs.Common.{◌≡◌, ◌≤◌, [], length, take, refl, sym, subst, inl, inr, arith}
+use Rattle.boot_core.specs.Answers.{reply_of_result}
 use Rattle.flash_model.specs.Chip.{Fixed}
 use Rattle.c_interface.specs.Cuts.{asked_by}
 use Rattle.c_interface.specs.Numbers.{MOST_CUTS}
@@ -9,7 +10,7 @@ use Rattle.c_interface.proofs.Lifecycle.{first_in}
 use Rattle.c_interface.proofs.provisioning.bootswap_simulate_provision.Goals as goal
 
 pub returns-in-Err-clause-all : goal.returns-in-Err-clause-all
-returns-in-Err-clause-all c = NotCalled (inl c.in-Err.ensures.refused) refl refl
+returns-in-Err-clause-all c = NotCalled (inl c.in-Err.ensures.refused) refl c.put_no_result.ensures
 
 pub returns-then-cuts-gt-MOST_CUTS-clause-all : goal.returns-then-cuts-gt-MOST_CUTS-clause-all
 returns-then-cuts-gt-MOST_CUTS-clause-all c = NotCalled (inr (record {
@@ -17,7 +18,7 @@ returns-then-cuts-gt-MOST_CUTS-clause-all c = NotCalled (inr (record {
   many = omega (arith, c.if-cuts-gt-MOST_CUTS.true);
   checked = c.in-Ok.checked;
   is_checked = c.in-Ok.ensures.checked;
-})) refl refl
+})) refl c.put_no_result-then-cuts-gt-MOST_CUTS.ensures
 
 pub returns-clause-all : goal.returns-clause-all
 returns-clause-all c =
@@ -26,12 +27,12 @@ returns-clause-all c =
     let same : asked ≡ asked_by c.args.cuts.now =
     same_asked c.args.cuts.now c.table_of-table.result c.table_of-table.ensures
     (omega (arith, c.if-cuts-gt-MOST_CUTS.false, c.table_of-table.type_inv)) in
-    Replied c.in-Ok.checked c.provision_on-writes.new.reply c.in-Ok.ensures.checked few
+    Replied c.in-Ok.checked (reply_of_result c.provision_on-writes.new.given) c.in-Ok.ensures.checked few
     (subst (λ (these : Fixed). ProvisionsOn c.in-Ok.checked.map these c.args.flash.now c.provision_on-writes.new.bytes
-    c.provision_on-writes.new.reply c.result_of.result.writes) same
+    (reply_of_result c.provision_on-writes.new.given) c.report.new.call_result.writes) same
     (subst (λ n. ProvisionsOn c.in-Ok.checked.map asked c.args.flash.now c.provision_on-writes.new.bytes
-    c.provision_on-writes.new.reply n) (sym c.result_of.ensures.writes) c.provision_on-writes.ensures))
-    c.result_of.ensures.fields c.result_of.ensures.journal c.number_of.ensures
+    (reply_of_result c.provision_on-writes.new.given) n) (sym c.report.ensures.writes) c.provision_on-writes.ensures))
+    c.report.ensures.fields c.report.ensures.journal c.report.ensures.number
 
 pub returns-in-Err-clause-first : goal.returns-in-Err-clause-first
 returns-in-Err-clause-first c = first_in c.args.setup.now c.args.cuts.now _ _ _ _ (returns-in-Err-clause-all c)

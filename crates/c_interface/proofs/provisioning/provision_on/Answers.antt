@@ -1,4 +1,5 @@
-use Rattle.std.proofs.Common.{◌≡◌, [], rules, ap, ◌∙◌}
+use Rattle.std.proofs.Common.{◌≡◌, [], refl, rules, ap, ◌∙◌}
+use Rattle.boot_core.specs.Answers.{reply_of_result}
 use Rattle.flash_model.specs.Chip.{Chip}
 use Rattle.slice_flash.specs.Rows.{fixed_by}
 use Rattle.slice_flash.specs.SliceFlash.{Slice, chip_of}
@@ -24,20 +25,20 @@ returns g c =
     let chip = ap (λ (s : Slice). s.chip) c.new-flash.ensures in
     let fixed : left.fixed ≡ fixed_by table bytes _ =
     c.provision.ensures.all.outside.fixed ∙ ap (λ (c : Chip). c.fixed) chip in
-    let cut = cut_as_asked before left c.put_answer.new.reply c.writes.result _ _ _ _ chip
+    let cut = cut_as_asked before left (reply_of_result c.provision.result) c.writes.result _ _ _ _ chip
     c.provision.ensures.all.outside.fixed
-    (cuts_provided map before left c.provision.result c.put_answer.new.reply c.provision.ensures.all c.put_answer.ensures)
+    (cuts_provided map before left c.provision.result (reply_of_result c.provision.result) c.provision.ensures.all refl)
     c.provision.new.flash.cut_by_table c.writes.ensures in
-    let torn = writes_as_asked table map.sector_size _ bytes before left c.put_answer.new.reply c.writes.result fixed
+    let torn = writes_as_asked table map.sector_size _ bytes before left (reply_of_result c.provision.result) c.writes.result fixed
     c.provision.ensures.all.laid.sector_size cut
-    (dark_provided map before left c.provision.result c.put_answer.new.reply c.provision.ensures.all c.put_answer.ensures)
+    (dark_provided map before left c.provision.result (reply_of_result c.provision.result) c.provision.ensures.all refl)
     c.provision.new.flash.off_by_table c.provision.new.flash.written in
     record {
       before = before;
       after = left;
-      between = provisions_between map bytes _ before left c.provision.result c.put_answer.new.reply
+      between = provisions_between map bytes _ before left c.provision.result (reply_of_result c.provision.result)
           (borrowed_flash map bytes before _ map.is_map c.requires.room chip) (search rules) c.provision.ensures.all
-          c.put_answer.ensures;
+          refl;
       cut_as_asked = cut;
       writes_as_asked = writes_over (fixed_by table [] 0) map.sector_size bytes left.bytes _ c.writes.result (search rules) torn;
     }

@@ -1,4 +1,5 @@
 use Rattle.std.proofs.Common.{◌≡◌, rules, refl, ap, ◌∙◌}
+use Rattle.boot_core.specs.Answers.{reply_of_result}
 use Rattle.flash_model.specs.Chip.{Chip}
 use Rattle.slice_flash.specs.JournalFlash.{Recording}
 use Rattle.slice_flash.specs.OverlayFlash.{recording_of}
@@ -26,19 +27,19 @@ returns g c =
     let r = recording_of c.provision.new.flash in
     let chip = ap (λ (r : Recording). r.chip) c.new-flash.ensures in
     let fixed : r.chip.fixed ≡ fixed_over bytes _ journal _ = all.outside.fixed ∙ ap (λ (c : Chip). c.fixed) chip in
-    let cuts = cuts_provided map first r.chip c.provision.result c.put_answer.new.reply all c.put_answer.ensures in
+    let cuts = cuts_provided map first r.chip c.provision.result (reply_of_result c.provision.result) all refl in
     let cut = cut_if_short r map.sector_size bytes r.chip.bytes journal r.journal _ _ _ _ c.used-used.ensures.kept
-    all.laid.sector_size fixed refl refl c.writes-writes.ensures.writes c.used-used.ensures.used first c.put_answer.new.reply
+    all.laid.sector_size fixed refl refl c.writes-writes.ensures.writes c.used-used.ensures.used first (reply_of_result c.provision.result)
     (ap (λ (c : Chip). c.journaled) chip) (ap (λ (c : Chip). c.cuts) chip) refl cuts
-    (dark_provided map first r.chip c.provision.result c.put_answer.new.reply all c.put_answer.ensures) in
+    (dark_provided map first r.chip c.provision.result (reply_of_result c.provision.result) all refl) in
     let shows = shown r bytes _ _ _ journal _ fixed (search rules) c.writes-writes.ensures.writes c.writes-writes.ensures.shows in
     record {
       first = first;
       last = r.chip;
-      between = provisions_between map bytes _ first r.chip c.provision.result c.put_answer.new.reply
-          (borrowed_flash map bytes first _ map.is_map c.requires.room chip) shows all c.put_answer.ensures;
+      between = provisions_between map bytes _ first r.chip c.provision.result (reply_of_result c.provision.result)
+          (borrowed_flash map bytes first _ map.is_map c.requires.room chip) shows all refl;
       journal = journal_of r map.sector_size bytes _ journal _ _ _ _ _ c.used-used.ensures.kept all.laid.sector_size fixed
           shows (search rules) c.writes-writes.ensures.writes c.used-used.ensures.used;
-      cut = cut_over map.sector_size r.chip.bytes _ _ _ first r.chip c.put_answer.new.reply shows cut;
-      enough = enough_to_provision c.put_answer.new.reply _ _ _ _ _ first r.chip cut all.journal;
+      cut = cut_over map.sector_size r.chip.bytes _ _ _ first r.chip (reply_of_result c.provision.result) shows cut;
+      enough = enough_to_provision (reply_of_result c.provision.result) _ _ _ _ _ first r.chip cut all.journal;
     }
