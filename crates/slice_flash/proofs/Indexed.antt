@@ -9,7 +9,7 @@ use Rattle.std.proofs.lemmas.List.{get_or-replicate, get_or-set_same, get_or-set
 use Rattle.std.proofs.lemmas.List.Elements.{All-replicate, All-set}
 use Rattle.std.proofs.lemmas.Nat.Bits.{bit_at_ones, bit_at_set_same, bit_at_set_other}
 use Rattle.flash_model.proofs.Frame.{product_le}
-use Rattle.slice_flash.specs.Index.{is_touched, IsIndex, IsOneMore, IsRow, IsStart, IsUntouched}
+use Rattle.slice_flash.specs.Index.{is_touched, IsIndex, IsOneMore, IsRow, IsShort, IsStart, IsUntouched, PutsRow, Held, TooLong, first_start, start_in}
 use Rattle.slice_flash.specs.Overlay.{position, replayed}
 use Rattle.slice_flash.specs.Steps.{IsSectorAt, Step, Programmed, Erased, at_of, range_of}
 use Rattle.slice_flash.specs.declared.index.Index.{Index}
@@ -72,7 +72,7 @@ pub rows_kept : (size : ℕ) (base old new : List ℕ) (writes : ℕ) (step : St
     → IsOneMore size base old new writes step → All (IsRow size base old writes) rows → All (IsRow size base new (writes + 1)) rows
 rows_kept size base old new writes step rows more is = λ k d below.
     let row : Row = get_or rows k d in
-    start_kept size base old new writes (row.sector * size) size step row.start more (is k d below)
+    start_kept size base old new writes (row.sector * size) size step (start_in row) more (is k d below)
 
 -- ---- sectors, after an entry was added
 
@@ -125,13 +125,14 @@ index_grown size base old new writes sector step was now more low high is rows h
       (is.untouched other (others other unset));
 }
 
--- The row of a sector that no entry changed before.
+-- A read of any range may begin at the first entry.
+pub start_at_first : (base journal : List ℕ) (writes at n : ℕ) → IsStart base journal writes at n first_start
+start_at_first base journal writes at n = record { offset = refl; entries = omega arith; bytes = λ k low high. refl }
+
+-- The start of a sector that no entry changed before.
 pub first_row : (size : ℕ) (base old new : List ℕ) (writes used sector : ℕ) (step : Step) → used ≡ position old writes
     → IsOneMore size base old new writes step → IsUntouched size base old writes sector
-    → IsRow size base new (writes + 1) (record {
-      sector = sector;
-      start = record { entries = writes; offset = used; is_blank = false };
-    })
+    → IsStart base new (writes + 1) (sector * size) size (record { entries = writes; offset = used; is_blank = false })
 first_row size base old new writes used sector step here more is =
     let start : Start = record { entries = writes; offset = used; is_blank = false } in
     start_kept size base old new writes (sector * size) size step start more
@@ -142,13 +143,11 @@ pub erase_place : (size at n : ℕ) (bytes : List ℕ) → 0 < size → IsSector
 erase_place size at n bytes some is =
     ap (λ a. a / size * size) is.place ∙ ap (λ s. s * size) (mul-div_cancel is.sector some) ∙ sym is.place
 
--- The row of a sector that the entry erases.
+-- The start of a sector that the entry erases.
 pub erased_row : (size : ℕ) (base old new : List ℕ) (writes used at n : ℕ) → 0 < size → used ≡ position old writes
     → IsOneMore size base old new writes (Erased at n)
-    → IsRow size base new (writes + 1) (record {
-      sector = at / size;
-      start = record { entries = writes + 1; offset = used + 12; is_blank = true };
-    })
+    → IsStart base new (writes + 1) (at / size * size) size
+    (record { entries = writes + 1; offset = used + 12; is_blank = true })
 erased_row size base old new writes used at n some here more = record {
   offset = omega (arith, here, more.end);
   entries = omega arith;
@@ -161,13 +160,27 @@ erased_row size base old new writes used at n some here more = record {
       ∙ get_or-replicate n (k - at) 255 0 (omega (arith, low, high, place, more.accepted.whole));
 }
 
+-- A row is right if it holds a right start.
+row_right : (size : ℕ) (base journal : List ℕ) (writes sector : ℕ) (start : Start) (row : Row) → row.sector ≡ sector
+    → IsShort start (start_in row) → IsStart base journal writes (sector * size) size start
+    → IsRow size base journal writes row
+row_right size base journal writes sector start row same (Held held) right =
+    subst (λ s. IsStart base journal writes (s * size) size (start_in row)) (sym same)
+    (subst (λ (s : Start). IsStart base journal writes (sector * size) size s) (sym held) right)
+row_right size base journal writes sector start row same (TooLong long held) right =
+    subst (λ (s : Start). IsStart base journal writes (row.sector * size) size s) (sym held)
+    (start_at_first base journal writes (row.sector * size) size)
+
 -- The rows after that of a sector was set.
-pub rows_with : (size : ℕ) (base old new : List ℕ) (writes : ℕ) (step : Step) (was now : List Row) (i : ℕ) (row : Row)
-    → IsOneMore size base old new writes step → All (IsRow size base old writes) was → IsRow size base new (writes + 1) row
-    → now ≡ slice_set was i row → All (IsRow size base new (writes + 1)) now
-rows_with size base old new writes step was now i row more is right put =
-    subst (λ (rows : List Row). All (IsRow size base new (writes + 1)) rows) (sym put)
-    (All-set (IsRow size base new (writes + 1)) was i row right (rows_kept size base old new writes step was more is))
+pub rows_with : (size : ℕ) (base old new : List ℕ) (writes : ℕ) (step : Step) (was now : List Row) (sector : ℕ) (start : Start)
+    → IsOneMore size base old new writes step → All (IsRow size base old writes) was
+    → IsStart base new (writes + 1) (sector * size) size start → PutsRow sector start was now
+    → All (IsRow size base new (writes + 1)) now
+rows_with size base old new writes step was now sector start more is right puts =
+    subst (λ (rows : List Row). All (IsRow size base new (writes + 1)) rows) (sym puts.rows)
+    (All-set (IsRow size base new (writes + 1)) was (sector % 64) puts.row
+    (row_right size base new (writes + 1) sector start puts.row puts.sector_is puts.short right)
+    (rows_kept size base old new writes step was more is))
 
 -- ---- an index of no entries, and one whose bits are all set
 
@@ -181,14 +194,14 @@ all_bits_set sector =
 
 abbrev pub no_index : Index
 no_index = record {
-  rows = replicate 64 (record { sector = 0; start = record { entries = 0; offset = 0; is_blank = false } });
+  rows = replicate 64 (record { sector = 0; entries = 0; offset = 0; is_blank = false });
   touched = replicate 16 0;
 }
 
 pub index_of_none : (size : ℕ) (base journal : List ℕ) → IsIndex size base journal 0 no_index
 index_of_none size base journal = record {
   rows = All-replicate (IsRow size base journal 0) 64
-      (record { sector = 0; start = record { entries = 0; offset = 0; is_blank = false } })
+      (record { sector = 0; entries = 0; offset = 0; is_blank = false })
       (record { offset = refl; entries = omega arith; bytes = λ k low high. refl });
   untouched = λ sector unset k low high. refl;
 }

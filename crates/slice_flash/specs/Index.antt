@@ -1,6 +1,6 @@
 -- What a flash knows of the entries of its journal, so that a read begins at a late one.
-use Rattle.std.specs.Prelude.{◌≡◌, ℕ, ◌+◌, ◌*◌, ◌/◌, ◌%◌, ◌<◌, ◌≤◌, ◌==◌, Bool, false, List, length}
-use Rattle.std.specs.Prelude.{slice_index, if◌then◌else◌}
+use Rattle.std.specs.Prelude.{◌≡◌, ◌⊎◌, ℕ, ◌+◌, ◌*◌, ◌/◌, ◌%◌, ◌^◌, ◌<◌, ◌≤◌, ◌==◌, Bool, false, List, length}
+use Rattle.std.specs.Prelude.{slice_index, slice_set, if◌then◌else◌}
 use Rattle.std.specs.Int.{bit_at}
 use Rattle.std.specs.List.{All}
 use Rattle.flash_model.specs.Torn.{replaced}
@@ -18,10 +18,32 @@ pub record IsStart (base journal : List ℕ) (writes at n : ℕ) (start : Start)
   pub bytes : (k : ℕ) → at ≤ k → k < at + n → slice_index (replayed base journal start.entries) k
       ≡ (if start.is_blank then 0xff else slice_index base k)
 
+-- The start that a row holds.
+abbrev pub start_in : Row → Start
+start_in row = record { entries = row.entries; offset = row.offset; is_blank = row.is_blank }
+
+-- The start that is right for each range.
+abbrev pub first_start : Start
+first_start = record { entries = 0; offset = 0; is_blank = false }
+
+-- A row holds a start, or the one that is right for each range if the numbers of this start don't
+-- fit in 32 bits.
+pub data IsShort (start held : Start) : Type 0 where
+  Held : held ≡ start → IsShort start held
+  TooLong : (2 ^ 32 ≤ start.entries) ⊎ (2 ^ 32 ≤ start.offset) → held ≡ first_start
+      → IsShort start held
+
+-- The row of a sector is put in its place, with this start.
+pub record PutsRow (sector : ℕ) (start : Start) (old new : List Row) : Type 0 where
+  pub row : Row
+  pub sector_is : row.sector ≡ sector
+  pub short : IsShort start (start_in row)
+  pub rows : new ≡ slice_set old (sector % 64) row
+
 -- A read of any part of the row's sector may begin where the row says.
 abbrev pub IsRow : ℕ → List ℕ → List ℕ → ℕ → Row → Type 0
 IsRow size base journal writes row =
-    IsStart base journal writes (row.sector * size) size row.start
+    IsStart base journal writes (row.sector * size) size (start_in row)
 
 -- Whether the bit of a sector is set. Sectors that are 1024 apart share one.
 abbrev pub is_touched : List ℕ → ℕ → Bool

@@ -1,8 +1,8 @@
 //! What a flash knows of the entries of its journal, so that a read begins at a late one.
 
 ghost use Rattle.std.specs.Prelude.{◌≡◌, ◌+◌, ◌*◌, ◌%◌, ◌/◌, ◌^◌, ◌<◌, ◌≤◌, ℕ, List, false, true};
-ghost use Rattle.std.specs.Prelude.{slice_set};
-ghost use Rattle.slice_flash.specs.Index.{is_touched, IsIndex, IsStart, Notes};
+ghost use Rattle.slice_flash.specs.Index.{is_touched, IsIndex, IsShort, IsStart, Notes};
+ghost use Rattle.slice_flash.specs.Index.{PutsRow, start_in};
 ghost use Rattle.slice_flash.specs.Overlay.{position};
 ghost use Rattle.slice_flash.specs.Asked.{step_of};
 ghost use Rattle.slice_flash.specs.Steps.{Erased, Programmed};
@@ -34,11 +34,14 @@ const FIRST: Start = Start {
     is_blank: false,
 };
 
-/// Where a read in a sector begins.
+/// Where a read in a sector begins. The numbers of a start have 32 bits here, which halves the
+/// memory of the index.
 #[derive(Clone, Copy)]
 struct Row {
     sector: u32,
-    start: Start,
+    entries: u32,
+    offset: u32,
+    is_blank: bool,
 }
 
 /// What a flash knows of the entries of its journal: where a read in some sectors begins, and which
@@ -47,6 +50,33 @@ struct Row {
 pub(crate) struct Index {
     rows: [Row; ROWS],
     touched: [u64; WORDS],
+}
+
+/// Returns the row of a sector in which a read begins at `start`. If the numbers of this start don't
+/// fit in 32 bits, a read begins at the first entry.
+fn row_of(sector: u32, start: Start) -> Row
+    ensures sector { result.sector ≡ sector }
+    ensures start { IsShort start (start_in result) }
+{
+    let is_short = start.entries <= u64::from(u32::MAX) && start.offset <= u32::MAX as usize;
+    let start = if is_short { start } else { FIRST };
+    Row {
+        sector,
+        entries: start.entries as u32,
+        offset: start.offset as u32,
+        is_blank: start.is_blank,
+    }
+}
+
+/// Returns where a read in the sector of a row begins.
+fn start_in(row: Row) -> Start
+    ensures { result ≡ start_in row }
+{
+    Start {
+        entries: u64::from(row.entries),
+        offset: row.offset as usize,
+        is_blank: row.is_blank,
+    }
 }
 
 /// Returns whether the `n` bytes from `at` on lie in one sector.
@@ -65,7 +95,9 @@ impl Index {
         Index {
             rows: [Row {
                 sector: 0,
-                start: FIRST,
+                entries: 0,
+                offset: 0,
+                is_blank: false,
             }; ROWS],
             touched: [0; WORDS],
         }
@@ -80,16 +112,13 @@ impl Index {
 
     /// Sets the bit and the row of a sector.
     fn set(&mut self, sector: u32, start: Start)
-        ensures rows { self.new.rows ≡ slice_set self.old.rows (sector % 64) (record {
-          sector = sector;
-          start = start;
-        }) }
+        ensures rows { PutsRow sector start self.old.rows self.new.rows }
         ensures sector { is_touched self.new.touched sector ≡ true }
         ensures others { (other : ℕ) → is_touched self.new.touched other ≡ false
             → is_touched self.old.touched other ≡ false }
     {
         self.touched[sector as usize / 64 % WORDS] |= 1 << (sector % 64);
-        self.rows[sector as usize % ROWS] = Row { sector, start };
+        self.rows[sector as usize % ROWS] = row_of(sector, start);
     }
 
     /// Sets the bit of each sector.
@@ -120,7 +149,7 @@ impl Index {
         }
         let row = self.rows[sector as usize % ROWS];
         if row.sector == sector {
-            row.start
+            start_in(row)
         } else {
             FIRST
         }

@@ -12,7 +12,7 @@ returns c = λ n base old new here more is.
     let long = length-replicate {A = ℕ} n 255 in
     index_grown size base old new c.args.writes sector (Erased c.args.at n) c.args.self.now c.set.new.self more
     (omega (arith, place)) (omega (arith, place, long, more.accepted.whole)) is
-    (rows_with size base old new c.args.writes (Erased c.args.at n) c.args.self.now.rows c.set.new.self.rows (sector % 64) _ more is.rows
+    (rows_with size base old new c.args.writes (Erased c.args.at n) c.args.self.now.rows c.set.new.self.rows sector _ more is.rows
     (erased_row size base old new c.args.writes c.args.used c.args.at n c.requires.some here more)
     c.set.ensures.rows)
     c.set.ensures.sector c.set.ensures.others

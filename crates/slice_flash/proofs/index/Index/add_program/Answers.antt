@@ -10,7 +10,7 @@ returns-then-not-is_touched c = λ base old new here more is.
     let step = Programmed c.args.at c.args.bytes.now in
     index_grown size base old new c.args.writes sector step c.args.self.now c.set.new.self more
     (omega arith) (omega (arith, c.is_in_sector.ensures)) is
-    (rows_with size base old new c.args.writes step c.args.self.now.rows c.set.new.self.rows (sector % 64) _ more is.rows
+    (rows_with size base old new c.args.writes step c.args.self.now.rows c.set.new.self.rows sector _ more is.rows
     (first_row size base old new c.args.writes c.args.used sector step here more (is.untouched sector (cc)))
     c.set.ensures.rows)
     c.set.ensures.sector c.set.ensures.others
