@@ -17,7 +17,7 @@ use crate::answers::Answer;
 use crate::calls::Call;
 use crate::cuts::{CutRow, MOST_CUTS, table_of};
 use crate::numbers::TOO_MANY;
-use crate::saved_state::{NOT_BOOTED, SavedState, load_uploads, upload_rows};
+use crate::saved_state::{NOT_BOOTED, SavedState, load_uploads, put_uploads};
 use crate::setup::{CheckedSetup, Setup, check_setup};
 use flash_model::Flash;
 use sector_map::SectorMap;
@@ -26,43 +26,48 @@ use std::marker::Brand;
 use std::sync::ledger::{Blank, Ledger};
 use upload::Uploads;
 
-/// The saved uploads, if the saved state is a booted device. They may not match the flash.
-fn saved_uploads(saved: &SavedState) -> Option<Uploads>
-    ensures some { IfSome result (λ uploads. IsSavedWith saved.now uploads.sessions) }
-    ensures none { result ≡ None → (sessions : List (Option Upload))
+/// Loads the saved uploads, if the saved state is a booted device, and returns whether it is. They
+/// may not match the flash.
+fn saved_uploads(saved: &SavedState, uploads: &mut Uploads) -> bool
+    ensures some { result ≡ true → IsSavedWith saved.now uploads.new.sessions }
+    ensures none { result ≡ false → (sessions : List (Option Upload))
         → IsSavedWith saved.now sessions → ⊥ }
 {
     if saved.is_booted != 1 {
-        return None;
+        return false;
     }
-    load_uploads(&saved.uploads)
+    load_uploads(&saved.uploads, &mut uploads.sessions)
 }
 
-/// The uploads that a call takes from a saved state, if that is a booted device. They have to match
-/// the flash. To check that, their slots are read, which would make an upload in many pieces slow.
-/// So a piece takes the uploads unchecked: `boot_core` checks the range that it writes.
-fn uploads_for<F: Flash>(
+/// Loads the uploads that a call takes from a saved state, if that is a booted device, and returns
+/// whether the call takes them. They have to match the flash. To check that, their slots are read,
+/// which would make an upload in many pieces slow. So a piece takes the uploads unchecked:
+/// `boot_core` checks the range that it writes.
+fn take_uploads<F: Flash>(
     flash: &mut F,
     map: &SectorMap,
     saved: &SavedState,
     unchecked: bool,
-) -> Option<Uploads>
+    uploads: &mut Uploads,
+) -> bool
     requires laid_out { IsLaidOut map.now (F.chip flash.old) }
     requires on { (F.chip flash.old).is_on ≡ true }
     ensures same { F.chip flash.new ≡ F.chip flash.old }
-    ensures some { IfSome result (λ uploads. (call : DeviceCall) → is_piece call ≡ unchecked
-        → IsTakenBy call map.now (F.chip flash.old) saved.now uploads.sessions) }
-    ensures none { result ≡ None → (call : DeviceCall) → is_piece call ≡ unchecked
+    ensures some { result ≡ true → (call : DeviceCall) → is_piece call ≡ unchecked
+        → IsTakenBy call map.now (F.chip flash.old) saved.now uploads.new.sessions }
+    ensures none { result ≡ false → (call : DeviceCall) → is_piece call ≡ unchecked
         → (sessions : List (Option Upload))
         → IsTakenBy call map.now (F.chip flash.old) saved.now sessions → ⊥ }
 {
-    let uploads = saved_uploads(saved)?;
+    if !saved_uploads(saved, uploads) {
+        return false;
+    }
     if unchecked {
-        return Some(uploads);
+        return true;
     }
     match uploads.stand(flash, map) {
-        Ok(true) => Some(uploads),
-        _ => None,
+        Ok(true) => true,
+        _ => false,
     }
 }
 
@@ -83,38 +88,25 @@ fn restore<F: Flash>(
         → IsSavedFor call map.now saved.now
         (seen (F.chip flash.old) uploads.new.sessions result) }
 {
-    match uploads_for(flash, map, saved, unchecked) {
-        Some(taken) => {
-            *uploads = taken;
-            true
-        }
-        None => {
-            *uploads = Uploads::new();
-            false
-        }
+    if take_uploads(flash, map, saved, unchecked, uploads) {
+        return true;
     }
+    *uploads = Uploads::new();
+    false
 }
 
-/// The form in which the caller keeps a state until the next call.
-fn saved_form(uploads: &Uploads, is_booted: bool) -> SavedState
-    ensures { SavesDevice result uploads.now.sessions is_booted }
-{
-    if !is_booted {
-        return NOT_BOOTED;
-    }
-    SavedState {
-        is_booted: 1,
-        unused: [0; 3],
-        uploads: upload_rows(&uploads.sessions),
-    }
-}
-
-/// Saves the state of the device until the next call. A temporary one takes stack only here.
+/// Saves the state of the device until the next call.
 #[inline(never)]
 fn save(uploads: &Uploads, is_booted: bool, saved: &mut SavedState)
     ensures { SavesDevice saved.new uploads.now.sessions is_booted }
 {
-    *saved = saved_form(uploads, is_booted);
+    if !is_booted {
+        *saved = NOT_BOOTED;
+        return;
+    }
+    saved.is_booted = 1;
+    saved.unused = [0; 3];
+    put_uploads(&uploads.sessions, &mut saved.uploads);
 }
 
 /// Restores the state of the device over a flash with power, makes the call, writes the answer, and

@@ -90,9 +90,9 @@ pub extern "C" fn bootswap_simulate_accept(
     ensures { Accepts setup.now cuts.now manifest.now flash.old saved.old flash.new saved.new
         call_result.new result }
 {
-    match manifest_in(manifest) {
+    match &manifest_in(manifest) {
         Some(manifest) => {
-            let call = Accept(&manifest);
+            let call = Accept(manifest);
             let mut given = Ok(());
             call_and_report(setup, flash, saved, cuts, &call, &mut given, call_result)
         }

@@ -151,9 +151,9 @@ pub extern "C" fn bootswap_journal_accept(
         (performed flash.now journal.new call_result.new) saved.new journal.old journal.new
         call_result.new result }
 {
-    match manifest_in(manifest) {
+    match &manifest_in(manifest) {
         Some(manifest) => {
-            let call = Accept(&manifest);
+            let call = Accept(manifest);
             let mut given = Ok(());
             record_and_report(setup, flash, saved, journal, &call, &mut given, call_result)
         }

@@ -1,6 +1,6 @@
 //! The state of a device that its caller keeps between two calls.
 
-ghost use Rattle.std.specs.Prelude.{◌≡◌, ◌≤◌, List, Option, Some, None, IfSome, length, map};
+ghost use Rattle.std.specs.Prelude.{◌≡◌, ◌≤◌, List, Option, Some, None, IfSome, false, length, map, true};
 ghost use Rattle.upload.specs.declared.sessions.Upload.{Upload};
 ghost use Rattle.c_interface.specs.SavedState.{SavesUpload, SaveUploads, number_of_kind, row_of};
 ghost use Rattle.c_interface.specs.SavedState.{saved_kind};
@@ -8,7 +8,7 @@ ghost use Rattle.c_interface.specs.SavedState.{saved_kind};
 use arrayvec::ArrayVec;
 use common::limits::MOST_IMAGES;
 use trailer::Kind;
-use upload::{Upload, Uploads};
+use upload::Upload;
 
 /// The length of a unit in bytes.
 const UNIT: usize = 8;
@@ -126,18 +126,22 @@ fn load_upload(row: &SavedUpload) -> Option<Option<Upload>>
     }))
 }
 
-/// The uploads that rows save. `None` if a row isn't valid.
-pub(crate) fn load_uploads(rows: &[SavedUpload]) -> Option<Uploads>
-    requires { length rows.now ≡ 8 }
-    ensures some { IfSome result (λ uploads. SaveUploads rows.now uploads.sessions) }
-    ensures none { result ≡ None → (sessions : List (Option Upload)) → SaveUploads rows.now sessions
+/// Loads the uploads that rows save, and returns whether each row is valid.
+pub(crate) fn load_uploads(rows: &[SavedUpload], uploads: &mut [Option<Upload>]) -> bool
+    requires rows { length rows.now ≡ 8 }
+    requires uploads { length uploads.old ≡ 8 }
+    ensures size { length uploads.new ≡ 8 }
+    ensures some { result ≡ true → SaveUploads rows.now uploads.new }
+    ensures none { result ≡ false → (sessions : List (Option Upload)) → SaveUploads rows.now sessions
         → ⊥ }
 {
-    let mut sessions = [None, None, None, None, None, None, None, None];
     for i in 0..MOST_IMAGES {
-        sessions[i] = load_upload(&rows[i])?;
+        match load_upload(&rows[i]) {
+            Some(upload) => uploads[i] = upload,
+            None => return false,
+        }
     }
-    Some(Uploads { sessions })
+    true
 }
 
 /// The row that saves an upload, if one is open.
@@ -163,15 +167,14 @@ fn upload_row(upload: &Option<Upload>) -> SavedUpload
     }
 }
 
-/// The rows that save uploads.
-pub(crate) fn upload_rows(sessions: &[Option<Upload>]) -> [SavedUpload; MOST_IMAGES]
-    requires { length sessions.now ≡ 8 }
-    ensures exact { result ≡ map row_of sessions.now }
-    ensures saves { SaveUploads result sessions.now }
+/// Writes the rows that save uploads.
+pub(crate) fn put_uploads(sessions: &[Option<Upload>], rows: &mut [SavedUpload])
+    requires sessions { length sessions.now ≡ 8 }
+    requires rows { length rows.old ≡ 8 }
+    ensures exact { rows.new ≡ map row_of sessions.now }
+    ensures saves { SaveUploads rows.new sessions.now }
 {
-    let mut rows = [CLOSED; MOST_IMAGES];
     for i in 0..MOST_IMAGES {
         rows[i] = upload_row(&sessions[i]);
     }
-    rows
 }

@@ -2,9 +2,9 @@ use Rattle.std.proofs.Common.{refl}
 use Rattle.c_interface.specs.SavedState.{Booted, NotBooted}
 use Rattle.c_interface.proofs.borrowed.restore.Goals as goal
 
-pub returns-in-Some-clause-restored : goal.returns-in-Some-clause-restored
-returns-in-Some-clause-restored g c = λ call is. Booted refl (c.in-Some.ensures.some call is)
+pub returns-then-take_uploads-clause-restored : goal.returns-then-take_uploads-clause-restored
+returns-then-take_uploads-clause-restored g c = λ call is. Booted refl (c.take_uploads.ensures.some c.if-take_uploads.true call is)
 
-pub returns-in-None-clause-restored : goal.returns-in-None-clause-restored
-returns-in-None-clause-restored g c = λ call is. NotBooted refl c.new.ensures
-    (c.uploads_for.ensures.none c.in-None.is call is)
+pub returns-clause-restored : goal.returns-clause-restored
+returns-clause-restored g c = λ call is. NotBooted refl c.new.ensures
+    (c.take_uploads.ensures.none c.if-take_uploads.false call is)

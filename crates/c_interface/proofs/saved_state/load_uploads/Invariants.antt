@@ -5,6 +5,6 @@ use Rattle.c_interface.proofs.saved_state.load_uploads.Given as goal
 
 abbrev pub invariant-loop-i : goal.invariant-loop-i
 invariant-loop-i l = record {
-  long : length l.sessions ≡ 8;
-  each : (j : ℕ) → j < l.i → SavesUpload (slice_index_or l.rows j no_row) (upload_at l.sessions j);
+  long : length l.uploads ≡ 8;
+  each : (j : ℕ) → j < l.i → SavesUpload (slice_index_or l.rows j no_row) (upload_at l.uploads j);
 }

@@ -1,7 +1,7 @@
 use Rattle.std.proofs.Common.{◌≡◌, ◌<◌, ℕ, length, map, slice_index_or, take}
 use Rattle.upload.specs.Sessions.{upload_at}
 use Rattle.c_interface.specs.SavedState.{SavesUpload, no_row, row_of}
-use Rattle.c_interface.proofs.saved_state.upload_rows.Given as goal
+use Rattle.c_interface.proofs.saved_state.put_uploads.Given as goal
 
 abbrev pub invariant-loop-i : goal.invariant-loop-i
 invariant-loop-i l = record {
