@@ -1,7 +1,10 @@
 //! The calls of a device, as C makes them.
 
 ghost use Rattle.c_interface.specs.Answers.{Accepts, Answers, HasNoTexts, HasTexts};
+ghost use Rattle.std.specs.Prelude.{◌≡◌, ◌<◌, IfSome, None};
 ghost use Rattle.c_interface.specs.Lifecycle.{IsBoot};
+ghost use Rattle.c_interface.specs.Numbers.{MOST_COMPONENTS};
+ghost use Rattle.manifest.specs.Rows.{IsManifestOf};
 ghost use Rattle.c_interface.specs.SavedState.{IsNotBooted};
 ghost use Rattle.c_interface.specs.DeviceCall as call;
 
@@ -15,7 +18,16 @@ use crate::saved_state::{NOT_BOOTED, SavedState};
 use crate::setup::Setup;
 use crate::texts::put_texts;
 use machine::Reply;
-use manifest::{ManifestRow, manifest_in};
+use manifest::{Manifest, ManifestRow, manifest_in};
+
+/// The manifest of a row, unless it has too many components. Copies of it take stack only here.
+#[inline(never)]
+pub(crate) fn manifest_of(row: &ManifestRow) -> Option<Manifest>
+    ensures some { IfSome result (IsManifestOf row.now) }
+    ensures none { result ≡ None → MOST_COMPONENTS < row.now.count }
+{
+    manifest_in(row)
+}
 
 /// Makes a call on the device of a setup, reports its outcome, and returns the number of its reply.
 fn call_and_report<C: Call>(
@@ -90,7 +102,7 @@ pub extern "C" fn bootswap_simulate_accept(
     ensures { Accepts setup.now cuts.now manifest.now flash.old saved.old flash.new saved.new
         call_result.new result }
 {
-    match &manifest_in(manifest) {
+    match &manifest_of(manifest) {
         Some(manifest) => {
             let call = Accept(manifest);
             let mut given = Ok(());

@@ -2,6 +2,8 @@
 
 ghost use Rattle.std.specs.Prelude.{◌≡◌, []};
 ghost use Rattle.boot_core.specs.Answers.{reply_of_result};
+ghost use Rattle.boot_core.specs.Provisions.{Provisions};
+ghost use Rattle.sector_map.specs.Map.{IsLaidOut};
 ghost use Rattle.flash_model.specs.Blanks.{IsBlankOf};
 ghost use Rattle.slice_flash.specs.Rows.{fixed_by};
 ghost use Rattle.c_interface.specs.Lifecycle.{HoldsFirstIn};
@@ -15,11 +17,21 @@ use crate::cuts::{CutRow, MOST_CUTS, table_of};
 use crate::numbers::TOO_MANY;
 use crate::setup::{Setup, check_setup};
 use boot_core::provision;
+use flash_model::Flash;
 use machine::Fault;
 use sector_map::SectorMap;
 use slice_flash::{ArmedCut, SliceFlash};
 use std::marker::Brand;
 use std::sync::ledger::{Blank, Ledger};
+
+/// Provisions a flash, as `boot_core` does. A table of the images takes stack only here.
+#[inline(never)]
+pub(crate) fn provision_flash<F: Flash>(flash: &mut F, map: &SectorMap) -> Result<(), Fault>
+    requires laid_out { IsLaidOut map.now (F.chip flash.old) }
+    ensures { Provisions map.now (F.chip flash.old) (F.chip flash.new) result }
+{
+    provision(flash, map)
+}
 
 /// Provisions bytes as the flash of a device of this map, writes the answer, and returns the number
 /// of writes that it began.
@@ -36,7 +48,7 @@ fn provision_on<L: Ledger>(
         (reply_of_result given.new) result }
 {
     let mut flash = SliceFlash::<L>::new(blank, bytes, map.sector_size, table);
-    *given = provision(&mut flash, map);
+    *given = provision_flash(&mut flash, map);
     flash.writes()
 }
 

@@ -11,9 +11,9 @@ ghost use Rattle.slice_flash.specs.Overlay.{replayed};
 use crate::answers::Answer;
 use crate::borrowed::resume_and_run;
 use crate::calls::Call;
+use crate::provisioning::provision_flash;
 use crate::saved_state::SavedState;
 use crate::setup::{CheckedSetup, Setup, check_setup};
-use boot_core::provision;
 use machine::Fault;
 use sector_map::SectorMap;
 use slice_flash::OverlayFlash;
@@ -100,7 +100,7 @@ fn provision_recorded<L: Ledger>(
         journal.old journal.new (reply_of_result given.new) result.writes result.used }
 {
     let mut flash = OverlayFlash::<L>::new(blank, bytes, map.sector_size, journal);
-    *given = provision(&mut flash, map);
+    *given = provision_flash(&mut flash, map);
     let writes = flash.writes();
     let used = flash.used() as u64;
     RecordedWrites { writes, used }

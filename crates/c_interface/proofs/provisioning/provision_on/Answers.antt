@@ -9,8 +9,8 @@ use Rattle.c_interface.proofs.StepLaws.{borrowed_flash}
 use Rattle.c_interface.proofs.Provisioned.{provisions_between}
 use Rattle.c_interface.proofs.provisioning.provision_on.Goals as goal
 
-pub provision-requires : goal.provision-requires
-provision-requires g c = record {
+pub provision_flash-requires : goal.provision_flash-requires
+provision_flash-requires g c = record {
   laid_out = (borrowed_flash c.args.map.now c.args.bytes.now (chip_of c.new-flash.result) _ c.args.map.now.is_map
       c.requires.room (ap (λ (s : Slice). s.chip) c.new-flash.ensures)).laid_out;
 }
@@ -21,23 +21,23 @@ returns g c =
     let bytes = c.args.bytes.now in
     let map = c.args.map.now in
     let before = chip_of c.new-flash.result in
-    let left = chip_of c.provision.new.flash in
+    let left = chip_of c.provision_flash.new.flash in
     let chip = ap (λ (s : Slice). s.chip) c.new-flash.ensures in
     let fixed : left.fixed ≡ fixed_by table bytes _ =
-    c.provision.ensures.all.outside.fixed ∙ ap (λ (c : Chip). c.fixed) chip in
-    let cut = cut_as_asked before left (reply_of_result c.provision.result) c.writes.result _ _ _ _ chip
-    c.provision.ensures.all.outside.fixed
-    (cuts_provided map before left c.provision.result (reply_of_result c.provision.result) c.provision.ensures.all refl)
-    c.provision.new.flash.cut_by_table c.writes.ensures in
-    let torn = writes_as_asked table map.sector_size _ bytes before left (reply_of_result c.provision.result) c.writes.result fixed
-    c.provision.ensures.all.laid.sector_size cut
-    (dark_provided map before left c.provision.result (reply_of_result c.provision.result) c.provision.ensures.all refl)
-    c.provision.new.flash.off_by_table c.provision.new.flash.written in
+    c.provision_flash.ensures.outside.fixed ∙ ap (λ (c : Chip). c.fixed) chip in
+    let cut = cut_as_asked before left (reply_of_result c.provision_flash.result) c.writes.result _ _ _ _ chip
+    c.provision_flash.ensures.outside.fixed
+    (cuts_provided map before left c.provision_flash.result (reply_of_result c.provision_flash.result) c.provision_flash.ensures refl)
+    c.provision_flash.new.flash.cut_by_table c.writes.ensures in
+    let torn = writes_as_asked table map.sector_size _ bytes before left (reply_of_result c.provision_flash.result) c.writes.result fixed
+    c.provision_flash.ensures.laid.sector_size cut
+    (dark_provided map before left c.provision_flash.result (reply_of_result c.provision_flash.result) c.provision_flash.ensures refl)
+    c.provision_flash.new.flash.off_by_table c.provision_flash.new.flash.written in
     record {
       before = before;
       after = left;
-      between = provisions_between map bytes _ before left c.provision.result (reply_of_result c.provision.result)
-          (borrowed_flash map bytes before _ map.is_map c.requires.room chip) (search rules) c.provision.ensures.all
+      between = provisions_between map bytes _ before left c.provision_flash.result (reply_of_result c.provision_flash.result)
+          (borrowed_flash map bytes before _ map.is_map c.requires.room chip) (search rules) c.provision_flash.ensures
           refl;
       cut_as_asked = cut;
       writes_as_asked = writes_over (fixed_by table [] 0) map.sector_size bytes left.bytes _ c.writes.result (search rules) torn;
