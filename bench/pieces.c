@@ -10,15 +10,15 @@
 #include <string.h>
 #include <time.h>
 
-#include "bootswap.h"
+#include "bootswap_simulate.h"
 
 enum { SECTOR = 131072, SECTORS = 128, SLOT = SECTOR * SECTORS, FLASH = (2 * (SECTORS + 1) + 4) * SECTOR };
 
 static const struct bootswap_setup SETUP = {.sector_size = SECTOR, .images = 1, .sectors = {SECTORS}, .trial_boots = 1};
 
 static uint8_t flash[FLASH], bytes[SLOT], image[4096];
-static struct bootswap_kept kept;
-static struct bootswap_told told;
+static struct bootswap_saved_state saved;
+static struct bootswap_result result;
 
 static double now(void) {
     struct timespec at;
@@ -28,7 +28,7 @@ static double now(void) {
 
 static void expect(bool is_so, const char *what) {
     if (!is_so) {
-        fprintf(stderr, "%s: fault %u, detail %u\n", what, told.fault, told.detail);
+        fprintf(stderr, "%s: fault %u, detail %u\n", what, result.fault, result.detail);
         exit(1);
     }
 }
@@ -39,10 +39,12 @@ static void open_upload(size_t image_length) {
     manifest.components[0].size = SLOT;
     memset(flash, 0xff, sizeof flash);
     memcpy(flash, image, image_length);
-    memset(&kept, 0, sizeof kept);
-    expect(bootswap_provision(&SETUP, flash, FLASH, NULL, 0, &told) == BOOTSWAP_DONE, "provision");
-    expect(bootswap_boot(&SETUP, flash, FLASH, &kept, NULL, 0, NULL, 0, NULL, 0, &told) == BOOTSWAP_BOOTED, "boot");
-    expect(bootswap_accept(&SETUP, flash, FLASH, &kept, NULL, 0, &manifest, &told) == BOOTSWAP_DONE, "accept");
+    memset(&saved, 0, sizeof saved);
+    expect(bootswap_simulate_provision(&SETUP, flash, FLASH, NULL, 0, &result) == BOOTSWAP_DONE, "provision");
+    expect(bootswap_simulate_boot(&SETUP, flash, FLASH, &saved, NULL, 0, NULL, 0, NULL, 0, &result) == BOOTSWAP_BOOTED,
+           "boot");
+    expect(bootswap_simulate_accept(&SETUP, flash, FLASH, &saved, NULL, 0, &manifest, &result) == BOOTSWAP_DONE,
+           "accept");
 }
 
 /* Sends all bytes in a number of pieces, and returns how long that takes. */
@@ -50,7 +52,8 @@ static double send(size_t pieces) {
     double from = now();
     for (size_t piece = 0; piece < pieces; piece++) {
         size_t first = (size_t)SLOT * piece / pieces, end = (size_t)SLOT * (piece + 1) / pieces;
-        uint32_t number = bootswap_piece(&SETUP, flash, FLASH, &kept, NULL, 0, 0, bytes + first, end - first, &told);
+        uint32_t number =
+            bootswap_simulate_piece(&SETUP, flash, FLASH, &saved, NULL, 0, 0, bytes + first, end - first, &result);
         expect(number == BOOTSWAP_DONE, "piece");
     }
     return now() - from;
@@ -58,8 +61,8 @@ static double send(size_t pieces) {
 
 static double finish(void) {
     double from = now();
-    uint32_t number = bootswap_finish(&SETUP, flash, FLASH, &kept, NULL, 0, 0, &told);
-    expect(number == BOOTSWAP_REFUSED && told.detail == BOOTSWAP_DIGEST_WRONG, "finish");
+    uint32_t number = bootswap_simulate_finish(&SETUP, flash, FLASH, &saved, NULL, 0, 0, &result);
+    expect(number == BOOTSWAP_REFUSED && result.detail == BOOTSWAP_DIGEST_WRONG, "finish");
     return now() - from;
 }
 

@@ -51,7 +51,7 @@ unsafe extern "C" {
         table: *const c_char,
         table_length: usize,
         report: *mut c_char,
-        report_room: usize,
+        report_capacity: usize,
         length: *mut u64,
     ) -> u32;
     fn bootswap_check(

@@ -23,13 +23,13 @@ static const struct bootswap_setup setup = {.sector_size = SECTOR,
                                             .trial_boots = 2};
 static uint8_t flash[SECTORS * SECTOR], journal[1 << 16], running[SLOT * SECTOR], new[SLOT * SECTOR];
 static size_t running_length, new_length;
-static struct bootswap_kept kept;
-static struct bootswap_told told;
+static struct bootswap_saved_state saved;
+static struct bootswap_result result;
 static struct bootswap_manifest manifest;
 static struct bootswap_description description;
 static struct bootswap_state in_log;
 static struct bootswap_sha256 digest;
-static char table[BOOTSWAP_TABLE_ROOM], report[BOOTSWAP_REPORT_ROOM];
+static char table[BOOTSWAP_MAX_TABLE_LENGTH], report[BOOTSWAP_MAX_REPORT_LENGTH];
 static uint64_t number;
 
 static _Alignas(16) uint8_t stack[STACK];
@@ -38,25 +38,27 @@ static uint32_t returned;
 static uint8_t image;
 
 /* What each call of a device takes first. */
-#define DEVICE &setup, flash, sizeof flash, &kept, journal, sizeof journal
+#define DEVICE &setup, flash, sizeof flash, &saved, journal, sizeof journal
 
 static void provision(void) {
-    returned = bootswap_journal_provision(&setup, flash, sizeof flash, journal, sizeof journal, &told);
+    returned = bootswap_journal_provision(&setup, flash, sizeof flash, journal, sizeof journal, &result);
 }
 
-static void boot(void) {
-    returned = bootswap_journal_boot(DEVICE, table, sizeof table, report, sizeof report, &told);
+static void boot(void) { returned = bootswap_journal_boot(DEVICE, &result); }
+
+static void boot_with_texts(void) {
+    returned = bootswap_journal_boot_with_texts(DEVICE, table, sizeof table, report, sizeof report, &result);
 }
 
-static void accept(void) { returned = bootswap_journal_accept(DEVICE, &manifest, &told); }
+static void accept(void) { returned = bootswap_journal_accept(DEVICE, &manifest, &result); }
 
-static void piece(void) { returned = bootswap_journal_piece(DEVICE, image, new, new_length, &told); }
+static void piece(void) { returned = bootswap_journal_piece(DEVICE, image, new, new_length, &result); }
 
-static void finish(void) { returned = bootswap_journal_finish(DEVICE, image, &told); }
+static void finish(void) { returned = bootswap_journal_finish(DEVICE, image, &result); }
 
-static void withdraw(void) { returned = bootswap_journal_withdraw(DEVICE, image, &told); }
+static void withdraw(void) { returned = bootswap_journal_withdraw(DEVICE, image, &result); }
 
-static void confirm(void) { returned = bootswap_journal_confirm(DEVICE, image, &told); }
+static void confirm(void) { returned = bootswap_journal_confirm(DEVICE, image, &result); }
 
 static void slot(void) { returned = bootswap_slot(&setup, flash, sizeof flash, image, 0, &description); }
 
@@ -69,11 +71,9 @@ static void digest_of(void) {
     returned = 0;
 }
 
-static void choose(void) {
-    returned = bootswap_choose(table, told.table_length, report, sizeof report, &number);
-}
+static void choose(void) { returned = bootswap_choose(table, result.table_length, report, sizeof report, &number); }
 
-static void check(void) { returned = bootswap_check(table, told.table_length, report, number, &number); }
+static void check(void) { returned = bootswap_check(table, result.table_length, report, number, &number); }
 
 /* Nothing: what the frame around a call takes. */
 static void nothing(void) { returned = 0; }
@@ -99,10 +99,11 @@ struct row {
 };
 
 static struct row rows[] = {
-    {"provision", provision, 0}, {"boot", boot, 0},         {"accept", accept, 0},   {"piece", piece, 0},
-    {"finish", finish, 0},       {"withdraw", withdraw, 0}, {"confirm", confirm, 0}, {"slot", slot, 0},
-    {"state", state, 0},         {"describe", describe, 0}, {"digest", digest_of, 0}, {"choose", choose, 0},
-    {"check", check, 0},
+    {"provision", provision, 0}, {"boot", boot, 0},         {"boot_with_texts", boot_with_texts, 0},
+    {"accept", accept, 0},       {"piece", piece, 0},       {"finish", finish, 0},
+    {"withdraw", withdraw, 0},   {"confirm", confirm, 0},   {"slot", slot, 0},
+    {"state", state, 0},         {"describe", describe, 0}, {"digest", digest_of, 0},
+    {"choose", choose, 0},       {"check", check, 0},
 };
 
 static size_t number_at(size_t at) {
@@ -111,7 +112,7 @@ static size_t number_at(size_t at) {
 
 /* Makes the writes that a call recorded, since the call itself only reads the flash. */
 static void make_writes(void) {
-    for (size_t at = 0; at < told.journal_length; at += 12) {
+    for (size_t at = 0; at < result.journal_length; at += 12) {
         size_t kind = number_at(at), start = number_at(at + 4), length = number_at(at + 8);
         if (kind == 1) {
             memset(flash + start, 0xff, length);
@@ -120,26 +121,38 @@ static void make_writes(void) {
             at += length;
         }
     }
-    told.journal_length = 0;
+    result.journal_length = 0;
 }
 
 /* Makes a call, which has to return what is wanted, and keeps the most bytes that it took. */
-static void run_for(const char *name, uint32_t wanted) {
+static void measure(const char *name, uint32_t wanted) {
     size_t frame = bytes_of(nothing);
     for (size_t i = 0; i < sizeof rows / sizeof *rows; i++) {
         struct row *row = &rows[i];
         if (strcmp(row->name, name)) continue;
         size_t bytes = bytes_of(row->call) - frame;
         if (returned != wanted) {
-            fprintf(stderr, "%s of image %u: %u (fault %u, detail %u)\n", name, image, returned, told.fault, told.detail);
+            fprintf(stderr, "%s of image %u: %u (fault %u, detail %u)\n", name, image, returned, result.fault,
+                    result.detail);
             exit(1);
         }
         if (bytes > row->most) row->most = bytes;
-        make_writes();
     }
 }
 
-static void run(const char *name) { run_for(name, BOOTSWAP_DONE); }
+static void run(const char *name) {
+    measure(name, BOOTSWAP_DONE);
+    make_writes();
+}
+
+/* Boots without texts and with them, from the same state. */
+static void run_boot(uint32_t wanted) {
+    struct bootswap_saved_state before = saved;
+    measure("boot", wanted);
+    saved = before;
+    measure("boot_with_texts", wanted);
+    make_writes();
+}
 
 static size_t load(const char *name, uint8_t *bytes) {
     FILE *file = fopen(name, "rb");
@@ -180,24 +193,24 @@ int main(int count, char **words) {
     }
 
     run("provision");
-    run_for("boot", BOOTSWAP_BOOTED);
+    run_boot(BOOTSWAP_BOOTED);
     upload(1);
     for (image = 0; image < IMAGES; image++) run("withdraw");
     upload(2);
-    run_for("boot", BOOTSWAP_BOOTED);
+    run_boot(BOOTSWAP_BOOTED);
     run("choose");
     run("check");
     for (image = 0; image < IMAGES; image++) run("confirm");
-    run_for("boot", BOOTSWAP_BOOTED);
+    run_boot(BOOTSWAP_BOOTED);
     upload(3);
-    run_for("boot", BOOTSWAP_BOOTED);
-    run_for("boot", BOOTSWAP_TRIAL_AGAIN);
-    run_for("boot", BOOTSWAP_REVERTED);
+    run_boot(BOOTSWAP_BOOTED);
+    run_boot(BOOTSWAP_TRIAL_AGAIN);
+    run_boot(BOOTSWAP_REVERTED);
     image = 0;
     run("slot");
     run("state");
     run("describe");
     run("digest");
-    for (size_t i = 0; i < sizeof rows / sizeof *rows; i++) printf("%-10s %6zu\n", rows[i].name, rows[i].most);
+    for (size_t i = 0; i < sizeof rows / sizeof *rows; i++) printf("%-15s %6zu\n", rows[i].name, rows[i].most);
     return 0;
 }

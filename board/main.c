@@ -17,29 +17,29 @@
 static const struct bootswap_setup setup = {
     .sector_size = NOR_SECTOR, .images = 2, .sectors = {2, 2}, .trial_boots = 1};
 
-/* The longest journal is that of a boot, or of a piece: 31 bytes, and its bytes. */
+/* The longest journal is that of a boot, or of a piece. */
 #define LARGER(one, other) ((one) > (other) ? (one) : (other))
-static uint8_t mirror[NOR_SECTORS * NOR_SECTOR];
-static uint8_t journal[LARGER(BOOTSWAP_JOURNAL_ROOM(NOR_SECTOR), 31 + MOST_BYTES)];
-static char table[BOOTSWAP_TABLE_ROOM], report[BOOTSWAP_REPORT_ROOM];
+static uint8_t journal[LARGER(BOOTSWAP_JOURNAL_BOOT(2, NOR_SECTOR),
+                              BOOTSWAP_JOURNAL_PIECE(MOST_BYTES))];
+static char table[BOOTSWAP_MAX_TABLE_LENGTH], report[BOOTSWAP_MAX_REPORT_LENGTH];
 static struct event event;
 
 static struct bootswap_device device = {
     .setup = &setup,
     .driver = &nor_driver,
-    .mirror = mirror,
-    .mirror_length = sizeof mirror,
+    .flash = (const uint8_t *)(uintptr_t)NOR_BASE,
+    .flash_length = NOR_SECTORS * NOR_SECTOR,
     .journal = journal,
-    .journal_room = sizeof journal,
+    .journal_capacity = sizeof journal,
 };
 
 static uint32_t open_and(uint32_t (*call)(void)) {
-    uint32_t number = bootswap_open(&device);
-    return number == BOOTSWAP_DONE ? call() : number;
+    uint32_t status = bootswap_open(&device);
+    return status == BOOTSWAP_DONE ? call() : status;
 }
 
 static uint32_t boot(void) {
-    return bootswap_device_boot(&device, table, sizeof table, report, sizeof report);
+    return bootswap_device_boot_with_texts(&device, table, sizeof table, report, sizeof report);
 }
 
 static uint32_t provision(void) {
@@ -47,7 +47,7 @@ static uint32_t provision(void) {
 }
 
 static uint32_t reset(void) {
-    bootswap_reset(&device.kept);
+    bootswap_reset(&device.saved);
     return BOOTSWAP_DONE;
 }
 
@@ -72,23 +72,23 @@ static uint32_t answer(void) {
     }
 }
 
-/* Whether the event was a boot, and what it returned lets the images run. No other number does. */
-static bool may_run(uint32_t number) {
+/* Whether the event was a boot, and what it returned lets the images run. No other status does. */
+static bool may_run(uint32_t status) {
     return event.kind == EVENT_BOOT &&
-           (number == BOOTSWAP_BOOTED || number == BOOTSWAP_TRIAL_AGAIN);
+           (status == BOOTSWAP_BOOTED || status == BOOTSWAP_TRIAL_AGAIN);
 }
 
 int main(void) {
     serial_start();
     event.kind = EVENT_BOOT;
     for (uint32_t count = 1;; count++) {
-        uint32_t number = answer();
+        uint32_t status = answer();
         if (event.kind == EVENT_BOOT && device.reverted != 0) {
             /* The device booted twice, as two events of a script. */
             reply_reverted(count++, device.reverted);
         }
-        reply(count, number, &device.told, report);
-        if (may_run(number)) {
+        reply(count, status, &device.result, report);
+        if (may_run(status)) {
             run_images(&setup);
         }
         script_read(&event);

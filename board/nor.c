@@ -1,6 +1,6 @@
 /*
- * The driver: bootswap's three functions for a parallel NOR flash, one byte wide, with the command
- * set of Intel's CFI parts (JEDEC JEP137, command set 0001).
+ * The driver: the functions that write a parallel NOR flash, one byte wide, with the command set of
+ * Intel's CFI parts (JEDEC JEP137, command set 0001).
  *
  * The processor reads the flash as memory. It writes a command to any address of a sector, and then
  * reads there the status of the part, until a last command shows the contents again.
@@ -41,14 +41,6 @@ static int end_commands(volatile uint8_t *place, bool failed) {
     return failed;
 }
 
-static int read(void *context, uint32_t at, uint8_t *out, uint32_t length) {
-    (void)context;
-    for (uint32_t i = 0; i < length; i++) {
-        out[i] = *byte_at(at + i);
-    }
-    return 0;
-}
-
 /* An erased byte is 0xFF already. */
 static int program(void *context, uint32_t at, const uint8_t *bytes, uint32_t length) {
     bool failed = false;
@@ -73,4 +65,5 @@ static int erase(void *context, uint32_t at, uint32_t length) {
     return end_commands(byte_at(at), has_failed(byte_at(at)));
 }
 
-const struct bootswap_driver nor_driver = {.read = read, .program = program, .erase = erase};
+/* The library reads the flash as memory, so there is no function that reads. */
+const struct bootswap_driver nor_driver = {.program = program, .erase = erase};

@@ -19,18 +19,18 @@ static void write_refusal(const char *kind, uint32_t number, const char *name) {
     serial_write_text(name);
 }
 
-static void write_refused(const struct bootswap_told *told) {
-    if (told->fault == BOOTSWAP_MANIFEST) {
-        write_refusal("manifest", told->detail, bootswap_manifest_fault_name(told->detail));
-    } else if (told->fault == BOOTSWAP_UPLOAD) {
-        write_refusal("upload", told->detail, bootswap_upload_fault_name(told->detail));
-        if (told->detail == BOOTSWAP_NOT_AN_IMAGE) {
-            write_number(told->check);
+static void write_refused(const struct bootswap_result *result) {
+    if (result->fault == BOOTSWAP_MANIFEST) {
+        write_refusal("manifest", result->detail, bootswap_manifest_fault_name(result->detail));
+    } else if (result->fault == BOOTSWAP_UPLOAD) {
+        write_refusal("upload", result->detail, bootswap_upload_fault_name(result->detail));
+        if (result->detail == BOOTSWAP_NOT_AN_IMAGE) {
+            write_number(result->check);
         }
     } else {
-        write_refusal("boot", told->fault, bootswap_fault_name(told->fault));
-        if (told->fault == BOOTSWAP_RUNNING_DAMAGED) {
-            write_number(told->detail);
+        write_refusal("boot", result->fault, bootswap_fault_name(result->fault));
+        if (result->fault == BOOTSWAP_RUNNING_DAMAGED) {
+            write_number(result->detail);
         }
     }
 }
@@ -44,31 +44,31 @@ static void write_set(uint32_t set) {
     }
 }
 
-static const char *kind_of(const struct bootswap_told *told) {
-    return told->permanent ? " permanent" : told->set ? " trial" : " plain";
+static const char *kind_of(const struct bootswap_result *result) {
+    return result->permanent ? " permanent" : result->set ? " trial" : " plain";
 }
 
-static void write_result(uint32_t number, const struct bootswap_told *told) {
-    switch (number) {
+static void write_result(uint32_t status, const struct bootswap_result *result) {
+    switch (status) {
     case BOOTSWAP_DONE:
         serial_write_text(" done");
         break;
     case BOOTSWAP_BOOTED:
-        serial_write_text(kind_of(told));
+        serial_write_text(kind_of(result));
         break;
     case BOOTSWAP_TRIAL_AGAIN:
         serial_write_text(" trial-again");
-        write_set(told->set);
+        write_set(result->set);
         serial_write_text(" left");
-        write_number(told->left);
+        write_number(result->left);
         break;
     case BOOTSWAP_REFUSED:
-        write_refused(told);
+        write_refused(result);
         break;
     default:
-        /* A number of driver.h, or of a call that can't be made with this setup. */
+        /* A status of driver.h, or of a call that can't be made with this setup. */
         serial_write_text(" failed");
-        write_number(number);
+        write_number(status);
     }
 }
 
@@ -79,11 +79,12 @@ void reply_reverted(uint32_t event, uint32_t set) {
     serial_write('\n');
 }
 
-void reply(uint32_t event, uint32_t number, const struct bootswap_told *told, const char *report) {
+void reply(uint32_t event, uint32_t status, const struct bootswap_result *result,
+           const char *report) {
     serial_write_number(event);
-    write_result(number, told);
+    write_result(status, result);
     serial_write('\n');
-    if (number == BOOTSWAP_BOOTED) {
-        serial_write_bytes(report, told->report_length);
+    if (status == BOOTSWAP_BOOTED) {
+        serial_write_bytes(report, result->report_length);
     }
 }

@@ -5,7 +5,8 @@
 #include "bootswap.h"
 
 /* Writes to the serial port the reply to event N, by what its call returned and reported. */
-void reply(uint32_t event, uint32_t number, const struct bootswap_told *told, const char *report);
+void reply(uint32_t event, uint32_t status, const struct bootswap_result *result,
+           const char *report);
 
 /* Writes the reply of a boot that reverted a set. */
 void reply_reverted(uint32_t event, uint32_t set);

@@ -1,25 +1,42 @@
 /*
- * bootswap for C: a device whose flash is bytes in memory, for simulators, update servers and tests on a desk.
+ * bootswap for C: a device with its own flash. The flash is memory that a call only reads: a part that is mapped into
+ * memory, or a copy of one. A call records its writes in a journal, and its caller makes them on the part.
+ * `bindings/c/driver.c` does that over a driver of yours, and `docs/PORTING.md` says how. bootswap_simulate.h has the
+ * same calls for simulators: they write to memory.
  *
- * Each call of a device is one step of a machine that knows whole images only, from the device in the caller's bytes
- * before the call to the one in them after it. This is proved for any contents. Only bootswap_piece needs saved uploads
- * that match the flash. The caller keeps the state of a device between two calls in a `struct bootswap_kept`. If it
- * isn't a valid state, or its uploads don't match the flash, the device isn't booted and has no open upload. No call
- * allocates, and each returns.
+ * Each call of a device is one step of a machine that knows whole images only, from the device of the flash before the
+ * call to that of the flash after its writes. This is proved for any contents. Only bootswap_journal_piece needs saved
+ * uploads that match the flash. The caller keeps the state of a device between two calls in a `struct
+ * bootswap_saved_state`. If it isn't a valid state, or its uploads don't match the flash, the device isn't booted and
+ * has no open upload. No call allocates, and each returns.
  *
- * The caller guarantees this: a pointer with a length points to that number of bytes or rows, and may be null if the
- * length is 0; every other pointer points to a complete struct or number, and isn't null; memory that a call writes
- * overlaps nothing else that is passed.
+ * The caller guarantees this: a pointer with a length or a capacity points to that number of bytes or rows, and may be
+ * null if the number is 0; every other pointer points to a complete struct or number, and isn't null; memory that a
+ * call writes overlaps nothing else that is passed.
  *
- * Each call except bootswap_piece reads the slots of the open uploads and checks that the uploads match the flash. A
- * piece reads only the range of its slot that it writes, the slot's trailer and the log.
+ * Each call except bootswap_journal_piece reads the slots of the open uploads and checks that the uploads match the
+ * flash. A piece reads only the range of its slot that it writes, the slot's trailer and the log.
+ *
+ * The calls named `bootswap_journal_` have a journal. The flash is only read: a write is recorded in the journal, and
+ * the rest of the call reads what it leaves. A write takes 12 bytes of the journal: three numbers of 4 bytes, the
+ * lowest byte first. A program also takes its bytes.
+ *
+ *     0  the kind: 0 a program, 1 an erase
+ *     4  the address in bytes
+ *     8  the length of the range in bytes, of an erase that of a sector
+ *    12  only of a program: its bytes
+ *
+ * The writes follow each other from the first byte of the journal on, with nothing between them. `journal_length` in
+ * the result says where they end. The bytes of the journal after them stay as they were. Make these writes in this
+ * order, on the part and on a copy if there is one, before the next call: each program is of whole units of 8 erased
+ * bytes, and each erase is of one sector.
+ *
+ * If a write doesn't fit in the journal, it isn't recorded, and the call returns BOOTSWAP_CUT. The writes before it are
+ * recorded. The device isn't booted then, and the next boot continues, as after a loss of power. A call with a journal
+ * returns BOOTSWAP_CUT for no other reason.
  *
  * The library calls memcpy, memmove and memset. It uses the processor's vector registers and unaligned accesses, which
  * a bare machine has to allow.
- *
- * The flash is memory: a driver in C can't be called. The calls named `bootswap_journal_` record each write in a journal,
- * so that their caller can make the same writes on a part. `docs/PORTING.md` says how a device with its own flash runs
- * bootswap.
  */
 #ifndef BOOTSWAP_H
 #define BOOTSWAP_H
@@ -32,17 +49,16 @@ extern "C" {
 #endif
 
 /* The version, as `bootswap --version` prints it. CHANGELOG.md says what a later one may change. */
-#define BOOTSWAP_VERSION "1.0.0"
+#define BOOTSWAP_VERSION "2.0.0"
 
-/* The most images of a device, cuts of a call, dependencies and groups of an image, and alternatives of a group. */
+/* The most images of a device, dependencies and groups of an image, and alternatives of a group. */
 #define BOOTSWAP_MAX_IMAGES 8
-#define BOOTSWAP_MAX_CUTS 16
-#define BOOTSWAP_MAX_NEEDS 16
+#define BOOTSWAP_MAX_DEPENDENCIES 16
 #define BOOTSWAP_MAX_GROUPS 4
 #define BOOTSWAP_MAX_ALTERNATIVES 4
 
 /* What a call returns. bootswap_names.h has names for it, and for the numbers of reasons. */
-enum bootswap_number {
+enum bootswap_status {
     BOOTSWAP_DONE = 0,         /* done, the bytes are an intact image, or the report is right */
     BOOTSWAP_BOOTED = 1,       /* the device booted, and decided what runs */
     BOOTSWAP_REVERTED = 2,     /* it booted, and the old images of a set on trial run again */
@@ -61,7 +77,7 @@ enum bootswap_number {
     BOOTSWAP_NO_REPORT = 25,   /* the text is no report */
     BOOTSWAP_INVALID_SET = 26, /* the running images of the table don't fit each other */
     BOOTSWAP_WRONG = 27,       /* the report isn't right for the table */
-    BOOTSWAP_NO_ROOM = 28,     /* the text or the image is longer than its buffer */
+    BOOTSWAP_TOO_SMALL = 28,   /* the buffer is too small for the text or the image */
     BOOTSWAP_BAD_IMAGE = 29    /* no image has the values */
 };
 
@@ -78,8 +94,8 @@ enum bootswap_fault {
 };
 
 /*
- * Why a manifest is refused. `detail` of BOOTSWAP_MANIFEST is 3, 6 or 7: bootswap_accept returns 3 if there is no
- * component. bootswap_manifest.h reads texts, and returns any.
+ * Why a manifest is refused. `detail` of BOOTSWAP_MANIFEST is 3, 6 or 7: bootswap_journal_accept reports 3 if there is
+ * no component. bootswap_manifest.h reads texts, and returns any.
  */
 enum bootswap_manifest_fault {
     BOOTSWAP_NOT_JSON = 1,           /* the bytes aren't the JSON text of a value */
@@ -121,7 +137,7 @@ struct bootswap_setup {
  * does. A call whose setup and list of cuts are valid sets each byte that the device doesn't need to 0: the unused
  * ones, those after the held bytes, and each byte of an upload that isn't open.
  */
-struct bootswap_kept {
+struct bootswap_saved_state {
     uint8_t is_booted; /* 1 if it is booted */
     uint8_t unused[3]; /* 0 */
     struct {
@@ -136,14 +152,6 @@ struct bootswap_kept {
     } uploads[BOOTSWAP_MAX_IMAGES]; /* one for each image */
 };
 
-/* A write that is to be cut in a call. A write is a program or an erase. */
-struct bootswap_cut {
-    uint64_t write;          /* its number in the call, counted from 1 */
-    uint32_t left;           /* what it leaves: 0 the old bytes, 1 the new bytes, 2 the pattern */
-    uint32_t pattern_length; /* the length of the pattern in bytes, 0 to 8 */
-    uint8_t pattern[8];      /* repeated over the range from its first byte on */
-};
-
 /* A version of an image, major.minor.revision+build (MCUboot's `struct image_version`). */
 struct bootswap_version {
     uint8_t major, minor;
@@ -151,8 +159,8 @@ struct bootswap_version {
     uint32_t build;
 };
 
-/* A needed image and its lowest version. */
-struct bootswap_need {
+/* A dependency: a needed image and its lowest version. */
+struct bootswap_dependency {
     uint32_t image;
     struct bootswap_version minimum;
 };
@@ -161,17 +169,17 @@ struct bootswap_need {
 struct bootswap_refusal {
     uint32_t image;                /* the image whose request is refused */
     uint32_t reason;               /* 1 damaged, 2 older, 3 counter, 4 no such image, 5 needs, 6 needs one of several */
-    uint32_t count;                /* the number of `needs`: 1 for reasons 4 and 5, up to 4 for reason 6 */
-    struct bootswap_need needs[BOOTSWAP_MAX_ALTERNATIVES]; /* what it needs. For reason 4 only the image counts. */
+    uint32_t count;                /* the number of `dependencies`: 1 for reasons 4 and 5, up to 4 for reason 6 */
+    struct bootswap_dependency dependencies[BOOTSWAP_MAX_ALTERNATIVES]; /* what the image needs. For reason 4 only the
+                                                                           number of the needed image counts. */
 };
 
 /* The result of a call. A field that doesn't apply to the returned number is 0. */
-struct bootswap_told {
-    uint64_t writes;                      /* the number of writes of the call. Exactly these, torn as the rows say,
-                                             change the old bytes into the new ones. If a write is cut, it is the last
-                                             one. */
+struct bootswap_result {
+    uint64_t writes;                      /* the number of writes of the call. Exactly these change the old bytes into
+                                             the new ones. If a simulated write is cut, it is the last one. */
     uint64_t journal_length;              /* the number of bytes of the journal that record these writes, from its first
-                                             byte on. 0 for a call without a journal. */
+                                             byte on. 0 for a simulated call. */
     uint32_t fault;                       /* refused: a bootswap_fault */
     uint32_t detail;                      /* refused: the number of the underlying error */
     uint32_t check;                       /* refused: the first check of an image that fails, 1 to 15 */
@@ -204,10 +212,10 @@ struct bootswap_manifest {
     struct bootswap_component components[BOOTSWAP_MAX_IMAGES];
 };
 
-/* A group of alternatives: at least one of these needs has to be met. */
+/* A group of alternatives: at least one of these dependencies has to be met. */
 struct bootswap_group {
     uint32_t count; /* 1 to 4 */
-    struct bootswap_need alternatives[BOOTSWAP_MAX_ALTERNATIVES];
+    struct bootswap_dependency alternatives[BOOTSWAP_MAX_ALTERNATIVES];
 };
 
 /* The description of an image. */
@@ -216,9 +224,9 @@ struct bootswap_description {
     struct bootswap_version version; /* ih_ver */
     uint32_t counter;                /* the security counter, 0 if it has none */
     uint32_t flags;                  /* ih_flags */
-    uint32_t needs_count;            /* 0 to 16 */
+    uint32_t dependencies_count;     /* 0 to 16 */
     uint32_t groups_count;           /* 0 to 4 */
-    struct bootswap_need needs[BOOTSWAP_MAX_NEEDS]; /* its dependencies, in the order of its entries */
+    struct bootswap_dependency dependencies[BOOTSWAP_MAX_DEPENDENCIES]; /* in the order of its entries */
     struct bootswap_group groups[BOOTSWAP_MAX_GROUPS];
     uint8_t digest[32]; /* the SHA-256 of its header, body and protected area */
 };
@@ -233,9 +241,9 @@ struct bootswap_image_parts {
     uint32_t flags;                  /* ih_flags: of 0x1, 0x10 and 0x100 */
     struct bootswap_version version; /* ih_ver */
     uint32_t counter;
-    uint32_t needs_count;            /* 0 to 16 */
+    uint32_t dependencies_count;     /* 0 to 16 */
     uint32_t groups_count;           /* 0 to 4 */
-    struct bootswap_need needs[BOOTSWAP_MAX_NEEDS]; /* its dependencies, in the order of its entries */
+    struct bootswap_dependency dependencies[BOOTSWAP_MAX_DEPENDENCIES]; /* in the order of its entries */
     struct bootswap_group groups[BOOTSWAP_MAX_GROUPS];
 };
 
@@ -254,126 +262,117 @@ struct bootswap_sha256 {
     uint8_t bytes[32];
 };
 
-/* Buffer sizes that are always enough for the text of a table, and for that of a report. */
-#define BOOTSWAP_TABLE_ROOM 20480
-#define BOOTSWAP_REPORT_ROOM 2048
+/* The most bytes of the text of a table, and of that of a report. Buffers of these sizes are always large enough. */
+#define BOOTSWAP_MAX_TABLE_LENGTH 20480
+#define BOOTSWAP_MAX_REPORT_LENGTH 2048
 
 /*
- * Provisions the bytes of a flash: the images at the front of the primary slots run. The flash begins with the primary
- * slots, image by image, each followed by one sector for its trailer. Slots and scratch are unchanged.
- * Returns BOOTSWAP_DONE; BOOTSWAP_REFUSED with BOOTSWAP_RUNNING_DAMAGED or BOOTSWAP_RUNNING_INVALID: then nothing
- * changed; or BOOTSWAP_CUT: then it may be called again.
+ * The bytes of a journal with which a call is never cut. BOOTSWAP_JOURNAL_ACCEPT takes the number of components, and
+ * the sum of the sectors of their slots, one slot for each component. BOOTSWAP_JOURNAL_PIECE takes the number of bytes
+ * that are added.
+ *
+ * They are computed in `size_t`, without overflow for each setup that has a map. An argument is taken as a `size_t`: a
+ * processor of 32 bits drops the high bits of a longer number.
  */
-uint32_t bootswap_provision(const struct bootswap_setup *setup, uint8_t *flash, size_t flash_length,
-                            const struct bootswap_cut *cuts, size_t cuts_count, struct bootswap_told *told);
+#define BOOTSWAP_JOURNAL_PROVISION(images) ((size_t)144 + (size_t)24 * (size_t)(images))
+#define BOOTSWAP_JOURNAL_ACCEPT(components, sectors) \
+    ((size_t)120 + (size_t)44 * (size_t)(components) + (size_t)12 * (size_t)(sectors))
+#define BOOTSWAP_JOURNAL_PIECE(length) ((size_t)31 + (size_t)(length))
+#define BOOTSWAP_JOURNAL_FINISH ((size_t)68)
+#define BOOTSWAP_JOURNAL_WITHDRAW ((size_t)44)
+#define BOOTSWAP_JOURNAL_CONFIRM ((size_t)20)
+
+/*
+ * The bytes of a journal for a boot. No journal is always enough. If a boot returns BOOTSWAP_CUT, the next one
+ * continues.
+ *
+ * BOOTSWAP_JOURNAL_STEP is the longest step of a swap. It erases a sector, programs it by 256 bytes, and counts the
+ * step. BOOTSWAP_JOURNAL_BOOT is a step, and what a boot writes after the last one: two records of the log, and the
+ * trailers of the swapped images. If all of it is in the same boot, that reads the images only once more after the
+ * swap. `images` is the number of images of the device.
+ *
+ * It is proved that each boot gets a step further if its journal has at least 856 bytes, and at least
+ * BOOTSWAP_JOURNAL_STEP. BOOTSWAP_JOURNAL_BOOT is more than both. With a journal that is too short for a step, the same
+ * step is interrupted each time. A boot takes no longer with a journal of 64 steps than with one of a single step, but
+ * much longer with one of thousands.
+ */
+#define BOOTSWAP_JOURNAL_STEP(sector_size) \
+    ((size_t)(sector_size) + (size_t)12 * (((size_t)(sector_size) + 255) / 256) + 32)
+#define BOOTSWAP_JOURNAL_BOOT(images, sector_size) \
+    (BOOTSWAP_JOURNAL_STEP(sector_size) + (size_t)240 + (size_t)92 * (size_t)(images))
+
+/*
+ * Provisions a flash: the images at the front of the primary slots run. The flash begins with the primary slots, image
+ * by image, each followed by one sector for its trailer. Slots and scratch are unchanged. Returns BOOTSWAP_DONE;
+ * BOOTSWAP_REFUSED with BOOTSWAP_RUNNING_DAMAGED or BOOTSWAP_RUNNING_INVALID: then nothing is written; or BOOTSWAP_CUT:
+ * then it may be called again.
+ */
+uint32_t bootswap_journal_provision(const struct bootswap_setup *setup, const uint8_t *flash, size_t flash_length,
+                                    uint8_t *journal, size_t journal_capacity, struct bootswap_result *result);
 
 /*
  * Boots. Returns BOOTSWAP_BOOTED, BOOTSWAP_REVERTED or BOOTSWAP_TRIAL_AGAIN, and the device is booted;
- * BOOTSWAP_REFUSED; or BOOTSWAP_CUT: then the next boot continues. A boot that decides writes the texts of its table
- * and its report to the front of the two buffers, without a 0 after them. A text is left out only if it is longer than
- * its buffer. BOOTSWAP_REVERTED and BOOTSWAP_TRIAL_AGAIN have no texts.
+ * BOOTSWAP_REFUSED; or BOOTSWAP_CUT: then make the writes, and boot again with an empty journal. A loader starts images
+ * after BOOTSWAP_BOOTED and BOOTSWAP_TRIAL_AGAIN only. After BOOTSWAP_REVERTED it boots once more.
  */
-uint32_t bootswap_boot(const struct bootswap_setup *setup, uint8_t *flash, size_t flash_length,
-                       struct bootswap_kept *kept, const struct bootswap_cut *cuts, size_t cuts_count, char *table,
-                       size_t table_room, char *report, size_t report_room, struct bootswap_told *told);
+uint32_t bootswap_journal_boot(const struct bootswap_setup *setup, const uint8_t *flash, size_t flash_length,
+                               struct bootswap_saved_state *saved, uint8_t *journal, size_t journal_capacity,
+                               struct bootswap_result *result);
+
+/*
+ * The same. A boot that decides also writes the texts of its table and its report to the front of the two buffers,
+ * without a 0 after them. A text is left out only if it is longer than its buffer. BOOTSWAP_REVERTED and
+ * BOOTSWAP_TRIAL_AGAIN have no texts.
+ */
+uint32_t bootswap_journal_boot_with_texts(const struct bootswap_setup *setup, const uint8_t *flash, size_t flash_length,
+                                          struct bootswap_saved_state *saved, uint8_t *journal, size_t journal_capacity,
+                                          char *table, size_t table_capacity, char *report, size_t report_capacity,
+                                          struct bootswap_result *result);
 
 /*
  * Accepts a manifest: opens an upload for each image it lists, and cancels pending requests for those images. Returns
  * BOOTSWAP_DONE, BOOTSWAP_REFUSED or BOOTSWAP_CUT. A manifest with two components for the same image is refused.
  */
-uint32_t bootswap_accept(const struct bootswap_setup *setup, uint8_t *flash, size_t flash_length,
-                         struct bootswap_kept *kept, const struct bootswap_cut *cuts, size_t cuts_count,
-                         const struct bootswap_manifest *manifest, struct bootswap_told *told);
+uint32_t bootswap_journal_accept(const struct bootswap_setup *setup, const uint8_t *flash, size_t flash_length,
+                                 struct bootswap_saved_state *saved, uint8_t *journal, size_t journal_capacity,
+                                 const struct bootswap_manifest *manifest, struct bootswap_result *result);
 
 /*
- * Adds bytes to the upload of an image. Returns as bootswap_accept.
+ * Adds bytes to the upload of an image. Returns as bootswap_journal_accept.
  *
  * This call alone doesn't check that the saved uploads match the flash. Before it writes, it checks the upload of its
  * image: the number of received bytes, the trailer of the slot, and that the range to write is erased. If one of these
- * doesn't match, it returns BOOTSWAP_REFUSED with BOOTSWAP_NO_SESSION, and nothing changed.
+ * doesn't match, it returns BOOTSWAP_REFUSED with BOOTSWAP_NO_SESSION, and nothing is written.
  *
  * If the saved uploads don't match the flash, the call may write to erased bytes of the image's secondary slot. On a
  * flash at rest without a trial the running images and the requests stay the same even then. Nothing is requested of
- * such uploads: bootswap_finish, bootswap_accept, bootswap_withdraw, bootswap_confirm and bootswap_boot check all of
- * them, and find a device that isn't booted.
+ * such uploads: each other call that takes a saved state checks all of them, and finds a device that isn't booted.
  */
-uint32_t bootswap_piece(const struct bootswap_setup *setup, uint8_t *flash, size_t flash_length,
-                        struct bootswap_kept *kept, const struct bootswap_cut *cuts, size_t cuts_count, uint8_t image,
-                        const uint8_t *bytes, size_t bytes_length, struct bootswap_told *told);
+uint32_t bootswap_journal_piece(const struct bootswap_setup *setup, const uint8_t *flash, size_t flash_length,
+                                struct bootswap_saved_state *saved, uint8_t *journal, size_t journal_capacity,
+                                uint8_t image, const uint8_t *bytes, size_t bytes_length,
+                                struct bootswap_result *result);
 
 /*
  * Finishes the upload of an image. The image is requested if the upload is complete, has the manifest's digest, and is
- * an intact image. Returns as bootswap_accept.
+ * an intact image. Returns as bootswap_journal_accept.
  */
-uint32_t bootswap_finish(const struct bootswap_setup *setup, uint8_t *flash, size_t flash_length,
-                         struct bootswap_kept *kept, const struct bootswap_cut *cuts, size_t cuts_count, uint8_t image,
-                         struct bootswap_told *told);
-
-/* Withdraws the request of an image. Returns as bootswap_accept. */
-uint32_t bootswap_withdraw(const struct bootswap_setup *setup, uint8_t *flash, size_t flash_length,
-                           struct bootswap_kept *kept, const struct bootswap_cut *cuts, size_t cuts_count,
-                           uint8_t image, struct bootswap_told *told);
-
-/* Confirms an image of the set on trial. Returns as bootswap_accept. */
-uint32_t bootswap_confirm(const struct bootswap_setup *setup, uint8_t *flash, size_t flash_length,
-                          struct bootswap_kept *kept, const struct bootswap_cut *cuts, size_t cuts_count,
-                          uint8_t image, struct bootswap_told *told);
-
-/*
- * The same calls with a journal of their writes. `flash` is only read: it is a part that is mapped into memory, or a copy
- * of one. A write is recorded in the journal, and the rest of the call reads what it leaves. No write is cut but by the
- * end of the journal. It takes 12 bytes of the journal: three numbers of 4 bytes, the lowest byte first.
- *
- *     0  the kind: 0 a program, 1 an erase
- *     4  the address in bytes
- *     8  the length of the range in bytes, of an erase that of a sector
- *    12  only of a program: its bytes
- *
- * The writes follow each other from the first byte of the journal on, with nothing between them. `journal_length` in the
- * result says where they end. The bytes of the journal after them stay as they were. Make these writes in this order, on
- * the part and on a copy, before the next call: each program is of whole units of 8 erased bytes, and each erase is of
- * one sector.
- *
- * If a write doesn't fit in the journal, it isn't made, and the call returns BOOTSWAP_CUT. The writes before it are
- * recorded. The device isn't booted then, and the next boot continues, as after a loss of power. A call returns
- * BOOTSWAP_CUT for no other reason. The journal is long enough if it has this number of bytes:
- *
- *     bootswap_journal_provision  144, and 24 for each image
- *     bootswap_journal_accept     120, and for each component 44, and 12
- *                                 for each sector of its slot
- *     bootswap_journal_piece      31, and the number of bytes that are added
- *     bootswap_journal_finish     68
- *     bootswap_journal_withdraw   44
- *     bootswap_journal_confirm    20
- *
- * A boot has no such bound. If it returns BOOTSWAP_CUT, make the writes and boot again with an empty journal: the next
- * boot continues. Each boot gets a step further if the journal has 856 bytes, and also a sector's length, 12 bytes for
- * each 256 of it (rounded up), and 32. A journal that is too short for a step of a swap is too short each time. A boot
- * takes no longer with a journal of 64 steps than with one of a single step, but much longer with one of thousands.
- */
-uint32_t bootswap_journal_provision(const struct bootswap_setup *setup, const uint8_t *flash, size_t flash_length,
-                                    uint8_t *journal, size_t journal_room, struct bootswap_told *told);
-uint32_t bootswap_journal_boot(const struct bootswap_setup *setup, const uint8_t *flash, size_t flash_length,
-                               struct bootswap_kept *kept, uint8_t *journal, size_t journal_room, char *table,
-                               size_t table_room, char *report, size_t report_room, struct bootswap_told *told);
-uint32_t bootswap_journal_accept(const struct bootswap_setup *setup, const uint8_t *flash, size_t flash_length,
-                                 struct bootswap_kept *kept, uint8_t *journal, size_t journal_room,
-                                 const struct bootswap_manifest *manifest, struct bootswap_told *told);
-uint32_t bootswap_journal_piece(const struct bootswap_setup *setup, const uint8_t *flash, size_t flash_length,
-                                struct bootswap_kept *kept, uint8_t *journal, size_t journal_room, uint8_t image,
-                                const uint8_t *bytes, size_t bytes_length, struct bootswap_told *told);
 uint32_t bootswap_journal_finish(const struct bootswap_setup *setup, const uint8_t *flash, size_t flash_length,
-                                 struct bootswap_kept *kept, uint8_t *journal, size_t journal_room, uint8_t image,
-                                 struct bootswap_told *told);
+                                 struct bootswap_saved_state *saved, uint8_t *journal, size_t journal_capacity,
+                                 uint8_t image, struct bootswap_result *result);
+
+/* Withdraws the request of an image. Returns as bootswap_journal_accept. */
 uint32_t bootswap_journal_withdraw(const struct bootswap_setup *setup, const uint8_t *flash, size_t flash_length,
-                                   struct bootswap_kept *kept, uint8_t *journal, size_t journal_room, uint8_t image,
-                                   struct bootswap_told *told);
+                                   struct bootswap_saved_state *saved, uint8_t *journal, size_t journal_capacity,
+                                   uint8_t image, struct bootswap_result *result);
+
+/* Confirms an image of the set on trial. Returns as bootswap_journal_accept. */
 uint32_t bootswap_journal_confirm(const struct bootswap_setup *setup, const uint8_t *flash, size_t flash_length,
-                                  struct bootswap_kept *kept, uint8_t *journal, size_t journal_room, uint8_t image,
-                                  struct bootswap_told *told);
+                                  struct bootswap_saved_state *saved, uint8_t *journal, size_t journal_capacity,
+                                  uint8_t image, struct bootswap_result *result);
 
 /* Resets the device: all uploads are closed, and it isn't booted. */
-void bootswap_reset(struct bootswap_kept *kept);
+void bootswap_reset(struct bootswap_saved_state *saved);
 
 /*
  * Describes the image at the front of a slot: side 0 is the primary slot, 1 the secondary one. Returns 0, the number of
@@ -396,12 +395,12 @@ uint32_t bootswap_describe(const uint8_t *bytes, size_t bytes_length, struct boo
  * Makes an image of a body and its values at the front of `image`, with the bytes that `bootswap make-image` writes for
  * them. The bytes after it stay as they were. Returns 0, and in `length` the length of the image in bytes;
  * BOOTSWAP_BAD_IMAGE if no image has these values, for example if a needed image has a number above 255: then `length`
- * is 0; or BOOTSWAP_NO_ROOM, only if the image is longer than the buffer: then `length` is its length. `image` changes
- * only if 0 is returned. An image has 40 bytes more than its header and body, and at most 476 more if it has a security
- * counter, needs or groups.
+ * is 0; or BOOTSWAP_TOO_SMALL, only if the image is longer than the buffer: then `length` is its length. `image`
+ * changes only if 0 is returned. An image has 40 bytes more than its header and body, and at most 476 more if it has a
+ * security counter, dependencies or groups.
  */
 uint32_t bootswap_make_image(const struct bootswap_image_parts *parts, const uint8_t *body, size_t body_length,
-                             uint8_t *image, size_t image_room, uint64_t *length);
+                             uint8_t *image, size_t image_capacity, uint64_t *length);
 
 /* The SHA-256 of bytes (FIPS 180-4). */
 void bootswap_digest(const uint8_t *bytes, size_t bytes_length, struct bootswap_sha256 *digest);
@@ -409,9 +408,10 @@ void bootswap_digest(const uint8_t *bytes, size_t bytes_length, struct bootswap_
 /*
  * Chooses among the requests of a table, which is a text, and writes the text of the report to the front of `report`.
  * Returns 0, and in `length` the length of the report in bytes; BOOTSWAP_NO_TABLE, and in `length` the number of the
- * first bad line; BOOTSWAP_INVALID_SET; or BOOTSWAP_NO_ROOM, only if the report is longer than the buffer.
+ * first bad line; BOOTSWAP_INVALID_SET; or BOOTSWAP_TOO_SMALL, only if the report is longer than the buffer.
  */
-uint32_t bootswap_choose(const char *table, size_t table_length, char *report, size_t report_room, uint64_t *length);
+uint32_t bootswap_choose(const char *table, size_t table_length, char *report, size_t report_capacity,
+                         uint64_t *length);
 
 /*
  * Checks whether a report is right for a table. Both are texts. Returns 0 if it is, BOOTSWAP_WRONG if it isn't; or
@@ -424,9 +424,8 @@ uint32_t bootswap_check(const char *table, size_t table_length, const char *repo
 }
 #else
 _Static_assert(sizeof(struct bootswap_setup) == 76, "the setup of a device");
-_Static_assert(sizeof(struct bootswap_kept) == 420, "the saved state of a device");
-_Static_assert(sizeof(struct bootswap_cut) == 24, "a cut");
-_Static_assert(sizeof(struct bootswap_told) == 600, "the result of a call");
+_Static_assert(sizeof(struct bootswap_saved_state) == 420, "the saved state of a device");
+_Static_assert(sizeof(struct bootswap_result) == 600, "the result of a call");
 _Static_assert(sizeof(struct bootswap_manifest) == 584, "a manifest");
 _Static_assert(sizeof(struct bootswap_description) == 464, "a description");
 _Static_assert(sizeof(struct bootswap_image_parts) == 432, "the values of an image");

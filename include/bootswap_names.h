@@ -7,9 +7,9 @@
 
 #include "bootswap.h"
 
-/* Returns the name of what a call returns, a bootswap_number: "done", "booted", .. */
-static inline const char *bootswap_number_name(uint32_t number) {
-    switch (number) {
+/* Returns the name of what a call returns, a bootswap_status: "done", "booted", .. */
+static inline const char *bootswap_status_name(uint32_t status) {
+    switch (status) {
     case BOOTSWAP_DONE: return "done";
     case BOOTSWAP_BOOTED: return "booted";
     case BOOTSWAP_REVERTED: return "reverted";
@@ -26,7 +26,7 @@ static inline const char *bootswap_number_name(uint32_t number) {
     case BOOTSWAP_NO_REPORT: return "no-report";
     case BOOTSWAP_INVALID_SET: return "invalid-set";
     case BOOTSWAP_WRONG: return "wrong";
-    case BOOTSWAP_NO_ROOM: return "no-room";
+    case BOOTSWAP_TOO_SMALL: return "too-small";
     case BOOTSWAP_BAD_IMAGE: return "bad-image";
     default: return "unknown";
     }

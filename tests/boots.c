@@ -9,20 +9,20 @@
 #include <stdlib.h>
 #include <string.h>
 
-#include "bootswap.h"
+#include "bootswap_simulate.h"
 
 enum { SECTOR = 4096, SLOT = 5, MOST = BOOTSWAP_MAX_IMAGES * 2 * (SLOT + 1) + 4 };
 
 static struct bootswap_setup setup = {.sector_size = SECTOR, .trial_boots = 1};
 static uint8_t flash[MOST * SECTOR], new[SLOT * SECTOR];
 static size_t size;
-static struct bootswap_kept kept;
-static struct bootswap_told told;
-static char table[BOOTSWAP_TABLE_ROOM], report[BOOTSWAP_REPORT_ROOM];
+static struct bootswap_saved_state saved;
+static struct bootswap_result result;
+static char table[BOOTSWAP_MAX_TABLE_LENGTH], report[BOOTSWAP_MAX_REPORT_LENGTH];
 
 static void must(int holds, const char *what) {
     if (!holds) {
-        printf("%s: fault %u, detail %u\n", what, told.fault, told.detail);
+        printf("%s: fault %u, detail %u\n", what, result.fault, result.detail);
         exit(1);
     }
 }
@@ -40,8 +40,8 @@ __attribute__((noinline)) void booted(void) { __asm__ volatile(""); }
 __attribute__((noinline)) void digested(void) { __asm__ volatile(""); }
 
 static uint32_t boot(void) {
-    uint32_t number =
-        bootswap_boot(&setup, flash, size, &kept, NULL, 0, table, sizeof table, report, sizeof report, &told);
+    uint32_t number = bootswap_simulate_boot(&setup, flash, size, &saved, NULL, 0, table, sizeof table, report,
+                                             sizeof report, &result);
     booted();
     return number;
 }
@@ -58,10 +58,10 @@ static void upload(size_t length) {
         manifest.components[image].size = (uint32_t)length;
         memcpy(manifest.components[image].digest, digest.bytes, sizeof digest.bytes);
     }
-    must(!bootswap_accept(&setup, flash, size, &kept, NULL, 0, &manifest, &told), "accept");
+    must(!bootswap_simulate_accept(&setup, flash, size, &saved, NULL, 0, &manifest, &result), "accept");
     for (uint8_t image = 0; image < setup.images; image++) {
-        must(!bootswap_piece(&setup, flash, size, &kept, NULL, 0, image, new, length, &told), "piece");
-        must(!bootswap_finish(&setup, flash, size, &kept, NULL, 0, image, &told), "finish");
+        must(!bootswap_simulate_piece(&setup, flash, size, &saved, NULL, 0, image, new, length, &result), "piece");
+        must(!bootswap_simulate_finish(&setup, flash, size, &saved, NULL, 0, image, &result), "finish");
     }
 }
 
@@ -77,7 +77,7 @@ int main(int count, char **words) {
     }
     size_t length = load(words[2], new);
 
-    must(!bootswap_provision(&setup, flash, size, NULL, 0, &told), "provision");
+    must(!bootswap_simulate_provision(&setup, flash, size, NULL, 0, &result), "provision");
     must(boot() == BOOTSWAP_BOOTED, "the first boot");
     upload(length);
     must(boot() == BOOTSWAP_BOOTED, "the boot that upgrades");

@@ -31,8 +31,7 @@ static const struct {
     {1, BACK, FIRST},       {1, BACK, MIDDLE},      {1, BACK_SETTLE, FIRST},
 };
 
-static uint8_t part[FLASH], mirror[FLASH], journal[BOOTSWAP_JOURNAL_ROOM(SECTOR)];
-static char table[BOOTSWAP_TABLE_ROOM], report[BOOTSWAP_REPORT_ROOM];
+static uint8_t part[FLASH], copy[FLASH], journal[BOOTSWAP_JOURNAL_BOOT(IMAGES, SECTOR)];
 
 /* The files of the images: what runs, and what is requested. */
 static uint8_t files[1 + IMAGES][SLOT];
@@ -80,17 +79,17 @@ static struct bootswap_setup setup = {.sector_size = SECTOR, .images = IMAGES, .
 static const struct bootswap_driver driver = {read_part, program_part, erase_part, NULL};
 static struct bootswap_device device = {.setup = &setup,
                                         .driver = &driver,
-                                        .mirror = mirror,
-                                        .mirror_length = sizeof mirror,
+                                        .flash_length = FLASH,
+                                        .copy = copy,
                                         .journal = journal,
-                                        .journal_room = sizeof journal};
+                                        .journal_capacity = sizeof journal};
 
 /* Turns the device on. Power fails after this many writes. Returns the number of the boot. */
 static uint32_t boot(uint32_t writes) {
     writes_made = 0, writes_left = UINT32_MAX;
     must(bootswap_open(&device) == BOOTSWAP_DONE, "open");
     writes_left = writes;
-    uint32_t number = bootswap_device_boot(&device, table, sizeof table, report, sizeof report);
+    uint32_t number = bootswap_device_boot(&device);
     writes_left = UINT32_MAX;
     return number;
 }

@@ -1,8 +1,8 @@
-/* A device with one image takes an update by calls with a journal. The journal of a boot has ROOM bytes, any other one
-   has exactly the length that the header calls enough. No call may write to the flash. After each call the recorded
+/* A device with one image takes an update by calls with a journal. The journal of a boot has CAPACITY bytes, any other
+   one has exactly the length that the header calls enough. No call may write to the flash. After each call the recorded
    writes are made there.
 
-       journal RUNNING NEW ROOM
+       journal RUNNING NEW CAPACITY
 
    Prints how many boots swapped the image in, and the report of the last one. If a call wrote to the flash, or recorded
    other writes than its result says, the status is 1. */
@@ -12,13 +12,13 @@
 
 #include "bootswap.h"
 
-enum { SECTOR = 512, SIZE = 10 * SECTOR, ROOM = 8192, UNUSED = 0xee };
+enum { SECTOR = 512, SIZE = 10 * SECTOR, CAPACITY = 8192, UNUSED = 0xee };
 
 static const struct bootswap_setup setup = {.sector_size = SECTOR, .images = 1, .sectors = {2}, .trial_boots = 1};
-static uint8_t flash[SIZE], before[SIZE], journal[ROOM];
-static struct bootswap_kept kept;
-static struct bootswap_told told;
-static char table[BOOTSWAP_TABLE_ROOM], report[BOOTSWAP_REPORT_ROOM];
+static uint8_t flash[SIZE], before[SIZE], journal[CAPACITY];
+static struct bootswap_saved_state saved;
+static struct bootswap_result result;
+static char table[BOOTSWAP_MAX_TABLE_LENGTH], report[BOOTSWAP_MAX_REPORT_LENGTH];
 
 static void must(int holds, const char *what) {
     if (!holds) {
@@ -27,10 +27,10 @@ static void must(int holds, const char *what) {
     }
 }
 
-static size_t load(const char *name, uint8_t *bytes, size_t room) {
+static size_t load(const char *name, uint8_t *bytes, size_t capacity) {
     FILE *file = fopen(name, "rb");
     must(file != NULL, name);
-    size_t length = fread(bytes, 1, room, file);
+    size_t length = fread(bytes, 1, capacity, file);
     fclose(file);
     return length;
 }
@@ -58,17 +58,17 @@ static size_t make_write(size_t at) {
 static uint32_t made(uint32_t number) {
     size_t at = 0, writes = 0;
     must(!memcmp(before, flash, SIZE), "a call wrote to the flash");
-    for (; at < told.journal_length; writes++) at = make_write(at);
-    must(at == told.journal_length && writes == told.writes, "the journal has other writes than the result says");
+    for (; at < result.journal_length; writes++) at = make_write(at);
+    must(at == result.journal_length && writes == result.writes, "the journal has other writes than the result says");
     memcpy(before, flash, SIZE);
-    for (; at < ROOM; at++) must(journal[at] == UNUSED, "a byte after the writes changed");
-    memset(journal, UNUSED, ROOM);
+    for (; at < CAPACITY; at++) must(journal[at] == UNUSED, "a byte after the writes changed");
+    memset(journal, UNUSED, CAPACITY);
     return number;
 }
 
-static uint32_t boot(size_t room) {
-    return made(bootswap_journal_boot(&setup, flash, SIZE, &kept, journal, room, table, sizeof table, report,
-                                      sizeof report, &told));
+static uint32_t boot(size_t capacity) {
+    return made(bootswap_journal_boot_with_texts(&setup, flash, SIZE, &saved, journal, capacity, table, sizeof table,
+                                                 report, sizeof report, &result));
 }
 
 /* Uploads an image for a test, in two pieces. */
@@ -78,35 +78,41 @@ static void upload(uint32_t sequence, const uint8_t *image, size_t length) {
     struct bootswap_manifest manifest = {.sequence = sequence, .count = 1};
     manifest.components[0].size = length;
     memcpy(manifest.components[0].digest, digest.bytes, 32);
-    size_t room = 120 + 44 + 2 * 12;
-    must(!made(bootswap_journal_accept(&setup, flash, SIZE, &kept, journal, room, &manifest, &told)), "accept");
+    size_t capacity = BOOTSWAP_JOURNAL_ACCEPT(1, 2);
+    must(!made(bootswap_journal_accept(&setup, flash, SIZE, &saved, journal, capacity, &manifest, &result)), "accept");
     for (size_t at = 0, n = 1; at < length; at += n, n = length - 1) {
         const uint8_t *piece = image + at;
-        must(!made(bootswap_journal_piece(&setup, flash, SIZE, &kept, journal, 31 + n, 0, piece, n, &told)), "piece");
+        size_t piece_capacity = BOOTSWAP_JOURNAL_PIECE(n);
+        must(!made(bootswap_journal_piece(&setup, flash, SIZE, &saved, journal, piece_capacity, 0, piece, n, &result)),
+             "piece");
     }
-    must(!made(bootswap_journal_finish(&setup, flash, SIZE, &kept, journal, 68, 0, &told)), "finish");
+    must(!made(bootswap_journal_finish(&setup, flash, SIZE, &saved, journal, BOOTSWAP_JOURNAL_FINISH, 0, &result)),
+         "finish");
 }
 
 int main(int count, char **words) {
     static uint8_t image[1024];
-    must(count == 4, "usage: journal RUNNING NEW ROOM");
-    size_t room = strtoul(words[3], NULL, 10), boots = 1;
-    must(room <= ROOM, "a boot has no such room");
-    memset(journal, UNUSED, ROOM);
+    must(count == 4, "usage: journal RUNNING NEW CAPACITY");
+    size_t capacity = strtoul(words[3], NULL, 10), boots = 1;
+    must(capacity <= CAPACITY, "CAPACITY is too large");
+    memset(journal, UNUSED, CAPACITY);
     memset(flash, 0xff, SIZE);
     load(words[1], flash, 2 * SECTOR);
     memcpy(before, flash, SIZE);
     size_t length = load(words[2], image, sizeof image);
 
-    must(!made(bootswap_journal_provision(&setup, flash, SIZE, journal, 144 + 24, &told)), "provision");
+    must(!made(bootswap_journal_provision(&setup, flash, SIZE, journal, BOOTSWAP_JOURNAL_PROVISION(1), &result)),
+         "provision");
     must(boot(0) == BOOTSWAP_BOOTED, "the first boot");
     upload(1, image, length);
-    must(!made(bootswap_journal_withdraw(&setup, flash, SIZE, &kept, journal, 44, 0, &told)), "withdraw");
+    must(!made(bootswap_journal_withdraw(&setup, flash, SIZE, &saved, journal, BOOTSWAP_JOURNAL_WITHDRAW, 0, &result)),
+         "withdraw");
     upload(2, image, length);
-    uint32_t number = boot(room);
-    for (; number == BOOTSWAP_CUT && told.writes; number = boot(room)) boots++;
+    uint32_t number = boot(capacity);
+    for (; number == BOOTSWAP_CUT && result.writes; number = boot(capacity)) boots++;
     must(number == BOOTSWAP_BOOTED, "no boot swaps the image in");
-    printf("%zu boots\n%.*s", boots, (int)told.report_length, report);
-    must(!made(bootswap_journal_confirm(&setup, flash, SIZE, &kept, journal, 20, 0, &told)), "confirm");
+    printf("%zu boots\n%.*s", boots, (int)result.report_length, report);
+    must(!made(bootswap_journal_confirm(&setup, flash, SIZE, &saved, journal, BOOTSWAP_JOURNAL_CONFIRM, 0, &result)),
+         "confirm");
     return 0;
 }

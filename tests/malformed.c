@@ -18,55 +18,61 @@ uint32_t malformed_set(uint32_t number, uint64_t used) {
 /* Returns how many calls were made since then. */
 uint32_t malformed_attempts(void) { return attempts; }
 
-static uint32_t answer(struct bootswap_told *told) {
-    memset(told, 0, sizeof *told);
-    told->journal_length = length;
-    told->writes = 1;
+static uint32_t answer(struct bootswap_result *result) {
+    memset(result, 0, sizeof *result);
+    result->journal_length = length;
+    result->writes = 1;
     attempts++;
     return returned;
 }
 
 #define BEGIN const struct bootswap_setup *setup, const uint8_t *flash, size_t flash_length
-#define DEVICE BEGIN, struct bootswap_kept *kept, uint8_t *journal, size_t journal_room
-#define TOLD struct bootswap_told *told
-#define UNUSED (void)setup, (void)flash, (void)flash_length, (void)journal, (void)journal_room
+#define DEVICE BEGIN, struct bootswap_saved_state *saved, uint8_t *journal, size_t journal_capacity
+#define RESULT struct bootswap_result *result
+#define UNUSED (void)setup, (void)flash, (void)flash_length, (void)journal, (void)journal_capacity
 
-uint32_t bootswap_journal_provision(BEGIN, uint8_t *journal, size_t journal_room, TOLD) {
+uint32_t bootswap_journal_provision(BEGIN, uint8_t *journal, size_t journal_capacity, RESULT) {
     UNUSED;
-    return answer(told);
+    return answer(result);
 }
 
-uint32_t bootswap_journal_boot(DEVICE, char *table, size_t table_room, char *report, size_t report_room, TOLD) {
-    UNUSED, (void)kept, (void)table, (void)table_room, (void)report, (void)report_room;
-    return answer(told);
+uint32_t bootswap_journal_boot(DEVICE, RESULT) {
+    UNUSED, (void)saved;
+    return answer(result);
 }
 
-uint32_t bootswap_journal_accept(DEVICE, const struct bootswap_manifest *manifest, TOLD) {
-    UNUSED, (void)kept, (void)manifest;
-    return answer(told);
+uint32_t bootswap_journal_boot_with_texts(DEVICE, char *table, size_t table_capacity, char *report,
+                                          size_t report_capacity, RESULT) {
+    UNUSED, (void)saved, (void)table, (void)table_capacity, (void)report, (void)report_capacity;
+    return answer(result);
 }
 
-uint32_t bootswap_journal_piece(DEVICE, uint8_t image, const uint8_t *bytes, size_t bytes_length, TOLD) {
-    UNUSED, (void)kept, (void)image, (void)bytes, (void)bytes_length;
-    return answer(told);
+uint32_t bootswap_journal_accept(DEVICE, const struct bootswap_manifest *manifest, RESULT) {
+    UNUSED, (void)saved, (void)manifest;
+    return answer(result);
 }
 
-uint32_t bootswap_journal_finish(DEVICE, uint8_t image, TOLD) {
-    UNUSED, (void)kept, (void)image;
-    return answer(told);
+uint32_t bootswap_journal_piece(DEVICE, uint8_t image, const uint8_t *bytes, size_t bytes_length, RESULT) {
+    UNUSED, (void)saved, (void)image, (void)bytes, (void)bytes_length;
+    return answer(result);
 }
 
-uint32_t bootswap_journal_withdraw(DEVICE, uint8_t image, TOLD) {
-    UNUSED, (void)kept, (void)image;
-    return answer(told);
+uint32_t bootswap_journal_finish(DEVICE, uint8_t image, RESULT) {
+    UNUSED, (void)saved, (void)image;
+    return answer(result);
 }
 
-uint32_t bootswap_journal_confirm(DEVICE, uint8_t image, TOLD) {
-    UNUSED, (void)kept, (void)image;
-    return answer(told);
+uint32_t bootswap_journal_withdraw(DEVICE, uint8_t image, RESULT) {
+    UNUSED, (void)saved, (void)image;
+    return answer(result);
 }
 
-void bootswap_reset(struct bootswap_kept *kept) { memset(kept, 0, sizeof *kept); }
+uint32_t bootswap_journal_confirm(DEVICE, uint8_t image, RESULT) {
+    UNUSED, (void)saved, (void)image;
+    return answer(result);
+}
+
+void bootswap_reset(struct bootswap_saved_state *saved) { memset(saved, 0, sizeof *saved); }
 
 /* No SHA-256, but other bytes for other journals of the tests. */
 void bootswap_digest(const uint8_t *bytes, size_t bytes_length, struct bootswap_sha256 *digest) {

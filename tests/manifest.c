@@ -1,7 +1,7 @@
-/* Reads the JSON text of a manifest in ROOM bytes of memory, for a device with two images. An empty text, or no memory, is
-   passed as null.
+/* Reads the JSON text of a manifest in CAPACITY bytes of memory, for a device with two images. An empty text, or no
+   memory, is passed as null.
 
-       manifest VENDOR CLASS FILE ROOM
+       manifest VENDOR CLASS FILE CAPACITY
 
    The two UUIDs are 32 hexadecimal digits each. Prints the number that the call returns, its name, and the manifest. The
    status is 1 if the call wrote outside the memory, or changed a manifest that it refused. */
@@ -50,20 +50,20 @@ static void print_manifest(void) {
 }
 
 int main(int count, char **words) {
-    must(count == 5, "usage: manifest VENDOR CLASS FILE ROOM");
+    must(count == 5, "usage: manifest VENDOR CLASS FILE CAPACITY");
     read_uuid(words[1], setup.vendor);
     read_uuid(words[2], setup.class_id);
     FILE *file = fopen(words[3], "rb");
     must(file != NULL, words[3]);
-    size_t length = fread(text, 1, sizeof text, file), room = strtoul(words[4], NULL, 10);
-    must(room < LARGEST - 1, "ROOM is too large");
+    size_t length = fread(text, 1, sizeof text, file), capacity = strtoul(words[4], NULL, 10);
+    must(capacity < LARGEST - 1, "CAPACITY is too large");
     memset(memory, UNUSED, sizeof memory);
     memset(&before, UNUSED, sizeof before);
     manifest = before;
 
     uint32_t number =
-        bootswap_read_manifest(&setup, length ? text : NULL, length, room ? memory + 1 : NULL, room, &manifest);
-    must(memory[0] == UNUSED && memory[room + 1] == UNUSED, "it wrote outside its memory");
+        bootswap_read_manifest(&setup, length ? text : NULL, length, capacity ? memory + 1 : NULL, capacity, &manifest);
+    must(memory[0] == UNUSED && memory[capacity + 1] == UNUSED, "it wrote outside its memory");
     if (number) {
         must(!memcmp(&manifest, &before, sizeof manifest), "a refused manifest was changed");
         printf("refused %u %s\n", number, bootswap_manifest_fault_name(number));

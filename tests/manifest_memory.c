@@ -13,7 +13,7 @@
 
 #include "manifest.h"
 
-enum { ROOM = 4096, SIZE = 100, BLOCKS = 20, NO_TEXT = 1 };
+enum { CAPACITY = 4096, SIZE = 100, BLOCKS = 20, NO_TEXT = 1 };
 
 struct block {
     bool is_some;
@@ -23,13 +23,13 @@ struct block {
 struct block rattle_alloc(size_t size, size_t alignment);
 
 /* The memory of each thread. The text of a call is the number of its thread. */
-static uint8_t memories[2][ROOM];
+static uint8_t memories[2][CAPACITY];
 static pthread_barrier_t both;
 
 /* Whether a block is in the memory of a thread, and all of its bytes are still free. */
 static bool is_own(struct block block, size_t thread) {
     uint8_t *bytes = block.bytes, free[SIZE] = {0};
-    return block.is_some && bytes >= memories[thread] && bytes + SIZE <= memories[thread] + ROOM &&
+    return block.is_some && bytes >= memories[thread] && bytes + SIZE <= memories[thread] + CAPACITY &&
            memcmp(bytes, free, SIZE) == 0;
 }
 
@@ -60,7 +60,7 @@ static uint32_t bad[2];
 static void *call(void *number) {
     char thread = *(const char *)number;
     struct bootswap_manifest manifest;
-    bad[(size_t)thread] = bootswap_read_manifest(&setup, &thread, 1, memories[(size_t)thread], ROOM, &manifest);
+    bad[(size_t)thread] = bootswap_read_manifest(&setup, &thread, 1, memories[(size_t)thread], CAPACITY, &manifest);
     return NULL;
 }
 

@@ -7,7 +7,7 @@
 #include <stdio.h>
 #include <string.h>
 
-#include "bootswap.h"
+#include "bootswap_simulate.h"
 
 enum { SECTOR = 512, SIZE = 10 * SECTOR, MOST = 64 };
 
@@ -15,9 +15,9 @@ enum { SECTOR = 512, SIZE = 10 * SECTOR, MOST = 64 };
 struct run {
     size_t count;
     uint32_t numbers[MOST];
-    struct bootswap_told tolds[MOST];
+    struct bootswap_result results[MOST];
     uint8_t flash[SIZE];
-    struct bootswap_kept kept;
+    struct bootswap_saved_state saved;
     struct bootswap_sha256 digest;
     struct bootswap_description description;
     struct bootswap_state state;
@@ -29,20 +29,20 @@ static const struct bootswap_setup setup = {.sector_size = SECTOR, .images = 1, 
 static const char table_text[] = "image 0 1.0.0+0 0 0\n";
 static const struct bootswap_image_parts parts = {.header_size = 32, .version = {.major = 1}};
 static uint8_t running[2 * SECTOR], new[2 * SECTOR];
-static struct bootswap_told told;
+static struct bootswap_result result;
 
-static size_t load(const char *name, uint8_t *bytes, size_t room) {
+static size_t load(const char *name, uint8_t *bytes, size_t capacity) {
     FILE *file = fopen(name, "rb");
-    size_t length = file ? fread(bytes, 1, room, file) : 0;
+    size_t length = file ? fread(bytes, 1, capacity, file) : 0;
     if (file) fclose(file);
     return length;
 }
 
 /* Adds the number and the result of a call to a run. */
 static void add(struct run *run, uint32_t number) {
-    run->tolds[run->count] = told;
+    run->results[run->count] = result;
     run->numbers[run->count++] = number;
-    memset(&told, 0, sizeof told);
+    memset(&result, 0, sizeof result);
 }
 
 /* A manifest of the new image. */
@@ -59,56 +59,58 @@ static struct bootswap_manifest manifest_of(uint32_t sequence, size_t length) {
 /* The calls of a device: no cuts, no text of a boot, a piece of no bytes. */
 static void call_device(struct run *run, void *none, size_t length) {
     uint8_t *flash = run->flash;
-    struct bootswap_kept *kept = &run->kept;
+    struct bootswap_saved_state *saved = &run->saved;
     struct bootswap_manifest manifest;
-    add(run, bootswap_provision(&setup, none, 0, none, 0, &told));
-    add(run, bootswap_provision(&setup, flash, SIZE, none, 0, &told));
-    add(run, bootswap_boot(&setup, none, 0, kept, none, 0, none, 0, none, 0, &told));
-    add(run, bootswap_boot(&setup, flash, SIZE, kept, none, 0, none, 0, none, 0, &told));
+    add(run, bootswap_simulate_provision(&setup, none, 0, none, 0, &result));
+    add(run, bootswap_simulate_provision(&setup, flash, SIZE, none, 0, &result));
+    add(run, bootswap_simulate_boot(&setup, none, 0, saved, none, 0, none, 0, none, 0, &result));
+    add(run, bootswap_simulate_boot(&setup, flash, SIZE, saved, none, 0, none, 0, none, 0, &result));
     for (uint32_t sequence = 1; sequence <= 2; sequence++) {
         manifest = manifest_of(sequence, length);
-        add(run, bootswap_accept(&setup, none, 0, kept, none, 0, &manifest, &told));
-        add(run, bootswap_accept(&setup, flash, SIZE, kept, none, 0, &manifest, &told));
-        add(run, bootswap_piece(&setup, none, 0, kept, none, 0, 0, none, 0, &told));
-        add(run, bootswap_piece(&setup, flash, SIZE, kept, none, 0, 0, none, 0, &told));
-        add(run, bootswap_piece(&setup, flash, SIZE, kept, none, 0, 0, new, length, &told));
-        add(run, bootswap_piece(&setup, flash, SIZE, kept, none, 0, 0, none, 0, &told));
-        add(run, bootswap_finish(&setup, none, 0, kept, none, 0, 0, &told));
-        add(run, bootswap_finish(&setup, flash, SIZE, kept, none, 0, 0, &told));
-        add(run, bootswap_withdraw(&setup, none, 0, kept, none, 0, 0, &told));
-        if (sequence == 1) add(run, bootswap_withdraw(&setup, flash, SIZE, kept, none, 0, 0, &told));
+        add(run, bootswap_simulate_accept(&setup, none, 0, saved, none, 0, &manifest, &result));
+        add(run, bootswap_simulate_accept(&setup, flash, SIZE, saved, none, 0, &manifest, &result));
+        add(run, bootswap_simulate_piece(&setup, none, 0, saved, none, 0, 0, none, 0, &result));
+        add(run, bootswap_simulate_piece(&setup, flash, SIZE, saved, none, 0, 0, none, 0, &result));
+        add(run, bootswap_simulate_piece(&setup, flash, SIZE, saved, none, 0, 0, new, length, &result));
+        add(run, bootswap_simulate_piece(&setup, flash, SIZE, saved, none, 0, 0, none, 0, &result));
+        add(run, bootswap_simulate_finish(&setup, none, 0, saved, none, 0, 0, &result));
+        add(run, bootswap_simulate_finish(&setup, flash, SIZE, saved, none, 0, 0, &result));
+        add(run, bootswap_simulate_withdraw(&setup, none, 0, saved, none, 0, 0, &result));
+        if (sequence == 1) add(run, bootswap_simulate_withdraw(&setup, flash, SIZE, saved, none, 0, 0, &result));
     }
-    add(run, bootswap_boot(&setup, flash, SIZE, kept, none, 0, none, 0, none, 0, &told));
-    add(run, bootswap_confirm(&setup, none, 0, kept, none, 0, 0, &told));
-    add(run, bootswap_confirm(&setup, flash, SIZE, kept, none, 0, 0, &told));
-    add(run, bootswap_boot(&setup, flash, SIZE, kept, none, 0, none, 0, none, 0, &told));
+    add(run, bootswap_simulate_boot(&setup, flash, SIZE, saved, none, 0, none, 0, none, 0, &result));
+    add(run, bootswap_simulate_confirm(&setup, none, 0, saved, none, 0, 0, &result));
+    add(run, bootswap_simulate_confirm(&setup, flash, SIZE, saved, none, 0, 0, &result));
+    add(run, bootswap_simulate_boot(&setup, flash, SIZE, saved, none, 0, none, 0, none, 0, &result));
 }
 
 /* The same calls with a journal of no bytes, on the device that the run left. */
 static void call_journal(struct run *run, void *none, size_t length) {
     static uint8_t journal[256];
     uint8_t *flash = run->flash;
-    struct bootswap_kept *kept = &run->kept;
+    struct bootswap_saved_state *saved = &run->saved;
     struct bootswap_manifest manifest = manifest_of(3, length);
-    add(run, bootswap_journal_accept(&setup, none, 0, kept, none, 0, &manifest, &told));
-    add(run, bootswap_journal_accept(&setup, flash, SIZE, kept, journal, sizeof journal, &manifest, &told));
-    add(run, bootswap_journal_piece(&setup, none, 0, kept, none, 0, 0, none, 0, &told));
-    add(run, bootswap_journal_piece(&setup, flash, SIZE, kept, none, 0, 0, none, 0, &told));
-    add(run, bootswap_journal_finish(&setup, none, 0, kept, none, 0, 0, &told));
-    add(run, bootswap_journal_finish(&setup, flash, SIZE, kept, none, 0, 0, &told));
-    add(run, bootswap_journal_withdraw(&setup, none, 0, kept, none, 0, 0, &told));
-    add(run, bootswap_journal_withdraw(&setup, flash, SIZE, kept, none, 0, 0, &told));
-    add(run, bootswap_journal_confirm(&setup, none, 0, kept, none, 0, 0, &told));
-    add(run, bootswap_journal_confirm(&setup, flash, SIZE, kept, none, 0, 0, &told));
-    add(run, bootswap_journal_boot(&setup, none, 0, kept, none, 0, none, 0, none, 0, &told));
-    add(run, bootswap_journal_boot(&setup, flash, SIZE, kept, none, 0, none, 0, none, 0, &told));
-    add(run, bootswap_journal_provision(&setup, none, 0, none, 0, &told));
-    add(run, bootswap_journal_provision(&setup, flash, SIZE, none, 0, &told));
+    add(run, bootswap_journal_accept(&setup, none, 0, saved, none, 0, &manifest, &result));
+    add(run, bootswap_journal_accept(&setup, flash, SIZE, saved, journal, sizeof journal, &manifest, &result));
+    add(run, bootswap_journal_piece(&setup, none, 0, saved, none, 0, 0, none, 0, &result));
+    add(run, bootswap_journal_piece(&setup, flash, SIZE, saved, none, 0, 0, none, 0, &result));
+    add(run, bootswap_journal_finish(&setup, none, 0, saved, none, 0, 0, &result));
+    add(run, bootswap_journal_finish(&setup, flash, SIZE, saved, none, 0, 0, &result));
+    add(run, bootswap_journal_withdraw(&setup, none, 0, saved, none, 0, 0, &result));
+    add(run, bootswap_journal_withdraw(&setup, flash, SIZE, saved, none, 0, 0, &result));
+    add(run, bootswap_journal_confirm(&setup, none, 0, saved, none, 0, 0, &result));
+    add(run, bootswap_journal_confirm(&setup, flash, SIZE, saved, none, 0, 0, &result));
+    add(run, bootswap_journal_boot(&setup, none, 0, saved, none, 0, &result));
+    add(run, bootswap_journal_boot(&setup, flash, SIZE, saved, none, 0, &result));
+    add(run, bootswap_journal_boot_with_texts(&setup, none, 0, saved, none, 0, none, 0, none, 0, &result));
+    add(run, bootswap_journal_boot_with_texts(&setup, flash, SIZE, saved, none, 0, none, 0, none, 0, &result));
+    add(run, bootswap_journal_provision(&setup, none, 0, none, 0, &result));
+    add(run, bootswap_journal_provision(&setup, flash, SIZE, none, 0, &result));
 }
 
 /* The calls of no device. */
 static void call_others(struct run *run, void *none) {
-    char report[BOOTSWAP_REPORT_ROOM];
+    char report[BOOTSWAP_MAX_REPORT_LENGTH];
     add(run, bootswap_slot(&setup, none, 0, 0, 0, &run->description));
     add(run, bootswap_state(&setup, none, 0, &run->state));
     add(run, bootswap_describe(none, 0, &run->description));

@@ -104,7 +104,7 @@ class InstructionsTest(ProgramInC):
     def counted(self, program, images):
         """Returns what is wrong with a run, and the instructions of its boots and digests."""
         dumps = f"{self.folder}/dump-{images}"
-        words = [f"--dump-before={it}" for it in ("bootswap_boot", "booted", "bootswap_digest", "digested")]
+        words = [f"--dump-before={it}" for it in ("bootswap_simulate_boot", "booted", "bootswap_digest", "digested")]
         valgrind = ["valgrind", "-q", "--tool=callgrind", f"--callgrind-out-file={dumps}", *words]
         faults, _ = ran([*valgrind, program, f"{self.folder}/running", f"{self.folder}/new", str(images)], timeout=120)
         counts = {"booted": [], "digested": []}

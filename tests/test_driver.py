@@ -14,9 +14,10 @@ from ctypes import POINTER, byref, c_char, c_size_t, c_uint8, c_uint32, c_uint64
 
 from support.builders import image, version
 from support.compiled import needs_compiler
-from support.driven import CUT, DRIVER_FAILED, INCLUDE, SMALL_JOURNAL, STRICT
+from support.driven import CUT, DRIVER_FAILED, INCLUDE, JOURNAL_TOO_SMALL, STRICT
 from support.driven import Driven, Flash, Library, replies_of, reply_of
 from support.files import EXAMPLES, ROOT, names_in, read
+from support.headers import journal_bounds
 from support.libraries import ran
 from support.processors import HERE
 from support.program import ProgramTest, CaseTest, short
@@ -28,10 +29,13 @@ NEWER = image([], own=version(2))
 ONE, NEEDING, PARTNER = (read(f"{EXAMPLES}/images/{name}.img") for name in ("one", "needing", "partner"))
 OLD, NEW = 2 * ["1.0.0+0"], 2 * ["2.0.0+0"]
 
+# The bounds of the header.
+JOURNAL = journal_bounds()
+
 # What a call of the library asks of a journal at most: two components of images of two sectors, a piece of 96 bytes, and
 # provisioning of two images.
-BOUNDS = {"accept": 120 + 2 * (44 + 2 * 12), "piece": 31 + 96, "finish": 68, "confirm": 20, "provision": 144 + 2 * 24}
-BOUNDS["withdraw"] = 44
+BOUNDS = {"accept": JOURNAL["ACCEPT"](2, 2 + 2), "piece": JOURNAL["PIECE"](96), "provision": JOURNAL["PROVISION"](2)}
+BOUNDS |= {"finish": JOURNAL["FINISH"](), "withdraw": JOURNAL["WITHDRAW"](), "confirm": JOURNAL["CONFIRM"]()}
 
 # A journal that is long enough for each call of the tests.
 LONG = 16384
@@ -40,14 +44,16 @@ LONG = 16384
 # docs/FORMATS.md have them. The last boot records that the trial is over.
 CALLS = 1 + sum((0, 2, 2, 1, 2, 1, 38, 1, 1, 2))
 
-# The shortest journal of a boot: for short sectors the trailers of eight images after a swap back, else one step of a swap.
-ROOMS = {512: 8 * (12 + 12 + 20 + 20 + 28) + 120, 1024: 12 + 1024 + 4 * 12 + 20, 4096: 12 + 4096 + 16 * 12 + 20}
+# The shortest journal with which a boot of the library gets further: for short sectors the trailers of eight images after a
+# swap back and a record, else one step of a swap.
+STEPS = {512: 12 + 512 + 2 * 12 + 20, 1024: 12 + 1024 + 4 * 12 + 20, 4096: 12 + 4096 + 16 * 12 + 20}
+SHORTEST = {**STEPS, 512: 8 * (12 + 12 + 20 + 20 + 28) + 120}
 
 
 class DriverTest(CaseTest):
     """A test of driver.c over the library, on a processor, with a driver in Python."""
 
-    processor, library_class = HERE, Library
+    processor, library_class, is_mapped = HERE, Library, False
 
     @classmethod
     def setUpClass(cls):
@@ -61,14 +67,15 @@ class DriverTest(CaseTest):
         """The file of what driver.c calls."""
         return cls.processor.archive()
 
-    def new_device(self, sector=512, sectors=(2, 2), room=None, running=ONE):
+    def new_device(self, sector=512, sectors=(2, 2), capacity=None, running=ONE):
         """A provisioned device, whose slots run the same image."""
         setup = self.library.setup(sector, sectors)
         flash = Flash(b"\xff" * sector * (2 * sum(it + 1 for it in sectors) + 4), sector)
         for number in range(len(sectors)):
             at = sector * sum(it + 1 for it in sectors[:number])
             flash.bytes[at : at + len(running)] = running
-        device = Driven(self.library, setup, flash, ROOMS[sector] if room is None else room)
+        shortest = JOURNAL["BOOT"](len(sectors), sector)
+        device = Driven(self.library, setup, flash, shortest if capacity is None else capacity, self.is_mapped)
         self.assertEqual((device.open(), device.provision()), (0, 0))
         return device
 
@@ -80,11 +87,11 @@ class DriverTest(CaseTest):
             numbers += [device.piece(number, file), device.finish(number)]
         self.assertEqual(numbers, [1, *(1 + 2 * len(files)) * [0]])
 
-    def on_trial_with_request(self, room=None):
+    def on_trial_with_request(self, capacity=None):
         """A device with image 0 on trial, and the slot and the trailer of a request for image 1 from another device."""
-        device, other = self.new_device(room=room), self.new_device()
+        device, other = self.new_device(capacity=capacity), self.new_device()
         self.request(device, [NEWER])
-        self.assertEqual((device.boot(), device.device.told.set), (1, 1))
+        self.assertEqual((device.boot(), device.device.result.set), (1, 1))
         numbers = other.boot(), other.accept(self.library.manifest(1, [(1, NEWER, False)]))
         self.assertEqual((*numbers, other.piece(1, NEWER), other.finish(1)), (1, 0, 0, 0))
         device.flash.bytes[9 * 512 : 12 * 512] = other.flash.bytes[9 * 512 : 12 * 512]
@@ -129,7 +136,7 @@ def play(device, events):
         replies = replies_of(device, number)
         if number == DRIVER_FAILED:
             device.flash.restart()
-            device = Driven(device.library, device.setup, device.flash, device.room)
+            device = Driven(device.library, device.setup, device.flash, device.capacity, device.is_mapped)
             if device.open() != 0:
                 device.flash.wrong.append("the device isn't opened again")
         yield device, replies
@@ -199,7 +206,7 @@ class ScriptsTest(DriverTest, ProgramTest):
 
     def replayed(self, device, state, cuts, events):
         """Plays events from a state on, with these cuts: the device and the replies after each."""
-        other = Driven(self.library, device.setup, Flash(device.flash.bytes, device.flash.sector), device.room)
+        other = Driven(self.library, device.setup, Flash(device.flash.bytes, device.flash.sector), device.capacity)
         other.put(state)
         other.flash.cuts = cuts
         return list(play(other, events))
@@ -235,14 +242,16 @@ class FailuresTest(DriverTest):
         count, faults, n = 0, [], 0
         while n == count:
             n += 1
-            device = self.new_device(room=LONG)
+            device = self.new_device(capacity=LONG)
             device.flash.fails_at = device.flash.calls + n
             events = self.events(device)
             failed = next((at for at, event in enumerate(events) if event() == DRIVER_FAILED), None)
             if failed is not None:
                 count += 1
                 faults += [f"call {n} of the driver: {it}" for it in self.after_failure(device)]
-        self.case(f"each of {count} calls of the driver fails once", faults or [f"not {CALLS}"] * (count != CALLS))
+        # The flash isn't read by the driver if it is mapped.
+        wanted = CALLS - self.is_mapped
+        self.case(f"each of {count} calls of the driver fails once", faults or [f"not {wanted}"] * (count != wanted))
 
     def events(self, device):
         """The calls of an upgrade to two images that are then confirmed."""
@@ -305,6 +314,68 @@ class FailuresTest(DriverTest):
             device.put(after)
             self.case(f"{len(made)} writes of an {name}", faults[:5] + device.flash.wrong)
 
+    def other_over(self, device):
+        """Another device over what the flash of a device holds."""
+        flash = Flash(device.flash.bytes, device.flash.sector)
+        return Driven(self.library, device.setup, flash, device.capacity, self.is_mapped)
+
+    def test_resume(self):
+        """An application that its loader started takes uploads, and confirms a trial. It makes no boot of its own."""
+        loader, files = self.new_device(), (NEEDING, PARTNER)
+        got, application = [loader.boot()], self.other_over(loader)
+        got += [application.resume(), application.accept(self.library.manifest(1, [(0, NEEDING, 0), (1, PARTNER, 0)]))]
+        for number, file in enumerate(files):
+            got += [application.piece(number, file), application.finish(number)]
+        self.case("an upload", [got] * (got != [1, *6 * [0]]) + application.flash.wrong)
+        loader = self.other_over(application)
+        got, application = [loader.open(), loader.boot(), loader.device.result.set], self.other_over(loader)
+        got += [application.resume(), application.is_booted, application.flash.bytes == loader.flash.bytes]
+        got += [application.confirm(0), application.confirm(1)]
+        loader = self.other_over(application)
+        got += [loader.open(), loader.boot(), list(loader.versions())]
+        self.case("a confirmation", [got] * (got != [0, 1, 3, 0, True, True, 0, 0, 0, 1, NEW]) + application.flash.wrong)
+
+    def test_resume_of_an_interrupted_boot(self):
+        """If a boot was interrupted, or the driver can't read, nothing is taken."""
+        loader = self.new_device()
+        self.request(loader, (NEEDING, PARTNER))
+        loader.flash.cuts = {loader.flash.writes + 20: "keep"}
+        got, application = [loader.boot()], self.other_over(loader)
+        manifest = self.library.manifest(2, [(0, NEEDING, 0)])
+        got += [application.resume(), application.accept(manifest), application.device.result.fault]
+        self.case("a boot was interrupted", [got] * (got != [DRIVER_FAILED, 0, 4, 1]) + application.flash.wrong)
+        application.flash.fails_at = application.flash.calls + 1
+        got = [application.resume(), application.is_booted]
+        # The driver doesn't read a flash that is mapped.
+        wanted = [0, True] if self.is_mapped else [DRIVER_FAILED, False]
+        self.case("the driver fails", [got] * (got != wanted) + application.flash.wrong)
+
+    def test_not_opened(self):
+        """A device that isn't opened, or has neither a flash nor memory for a copy, is refused, and nothing is read."""
+        device = self.new_device()
+        other = self.other_over(device)
+        if self.is_mapped:
+            other.device.flash = POINTER(c_uint8)()
+        got = [other.boot(), other.provision(), other.finish(0), other.accept(self.library.manifest(1, [(0, NEEDING, 0)]))]
+        other.device.flash, other.device.copy = 2 * [POINTER(c_uint8)()]
+        got += [other.open(), other.resume(), other.boot(), other.is_booted]
+        self.case("calls", [got] * (got != [*7 * [DRIVER_FAILED], False]) + other.flash.wrong)
+
+    def test_boot_without_texts(self):
+        """It makes the same writes and results as a boot with texts, but for the lengths of the texts."""
+        device, other = self.new_device(), self.new_device()
+        for it in (device, other):
+            self.request(it, (NEEDING, PARTNER))
+        for name in ("upgrade", "revert"):
+            got = []
+            for boot in (device.boot, other.boot_without_texts):
+                number, it = boot(), boot.__self__
+                lengths = it.device.result.table_length > 0, it.device.result.report_length > 0
+                it.device.result.table_length = it.device.result.report_length = 0
+                got.append((number, bytes(it.device.result), it.device.reverted, bytes(it.device.saved), it.state()[:2], lengths))
+            is_same = got[0][:-1] == got[1][:-1] and [it[-1] for it in got] == [(True, True), (False, False)]
+            self.case(f"an {name}", [it[0] for it in got] * (not is_same) + other.flash.wrong)
+
     def test_refused_after_revert(self):
         """A boot that reverts, and then finds an image outside the set that is damaged, is refused."""
         device = self.new_device()
@@ -323,11 +394,11 @@ class FailuresTest(DriverTest):
         """If the driver fails after the revert, the call returns that, and says what was reverted."""
         device = self.on_trial_with_request()
         state = device.state()
-        got, first = (device.boot(), device.device.reverted, device.device.told.set), device.flash.writes
+        got, first = (device.boot(), device.device.reverted, device.device.result.set), device.flash.writes
         self.case("a revert, and then an upgrade", [got] * (got != (1, 1, 2)))
         device.put(state)
         device.flash.cuts = {first: "keep"}
-        got = device.boot(), device.device.reverted, bytes(device.device.told).strip(b"\0"), device.is_booted
+        got = device.boot(), device.device.reverted, bytes(device.device.result).strip(b"\0"), device.is_booted
         self.case("the last write fails", [got] * (got != (DRIVER_FAILED, 1, b"", False)))
         device.flash.restart()
         got = device.open(), device.device.reverted, device.boot(), device.device.reverted, list(device.versions())
@@ -340,7 +411,7 @@ class FailuresTest(DriverTest):
         self.request(device, (NEEDING, PARTNER))
         whole, before = bytes(device.flash.bytes), device.state()
         device.flash.bytes[3 * 512 : 5 * 512] = bytes(2 * 512)
-        got = [device.open(), device.boot(), device.device.told.detail]
+        got = [device.open(), device.boot(), device.device.result.detail]
         device.flash.bytes[3 * 512 : 5 * 512] = whole[3 * 512 : 5 * 512]
         got += [device.open(), device.boot(), *device.versions()]
         self.case("at rest", [got] * (got != [0, 4, 1, 0, 1, *NEW]))
@@ -374,13 +445,19 @@ class FailuresTest(DriverTest):
         self.case(f"provisioning fails in each of {count} calls", faults + device.flash.wrong)
 
 
+class MappedFailuresTest(FailuresTest):
+    """The same for a flash that is mapped into memory, so that there is no copy of it."""
+
+    is_mapped = True
+
+
 @needs_compiler
 class JournalsTest(DriverTest):
     """Journals of each length."""
 
     def prepared(self):
         """A device, its calls in order, and their bounds."""
-        device = self.new_device(room=LONG)
+        device = self.new_device(capacity=LONG)
         manifest = self.library.manifest(1, [(0, NEEDING, 0), (1, PARTNER, 0)])
         calls = [("boot", ()), ("accept", (manifest,)), ("piece", (0, NEEDING)), ("finish", (0,))]
         calls += [("piece", (1, PARTNER)), ("finish", (1,)), ("boot", ()), ("confirm", (0,)), ("boot", ()), ("boot", ())]
@@ -393,64 +470,96 @@ class JournalsTest(DriverTest):
         device, calls = self.prepared()
         for at, (name, words) in enumerate(calls):
             state = device.state()
-            number, used = self.recorded(device, name, words, device.room)
+            number, used = self.recorded(device, name, words, device.capacity)
             bound, faults = BOUNDS.get(name, used), []
             faults += [f"{used} bytes are used, and {bound} is the bound"] * (used > bound)
-            for room in range(bound + 1):
+            for capacity in range(bound + 1):
                 device.put(state)
-                got = self.recorded(device, name, words, room)
-                wanted = (CUT if room < used else number, None if room < used else used)
-                faults += [f"{room} of {used} bytes: {got}"] * (got[0] != wanted[0] or got[1] > room)
-                faults += [f"{room} of {used} bytes: {got}"] * (room >= used and got[1] != used)
+                got = self.recorded(device, name, words, capacity)
+                wanted = (CUT if capacity < used else number, None if capacity < used else used)
+                faults += [f"{capacity} of {used} bytes: {got}"] * (got[0] != wanted[0] or got[1] > capacity)
+                faults += [f"{capacity} of {used} bytes: {got}"] * (capacity >= used and got[1] != used)
             device.put(state)
             getattr(device, name)(*words)
             self.case(f"call {at + 1}, {name}, with {bound + 1} journals", faults[:5] + device.flash.wrong)
 
-    def recorded(self, device, name, words, room):
-        """Makes a call of the library with a journal of this length, and then the writes of the journal on the mirror. Returns
-        the call's number and the bytes used."""
+    def test_bounds(self):
+        """With a journal of its bound no call is cut. With a byte less one is cut that needs all of it: a piece, `finish`,
+        `withdraw` or `confirm`. No call here needs all that `provision` and `accept` may."""
+        device, needed = self.new_device(capacity=LONG), {}
+        for name, words, bound in self.calls_with_bounds(device):
+            state = device.state()
+            number, used = self.recorded(device, name, words, bound)
+            device.put(state)
+            less, _ = self.recorded(device, name, words, bound - 1)
+            device.put(state)
+            needed.setdefault(name, set()).add(bound - used)
+            is_right = number == 0 and less == (CUT if used == bound else 0)
+            self.case(f"{name} with {bound} bytes", [(number, less, used)] * (not is_right) + device.flash.wrong)
+        reached = {name for name, left in needed.items() if 0 in left}
+        self.case("bounds that are reached", [needed] * (reached != {"piece", "finish", "withdraw", "confirm"}))
+
+    def calls_with_bounds(self, device):
+        """Yields calls of an upgrade, each with its bound, and makes it."""
+        file = image([], body=bytes(11), own=version(2))
+        manifest = self.library.manifest(1, [(0, file, False), (1, file, True)])
+        bounds = {**BOUNDS, "piece": None}
+        calls = [("provision", ()), ("boot", ()), ("accept", (manifest,))]
+        for number in (0, 1):
+            pieces = file[:7], file[7:24], file[24:33], file[33:]
+            calls += [*(("piece", (number, piece)) for piece in pieces), ("finish", (number,))]
+        calls += [("withdraw", (1,)), ("accept", (manifest,)), ("piece", (0, file)), ("finish", (0,)), ("boot", ())]
+        for name, words in [*calls, ("confirm", (0,))]:
+            if name in bounds:
+                yield name, words, bounds[name] or JOURNAL["PIECE"](len(words[1]))
+            getattr(device, name)(*words)
+
+    def recorded(self, device, name, words, capacity):
+        """Makes a call of the library with a journal of this length, and then the writes of the journal on what the library
+        reads. Returns the call's number and the bytes used."""
         library, names = device.library.calls, device.library.names
-        texts = [POINTER(c_char)(), c_size_t(0)]
-        if name == "boot":
-            texts = [it for one in (device.table, device.report) for it in (one, c_size_t(len(one)))]
+        texts = [it for one in (device.table, device.report) for it in (one, c_size_t(len(one)))]
         given = {
-            "boot": lambda: texts,
+            "boot": lambda: [],
+            "boot_with_texts": lambda: texts,
+            "provision": lambda: [],
             "accept": lambda manifest: [byref(manifest)],
             "piece": lambda number, file: [c_uint8(number), device.library.copy(file), c_size_t(len(file))],
         }.get(name, lambda number: [c_uint8(number)])(*words)
-        kept, told = device.device.kept, device.library.new(names._CallResult)
-        ctypes.memset(device.journal, 0xC5, device.room)
-        journal = [device.journal, c_size_t(room)]
-        mirror, before = [device.mirror, c_size_t(len(device.mirror))], bytes(device.mirror)
-        call = getattr(library, f"bootswap_journal_{name}")
-        number = call(byref(device.setup), *mirror, byref(kept), *journal, *given, byref(told))
-        if bytes(device.mirror) != before:
+        saved, result = device.device.saved, device.library.new(names._CallResult)
+        ctypes.memset(device.journal, 0xC5, device.capacity)
+        journal = [device.journal, c_size_t(capacity)]
+        flash, before = [device.memory, c_size_t(len(device.memory))], bytes(device.memory)
+        first = [byref(device.setup), *flash] + [byref(saved)] * (name != "provision")
+        number = getattr(library, f"bootswap_journal_{name}")(*first, *journal, *given, byref(result))
+        if bytes(device.memory) != before:
             device.flash.wrong.append(f"{name} wrote to the flash, which it may only read")
-        used, rest = bytes(device.journal)[: told.journal_length], bytes(device.journal)[told.journal_length : device.room]
+        whole = bytes(device.journal)[: device.capacity]
+        used, rest = whole[: result.journal_length], whole[result.journal_length :]
         if rest != len(rest) * b"\xc5":
-            device.flash.wrong.append(f"{name} wrote after the used bytes of a journal of {room}")
-        ctypes.memmove(device.mirror, performed(before, used), len(before))
-        return number, told.journal_length
+            device.flash.wrong.append(f"{name} wrote after the used bytes of a journal of {capacity}")
+        ctypes.memmove(device.memory, performed(before, used), len(before))
+        return number, result.journal_length
 
     def test_driver(self):
         """A call over a driver asks for its bound, and changes nothing with a shorter journal."""
         device, calls = self.prepared()
-        faults, full = [], device.device.journal_room
+        faults, full = [], device.device.journal_capacity
         for name, words in [*calls[1:4], ("withdraw", (0,)), ("provision", ()), ("boot", ())]:
             if name == "accept":
                 device.boot()
-            state, bound = device.state(), BOUNDS.get(name, ROOMS[512])
-            for room in range(bound):
-                device.device.journal_room = room
+            state, bound = device.state(), BOUNDS.get(name, JOURNAL["BOOT"](2, 512))
+            for capacity in range(bound):
+                device.device.journal_capacity = capacity
                 number = getattr(device, name)(*words)
                 is_same = device.state()[:2] + device.state()[3:] == state[:2] + state[3:]
-                faults += [f"{name} with {room}: {number}, changed"] * (number != SMALL_JOURNAL or not is_same)
-                faults += [f"{name} with {room}: the saved state"] * (name != "boot" and device.state()[2] != state[2])
+                faults += [f"{name} with {capacity}: {number}, changed"] * (number != JOURNAL_TOO_SMALL or not is_same)
+                faults += [f"{name} with {capacity}: the saved state"] * (name != "boot" and device.state()[2] != state[2])
             faults += ["a boot leaves the device booted"] * (name == "boot" and device.is_booted)
-            device.device.journal_room = bound
+            device.device.journal_capacity = bound
             number = getattr(device, name)(*words)
             faults += [f"{name} with {bound}: {number}"] * (number != (name == "boot"))
-            device.device.journal_room = full
+            device.device.journal_capacity = full
         self.case("calls with shorter journals than their bounds", faults[:5] + device.flash.wrong)
 
     def test_shortest(self):
@@ -474,48 +583,65 @@ class JournalsTest(DriverTest):
     def test_request_after_revert(self):
         """The same boots with the shortest journal as with a long one."""
         ends = []
-        for room in (ROOMS[512], LONG):
-            device = self.on_trial_with_request(room)
-            number, told = device.boot(), device.device.told
-            ends.append((number, device.device.reverted, told.set, bytes(device.flash.bytes), *device.flash.wrong))
+        for capacity in (JOURNAL["BOOT"](2, 512), LONG):
+            device = self.on_trial_with_request(capacity)
+            number, result = device.boot(), device.device.result
+            ends.append((number, device.device.reverted, result.set, bytes(device.flash.bytes), *device.flash.wrong))
         self.case("a revert, and then an upgrade", [it[:3] for it in ends] * (ends[0] != ends[1] or ends[0][:3] != (1, 1, 2)))
 
     def test_attempts(self):
-        """A boot in several attempts repeats no more of a step than the first one began. Here a journal holds two steps and
-        100 bytes. The first attempt makes 4 writes (two sizes and a record) and a step, and then has 440 bytes left: an
-        erase (12) and a program of 256 bytes (268), but not another one."""
-        device = self.new_device(room=2 * (12 + 512 + 2 * 12 + 20) + 100)
+        """A boot in several attempts repeats no more of a step than the first one began. Here a journal holds two steps, what
+        follows the last one, and 100 bytes. The first attempt performs 4 writes (two sizes and a record) and a step, and then
+        has 440 bytes of two steps left: an erase (12) and a program of 256 bytes (268), but not another one."""
+        device = self.new_device(capacity=JOURNAL["BOOT"](2, 512) + STEPS[512] + 100)
         self.request(device, (NEEDING, PARTNER))
         first = len(device.flash.made)
-        got = device.boot(), device.device.told.writes, len(device.flash.made) - first
+        got = device.boot(), device.device.result.writes, len(device.flash.made) - first
         self.case("the writes of a boot in four attempts", [got] * (got != (1, 38 + 2, 38 + 2)))
 
-    def test_one_byte_less(self):
-        """With a byte less than the documented shortest journal some boot of the library never ends. Over a driver it isn't
-        begun."""
+    def test_wear(self):
+        """A boot with the shortest journal erases one sector more than one with a long journal, however many attempts it makes."""
+        files = [image([], body=bytes(count * 1024 - 100), own=version(2)) for count in (3, 2)]
+        upgrades = []
+        for capacity in (4 * LONG, JOURNAL["BOOT"](2, 1024)):
+            device = self.new_device(1024, (3, 2), capacity=4 * LONG)
+            self.request(device, files)
+            device.device.journal_capacity = capacity
+            first = len(device.flash.made)
+            self.assertEqual((device.boot(), device.flash.wrong), (1, []))
+            upgrades.append(sum(new == 1024 * b"\xff" for _, _, new in device.flash.made[first:]))
+        self.case("the erases of an upgrade", [upgrades] * (upgrades[1] - upgrades[0] != 1 or upgrades[0] < 3 * 5))
+
+    def test_proved_shortest(self):
+        """With the proved shortest journal each boot of the library ends. With a byte less some boot never does: over a driver
+        it isn't begun."""
         for sector, count in ((512, 8), (1024, 2), (4096, 2)):
-            endless = 0
+            shortest, endless = SHORTEST[sector], [0, 0]
             for start in range(8):
-                device = self.new_device(sector, count * [1], room=LONG)
+                device = self.new_device(sector, count * [1], capacity=LONG)
                 self.assertEqual(device.boot(), 1)
                 for record in range(start):
                     self.assertEqual(device.accept(self.library.manifest(record + 1, [(0, NEEDING, 0)])), 0)
                 self.request(device, count * [NEWER], start + 1)
-                self.assertEqual(device.boot(), 1)
-                endless += self.is_endless(device, ROOMS[sector] - 1)
-            device.device.journal_room = ROOMS[sector] - 1
+                for _ in ("the upgrade", "the revert"):
+                    state = device.state()
+                    for less in (0, 1):
+                        endless[less] += self.is_endless(device, shortest - less)
+                        device.put(state)
+                    self.assertEqual(device.boot(), 1)
+            device.device.journal_capacity = JOURNAL["BOOT"](count, sector) - 1
             number = device.boot()
-            is_wrong = endless == 0 or number != SMALL_JOURNAL
-            self.case(f"a journal of {ROOMS[sector] - 1} bytes", [(endless, number)] * is_wrong)
+            is_wrong = endless[0] > 0 or endless[1] == 0 or number != JOURNAL_TOO_SMALL
+            self.case(f"journals of {shortest} bytes, and of one byte less", [(endless, number)] * is_wrong)
 
-    def is_endless(self, device, room):
-        """Whether a boot of the library never ends with journals of this length: two attempts leave the same mirror."""
+    def is_endless(self, device, capacity):
+        """Whether a boot of the library never ends with journals of this length: two attempts leave the same bytes."""
         last, number = None, CUT
         while number == CUT:
-            number, _ = self.recorded(device, "boot", (), room)
-            if bytes(device.mirror) == last:
+            number, _ = self.recorded(device, "boot", (), capacity)
+            if bytes(device.memory) == last:
                 return True
-            last = bytes(device.mirror)
+            last = bytes(device.memory)
         return False
 
 
@@ -549,13 +675,13 @@ class MalformedTest(DriverTest):
         """A device of one image, whose next call records these bytes in a journal of their length, at the end of a page that
         no page follows; and what its driver lists."""
         library, flash = self.library, Listed()
-        setup, driver, mirror = library.setup(512, [2]), library.driver_of(flash), library.copy(bytes(5120))
-        room = library.at_page_end(len(journal))
-        ctypes.memmove(room, journal, len(journal))
-        pointers = [ctypes.cast(it, POINTER(c_uint8)) for it in (mirror, room)]
-        parts = ctypes.pointer(setup), ctypes.pointer(driver), pointers[0], len(mirror), pointers[1], len(journal)
+        setup, driver, copy = library.setup(512, [2]), library.driver_of(flash), library.copy(bytes(5120))
+        recorded = library.at_page_end(len(journal))
+        ctypes.memmove(recorded, journal, len(journal))
+        pointers = [ctypes.cast(it, POINTER(c_uint8)) for it in (copy, recorded)]
+        parts = ctypes.pointer(setup), ctypes.pointer(driver), POINTER(c_uint8)(), len(copy), *pointers, len(journal)
         device = library.new(library.device, *parts)
-        self.held = flash, setup, driver, mirror, room
+        self.held = flash, setup, driver, copy, recorded
         library.calls.malformed_set(c_uint32(number), c_uint64(used))
         self.assertEqual(library.calls.bootswap_open(byref(device)), 0)
         return device, flash.made
@@ -597,21 +723,22 @@ class MalformedTest(DriverTest):
 
     def test_no_progress(self):
         """A boot whose attempts write the same ends after two of them."""
-        for journal, used in ((bytes(856), 0), (words(0, 512, 8) + bytes(844), 20)):
+        shortest = JOURNAL["BOOT"](1, 512)
+        for journal, used in ((bytes(shortest), 0), ((words(0, 512, 8) + bytes(shortest))[:shortest], 20)):
             device, made = self.opened(journal, used, CUT)
-            text, calls = self.library.copy(bytes(8)), self.library.calls
-            number = calls.bootswap_device_boot(byref(device), text, c_size_t(8), text, c_size_t(8))
+            calls = self.library.calls
+            number = calls.bootswap_device_boot(byref(device))
             got = (number, calls.malformed_attempts(), len(made))
-            self.case(f"a boot that writes {used} bytes", [got] * (got != (SMALL_JOURNAL, 2, 2 * (used > 0))))
+            self.case(f"a boot that writes {used} bytes", [got] * (got != (JOURNAL_TOO_SMALL, 2, 2 * (used > 0))))
 
 
     def test_reverts_only(self):
         """A call makes at most two boots. If both revert, it fails."""
-        device, _ = self.opened(bytes(856), 0, 2)
-        device.kept.is_booted = 1
-        text, calls = self.library.copy(bytes(8)), self.library.calls
-        number = calls.bootswap_device_boot(byref(device), text, c_size_t(8), text, c_size_t(8))
-        got = number, calls.malformed_attempts(), device.kept.is_booted
+        device, _ = self.opened(bytes(JOURNAL["BOOT"](1, 512)), 0, 2)
+        device.saved.is_booted = 1
+        calls = self.library.calls
+        number = calls.bootswap_device_boot(byref(device))
+        got = number, calls.malformed_attempts(), device.saved.is_booted
         self.case("boots that revert", [got] * (got != (DRIVER_FAILED, 2, 0)))
 
 

@@ -29,6 +29,11 @@ class ArmFailuresTest(Driven, test_driver.FailuresTest):
 
 
 @needs_arm
+class ArmMappedFailuresTest(Driven, test_driver.MappedFailuresTest):
+    pass
+
+
+@needs_arm
 class ArmJournalsTest(Driven, test_driver.JournalsTest):
     pass
 

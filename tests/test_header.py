@@ -9,6 +9,7 @@ import glob
 import importlib.util
 import json
 import re
+import shutil
 import subprocess
 import sys
 import tempfile
@@ -19,12 +20,38 @@ from support.compiled import needs_compiler
 from support.files import ROOT
 from support.processors import HERE
 
-HEADER, MANIFEST, NAMES = "include/bootswap.h", "include/bootswap_manifest.h", "include/bootswap_names.h"
+HEADER, NAMES = "include/bootswap.h", "include/bootswap_names.h"
+
+# The headers that declare structs and calls of the library.
+HEADERS = (HEADER, "include/bootswap_simulate.h", "include/bootswap_manifest.h")
 
 # Names of the header that are others elsewhere: `class` is a word of C++, and a number of the header has `INVALID_SET`.
 OTHER_NAMES = {"class": "class_id", "InvalidSet": "RunningInvalid"}
 
+# Fields and numbers that have a name of their own in Rattle.
+RATTLE_NAMES = {"needs": "dependencies", "needs_count": "dependencies_count", "NO_ROOM": "TOO_SMALL"}
+RATTLE_FIELDS = {("CutRow", "left"): "residue"}
+
 NUMBERS = {"u8": 1, "u16": 2, "u32": 4, "u64": 8}
+
+# Bounds of the journal. The flash of a setup that has a map has fewer than 2^32 bytes, in sectors of 512 bytes or more.
+JOURNAL_BOUNDS = {
+    "PROVISION(1)": 144 + 24,
+    "PROVISION(8)": 144 + 8 * 24,
+    "ACCEPT(2, 2 + 3)": 120 + 2 * 44 + 5 * 12,
+    "ACCEPT(8, 8388607)": 120 + 8 * 44 + 8388607 * 12,
+    "ACCEPT((uint8_t)8, (uint16_t)65535)": 120 + 8 * 44 + 65535 * 12,
+    "PIECE(0)": 31,
+    "PIECE(1 << 20)": 31 + (1 << 20),
+    "FINISH": 68,
+    "WITHDRAW": 44,
+    "CONFIRM": 20,
+    "STEP(512)": 12 + 512 + 2 * 12 + 20,
+    "STEP(576)": 12 + 576 + 3 * 12 + 20,
+    "STEP(1 << 17)": 12 + 131072 + 512 * 12 + 20,
+    "BOOT(1, 512)": 12 + 512 + 2 * 12 + 20 + 2 * 120 + 92,
+    "BOOT(8, 4096)": 12 + 4096 + 16 * 12 + 20 + 2 * 120 + 8 * 92,
+}
 
 
 def text_of(path):
@@ -69,15 +96,15 @@ def rows_of(kind, path="", start=0):
 
 
 def header():
-    """Returns the two headers without their comments, and with numbers for the names of limits."""
-    text = re.sub(r"/\*.*?\*/", "", text_of(HEADER) + text_of(MANIFEST), flags=re.DOTALL)
+    """Returns the headers without their comments, and with numbers for the names of limits."""
+    text = re.sub(r"/\*.*?\*/", "", "".join(map(text_of, HEADERS)), flags=re.DOTALL)
     limits = limits_of_c()
     return re.sub(r"\[(\w+)\]", lambda it: f"[{limits.get(it[1], it[1])}]", text)
 
 
 def limits_of_c():
-    """Returns the limits of the header by their names."""
-    return dict(re.findall(r"^#define (BOOTSWAP_MAX_\w+) (\d+)$", text_of(HEADER), re.MULTILINE))
+    """Returns the limits of the headers by their names."""
+    return dict(re.findall(r"^#define (BOOTSWAP_MAX_\w+) (\d+)$", "".join(map(text_of, HEADERS)), re.MULTILINE))
 
 
 def number_of_c(kind):
@@ -96,7 +123,7 @@ def fields_of_c(body, structs):
 
 
 def structs_of_c():
-    """Returns the structs of the header by their names: the fields of each."""
+    """Returns the structs of the headers by their names: the fields of each."""
     structs = {}
     for name, body in re.findall(r"^(struct \w+) \{\n(.*?)^\};", header(), re.MULTILINE | re.DOTALL):
         structs[name] = fields_of_c(body, structs)
@@ -104,7 +131,7 @@ def structs_of_c():
 
 
 def calls_of_c():
-    """Returns the calls of the header by their names: what each takes, and the size of what it returns. What it takes is
+    """Returns the calls of the headers by their names: what each takes, and the size of what it returns. What it takes is
     whether it is a pointer, whether that is to a constant, and the numbers there."""
     structs, calls = structs_of_c(), {}
     for result, name, words in re.findall(r"^(\w+) bootswap_(\w+)\((.*?)\);", header(), re.MULTILINE | re.DOTALL):
@@ -140,12 +167,13 @@ def structs_of_rattle():
         array = re.fullmatch(r"\[(\w+); (\w+)\]", name)
         if array:
             return kind_of(array[1]), int(lengths.get(array[2], array[2]))
-        return NUMBERS.get(name) or fields_of(bodies[name])
+        return NUMBERS.get(name) or fields_of(name)
 
-    def fields_of(body):
-        return [(name, kind_of(kind)) for name, kind in re.findall(r"^    pub (\w+): (.+),$", body, re.MULTILINE)]
+    def fields_of(struct):
+        fields = re.findall(r"^    pub (\w+): (.+),$", bodies[struct], re.MULTILINE)
+        return [(RATTLE_FIELDS.get((struct, name)) or RATTLE_NAMES.get(name, name), kind_of(kind)) for name, kind in fields]
 
-    return {name: fields_of(body) for name, body in bodies.items()}
+    return {name: fields_of(name) for name in bodies}
 
 
 def python_module():
@@ -215,6 +243,12 @@ def printed_names(processor):
     return names
 
 
+def compiles(compiler, words):
+    """Returns whether there is a compiler, and it compiles a file of nothing."""
+    done = shutil.which(compiler[0]) and subprocess.run([*compiler, *words], input="", capture_output=True, text=True)
+    return bool(done) and done.returncode == 0
+
+
 def names_of_rattle(kind):
     """Returns the names of an enum's variants by their numbers, as its methods `code` and `name` have them."""
     text = next(it for it in sources() if f"pub enum {kind} {{" in it)
@@ -235,7 +269,7 @@ class CompiledHeaderTest(unittest.TestCase):
     processor = HERE
 
     def test_a_compiler_lays_structs_out_so(self):
-        lines = ["#include <bootswap_manifest.h>"]
+        lines = ["#include <bootswap_manifest.h>", "#include <bootswap_simulate.h>"]
         for name, fields in structs_of_c().items():
             kind = f"struct bootswap_{name}"
             size = size_and_alignment(fields)[0]
@@ -247,6 +281,22 @@ class CompiledHeaderTest(unittest.TestCase):
         done = subprocess.run(words, input="\n".join([*lines, ""]), capture_output=True, text=True)
         self.assertEqual((done.returncode, done.stderr), (0, ""))
 
+    def test_journal_bounds(self):
+        """The bounds of the journal are these numbers of type `size_t`. None overflows for a setup that has a map, also if that
+        type has 32 bits."""
+        lines = ["#include <bootswap.h>"]
+        for bound, wanted in JOURNAL_BOUNDS.items():
+            is_so = f"BOOTSWAP_JOURNAL_{bound} == {wanted}u && sizeof BOOTSWAP_JOURNAL_{bound} == sizeof(size_t)"
+            lines.append(f'_Static_assert({is_so}, "{bound}");')
+        words, text = ["-std=c11", "-ffreestanding", "-fsyntax-only", "-I", f"{ROOT}/include", "-x", "c", "-"], "\n".join(lines)
+        compilers = [[*self.processor.compiler], [*self.processor.compiler, "-m32"], ["arm-none-eabi-gcc"]]
+        for compiler in compilers:
+            with self.subTest(" ".join(compiler)):
+                if compiler != compilers[0] and not compiles(compiler, words):
+                    continue
+                done = subprocess.run([*compiler, *words], input=text + "\n", capture_output=True, text=True)
+                self.assertEqual((done.returncode, done.stderr), (0, ""))
+
     def test_names(self):
         """include/bootswap_names.h has the names that the program prints."""
         wanted, enums = {}, enums_of_c()
@@ -254,7 +304,7 @@ class CompiledHeaderTest(unittest.TestCase):
         for enum, kind in faults:
             returned = enums[enum].values()
             wanted[enum] = {at: name for at, name in names_of_rattle(kind).items() if at in returned}
-        wanted["number"] = {at: name.lower().replace("_", "-") for name, at in enums["number"].items()}
+        wanted["status"] = {at: name.lower().replace("_", "-") for name, at in enums["status"].items()}
         wanted["check"] = names_of_rattle("ImageError")
         reasons = next(re.findall(r"Reason::(\w+)(?:\(.*\))? => (\d),", it) for it in sources() if "fn reason_number" in it)
         wanted["reason"] = {int(at): re.sub(r"(?<!^)([A-Z])", r"-\1", name).lower() for name, at in reasons}
@@ -304,10 +354,12 @@ class HeaderTest(unittest.TestCase):
         self.assertEqual(re.findall(r"\bat\b[.\w]* \+ \d.*", text_of("web/library.js")), [])
 
     def test_numbers_that_calls_return(self):
-        wanted = self.enums["number"]
-        consts = [dict(re.findall(r"^pub const (\w+): u32 = (\d+);", it, re.MULTILINE)) for it in sources()]
+        wanted = self.enums["status"]
+        consts = [re.findall(r"^pub const (\w+): u32 = (\d+);", it, re.MULTILINE) for it in sources()]
+        consts = [{RATTLE_NAMES.get(name, name): number for name, number in it} for it in consts]
         self.assertIn({name: str(number) for name, number in wanted.items()}, consts)
         self.assertEqual({it.name: it.value for it in self.module.Number}, wanted)
+        self.assertEqual(self.module.Number.NO_ROOM, self.module.Number.TOO_SMALL)
         names = {name.upper().replace("-", "_"): at for at, name in enumerate(table_of_page("NUMBERS"))}
         self.assertEqual(names, {name: number for name, number in wanted.items() if number < 16})
 
@@ -330,16 +382,16 @@ class HeaderTest(unittest.TestCase):
         self.assertEqual({it.name: it.value for it in self.module.ManifestFault}, wanted)
 
     def test_limits(self):
-        rooms = {name.lower(): int(size) for name, size in re.findall(r"#define BOOTSWAP_(\w+)_ROOM (\d+)", header())}
+        lengths = re.findall(r"#define BOOTSWAP_MAX_(\w+)_LENGTH (\d+)", header())
+        lengths = {name.lower(): int(length) for name, length in lengths}
         own = {"table": self.module.TABLE_ROOM, "report": self.module.REPORT_ROOM}
-        self.assertEqual(own, rooms)
-        self.assertEqual({name: table_of_page("ROOM")[name] for name in rooms}, rooms)
+        self.assertEqual(own, lengths)
+        self.assertEqual({name: table_of_page("CAPACITY")[name] for name in lengths}, lengths)
         lengths = dict(it for text in sources() for it in re.findall(r"const (MOST_\w+): usize = (\d+);", text))
         self.assertEqual(self.module.MOST_IMAGES, int(lengths["MOST_IMAGES"]))
         self.assertEqual(self.module.MOST_CUTS, int(lengths["MOST_CUTS"]))
-        for name, own in (("IMAGES", "IMAGES"), ("CUTS", "CUTS"), ("NEEDS", "DEPENDENCIES"), ("GROUPS", "GROUPS")):
-            self.assertEqual((name, limits_of_c()[f"BOOTSWAP_MAX_{name}"]), (name, lengths[f"MOST_{own}"]))
-        self.assertEqual(limits_of_c()["BOOTSWAP_MAX_ALTERNATIVES"], lengths["MOST_ALTERNATIVES"])
+        for name in ("IMAGES", "CUTS", "DEPENDENCIES", "GROUPS", "ALTERNATIVES"):
+            self.assertEqual((name, limits_of_c()[f"BOOTSWAP_MAX_{name}"]), (name, lengths[f"MOST_{name}"]))
 
 
 if __name__ == "__main__":

@@ -21,7 +21,7 @@ from installing import LIST, major, version
 # The places of an installation, but for the examples and Python's folder.
 PLACES = {
     *("bin/bootswap", "lib/libbootswap.a", "lib/libbootswap_manifest.a", "lib/libbootswap.so"),
-    *(f"include/bootswap{it}.h" for it in ("", "_manifest", "_names")),
+    *(f"include/bootswap{it}.h" for it in ("", "_manifest", "_names", "_simulate")),
     *(f"lib/libbootswap.so.{major()}", f"lib/libbootswap.so.{version()}", "lib/pkgconfig/bootswap.pc"),
     *(f"lib/cmake/bootswap/bootswap-config{it}.cmake" for it in ("", "-version")),
     *(f"share/doc/bootswap/{it}" for it in ("LICENSE", "CHANGELOG.md", "README.md")),
@@ -209,7 +209,7 @@ class InstallTest(BuiltCloneTest):
     def test_manual(self):
         """`man` finds the page of a command, that of a call and that of the formats. All have the date of the release."""
         self.install()
-        pages = {"bootswap-run": "BOOTSWAP-RUN(1)", "bootswap_boot": "LIBBOOTSWAP(3)"}
+        pages = {"bootswap-run": "BOOTSWAP-RUN(1)", "bootswap_simulate_boot": "LIBBOOTSWAP(3)"}
         pages["bootswap-formats"] = "BOOTSWAP-FORMATS(5)"
         environment, days = {"PATH": "/usr/bin:/bin", "LC_ALL": "C.UTF-8"}, set()
         for name, title in pages.items():

@@ -33,7 +33,7 @@ ENDS = b"permanent\ntake 0 1.1.0+0\n"
 # What nulls.c prints: the numbers that its calls return, six lengths or lines, and the begin of the SHA-256 of no bytes.
 RETURNED = (
     b"18 0 18 1 18 0 18 0 0 0 18 0 18 0 18 0 18 0 0 0 18 0 18 1 18 0 1 "
-    b"18 0 18 0 18 4 18 4 18 4 18 1 18 5 18 18 1 24 28 24 25 0 28 1 0 1 1 72 72 e3b0\n"
+    b"18 0 18 0 18 4 18 4 18 4 18 1 18 1 18 5 18 18 1 24 28 24 25 0 28 1 0 1 1 72 72 e3b0\n"
 )
 
 # What the library calls that it doesn't have itself. So it never allocates.
@@ -263,7 +263,7 @@ IMAGES = [
 IMPOSSIBLE = [
     ("a header of 31 bytes", {"header_size": 31}),
     ("another flag", {"flags": 2}),
-    ("17 needs", {"needs_count": 17}),
+    ("17 needs", {"dependencies_count": 17}),
     ("5 groups", {"groups": 4 * [[(1, V2)]], "groups_count": 5}),
     ("a group without alternatives", {"groups": [[(1, V2)], []]}),
     ("a group of 5 alternatives", {"groups": [5 * [(1, V2)]]}),
@@ -277,7 +277,7 @@ def parts_of(version=(1, 0, 0, 0), load_address=0, header_size=32, flags=0, coun
     need = lambda it: struct.pack("<IBBHI", it[0], *it[1])
     rows = b"".join(map(need, needs)).ljust(16 * 12, b"\x07")
     sets = [struct.pack("<I", len(group)) + b"".join(map(need, group[:4])).ljust(4 * 12, b"\x07") for group in groups]
-    counts = [counts.get("needs_count", len(needs)), counts.get("groups_count", len(groups))]
+    counts = [counts.get("dependencies_count", len(needs)), counts.get("groups_count", len(groups))]
     front = struct.pack("<IHBBI", load_address, header_size, counter is not None, 7, flags) + struct.pack("<BBHI", *version)
     return front + struct.pack("<III", counter or 0, *counts) + rows + b"".join(sets).ljust(4 * 52, b"\x07")
 

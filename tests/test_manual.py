@@ -35,7 +35,7 @@ UNKNOWN_DECLARATIONS = [
     *("int without_comment(void);", "/* Without a declaration. */", "#if 1", "// A remark."),
     *("/* A type. */\ntypedef int number;", "/* A union. */\nunion u {\n    int a;\n};"),
     *("/* A field. */\nstruct s {\n    int (*call)(void);\n};", "/* A bit. */\nstruct s {\n    int a;\n    int b : 1;\n};"),
-    *("/* No number. */\nenum e {\n    A = 1,\n    B,\n};", "/* A macro. */\n#define ONE(x) 1"),
+    *("/* No number. */\nenum e {\n    A = 1,\n    B,\n};", "/* A macro. */\n#define ONE(x)"),
     *("/*\n * - An item.\n */\nint a(void);", "/* Two. */\nint a(void);\n#define A 1"),
 ]
 

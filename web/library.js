@@ -1,28 +1,28 @@
-// The proved library as WebAssembly: what include/bootswap.h declares, over the memory of the module.
+// The proved library as WebAssembly: what include/bootswap_simulate.h declares, over the memory of the module.
 // A `Device` has a flash in that memory, and its saved state. Nothing here decides.
 
-// The sizes in bytes of the structs of the header, and the offsets of the fields that are used here.
-// tests/test_header.py compares both with the header.
+// The sizes in bytes of the structs of the headers, and the offsets of the fields that are used here.
+// tests/test_header.py compares both with the headers.
 const SIZES = {
   setup: 76,
-  kept: 420,
+  saved_state: 420,
   cut: 24,
   version: 8,
-  need: 12,
+  dependency: 12,
   refusal: 60,
-  told: 600,
+  result: 600,
   component: 72,
   manifest: 584,
   description: 464,
 };
 const OFFSETS = {
   setup: { sector_size: 0, images: 4, sectors: 8, trial_boots: 40 },
-  kept: { is_booted: 0 },
-  cut: { write: 0, left: 8, pattern_length: 12, pattern: 16 },
+  saved_state: { is_booted: 0 },
+  cut: { write: 0, residue: 8, pattern_length: 12, pattern: 16 },
   version: { major: 0, minor: 1, revision: 2, build: 4 },
-  need: { image: 0, minimum: 4 },
-  refusal: { image: 0, reason: 4, count: 8, needs: 12 },
-  told: {
+  dependency: { image: 0, minimum: 4 },
+  refusal: { image: 0, reason: 4, count: 8, dependencies: 12 },
+  result: {
     writes: 0,
     fault: 16,
     detail: 20,
@@ -43,8 +43,8 @@ const OFFSETS = {
 };
 
 // The structs and the buffers, with their sizes in bytes, that are passed to calls.
-const STRUCTS = ["setup", "kept", "cut", "told", "manifest", "description"];
-const ROOM = { table: 20480, report: 2048, bytes: 8192 };
+const STRUCTS = ["setup", "saved_state", "cut", "result", "manifest", "description"];
+const CAPACITY = { table: 20480, report: 2048, bytes: 8192 };
 const DIGEST = 32;
 const PAGE = 65536;
 
@@ -95,7 +95,7 @@ export class Device {
     const { memory } = this.library;
     let at = memory.buffer.byteLength;
     const structs = Object.fromEntries(STRUCTS.map((name) => [name, SIZES[name]]));
-    const parts = { ...structs, ...ROOM, flash: this.length };
+    const parts = { ...structs, ...CAPACITY, flash: this.length };
     const needed = Object.values(parts).reduce((sum, it) => sum + it + 8, 0);
     memory.grow(BigInt(Math.ceil(needed / PAGE)));
     this.at = {};
@@ -106,7 +106,7 @@ export class Device {
     this.memory = new Uint8Array(memory.buffer);
     this.view = new DataView(memory.buffer);
     this.flash = this.memory.subarray(this.at.flash, this.at.flash + this.length);
-    this.kept = this.memory.subarray(this.at.kept, this.at.kept + SIZES.kept);
+    this.saved = this.memory.subarray(this.at.saved_state, this.at.saved_state + SIZES.saved_state);
   }
 
   /** Writes numbers of 32 bits to fields of a struct that begins at an address. */
@@ -147,34 +147,36 @@ export class Device {
     const at = this.at.cut;
     const pattern = Array.isArray(cut.left) ? cut.left : [];
     this.view.setBigUint64(at + OFFSETS.cut.write, BigInt(cut.write), true);
-    this.write("cut", at, { left: { keep: 0, done: 1 }[cut.left] ?? 2, pattern_length: pattern.length });
+    this.write("cut", at, { residue: { keep: 0, done: 1 }[cut.left] ?? 2, pattern_length: pattern.length });
     this.memory.set(pattern, at + OFFSETS.cut.pattern);
     return [this.pointer("cut"), 1n];
   }
 
   call(name, cut, ...words) {
-    const kept = name === "provision" ? [] : [this.pointer("kept")];
+    const saved = name === "provision" ? [] : [this.pointer("saved_state")];
     const flash = [this.pointer("setup"), this.pointer("flash"), BigInt(this.length)];
-    const number = this.library[`bootswap_${name}`](...flash, ...kept, ...this.cuts(cut), ...words, this.pointer("told"));
+    const simulate = this.library[`bootswap_simulate_${name}`];
+    const number = simulate(...flash, ...saved, ...this.cuts(cut), ...words, this.pointer("result"));
     return this.reply(number >>> 0);
   }
 
   reply(number) {
-    const at = this.at.told;
+    const at = this.at.result;
     const names = ["fault", "detail", "check", "set", "left", "permanent", "images", "refusals"];
-    const values = this.read("told", at, ...names);
-    const told = Object.fromEntries(names.map((name, i) => [name, values[i]]));
-    [told.tableLength, told.reportLength] = this.read("told", at, "table_length", "report_length");
-    const writes = Number(this.view.getBigUint64(at + OFFSETS.told.writes, true));
-    return { number, writes, ...told, ...this.decision(told), why: this.why(told) };
+    const values = this.read("result", at, ...names);
+    const result = Object.fromEntries(names.map((name, i) => [name, values[i]]));
+    [result.tableLength, result.reportLength] = this.read("result", at, "table_length", "report_length");
+    const writes = Number(this.view.getBigUint64(at + OFFSETS.result.writes, true));
+    return { number, writes, ...result, ...this.decision(result), why: this.why(result) };
   }
 
   /** Returns the fields and texts of a boot that decided. */
-  decision(told) {
-    const at = this.at.told;
-    const versions = this.rows("told", at, "versions", "version", told.images).map((it) => this.version(it));
-    const refused = this.rows("told", at, "refused", "refusal", told.refusals).map((it) => this.refusal(it));
-    return { versions, refused, table: this.text("table", told.tableLength), report: this.text("report", told.reportLength) };
+  decision(result) {
+    const at = this.at.result;
+    const versions = this.rows("result", at, "versions", "version", result.images).map((it) => this.version(it));
+    const refused = this.rows("result", at, "refused", "refusal", result.refusals).map((it) => this.refusal(it));
+    const table = this.text("table", result.tableLength);
+    return { versions, refused, table, report: this.text("report", result.reportLength) };
   }
 
   version(at) {
@@ -189,18 +191,18 @@ export class Device {
 
   refusal(at) {
     const [image, reason, count] = this.read("refusal", at, "image", "reason", "count");
-    const needs = this.rows("refusal", at, "needs", "need", count).map((it) => this.need(it));
+    const needs = this.rows("refusal", at, "dependencies", "dependency", count).map((it) => this.dependency(it));
     return { image, reason, needs };
   }
 
-  need(at) {
-    const [image] = this.read("need", at, "image");
-    return { image, minimum: this.version(at + OFFSETS.need.minimum) };
+  dependency(at) {
+    const [image] = this.read("dependency", at, "image");
+    return { image, minimum: this.version(at + OFFSETS.dependency.minimum) };
   }
 
-  why(told) {
-    if (!told.fault) return "";
-    return told.fault === 10 ? UPLOAD_FAULTS[told.detail] : FAULTS[told.fault];
+  why(result) {
+    if (!result.fault) return "";
+    return result.fault === 10 ? UPLOAD_FAULTS[result.detail] : FAULTS[result.fault];
   }
 
   text(name, length) {
@@ -212,8 +214,8 @@ export class Device {
   }
 
   boot(cut) {
-    const rooms = [this.pointer("table"), BigInt(ROOM.table), this.pointer("report"), BigInt(ROOM.report)];
-    return this.call("boot", cut, ...rooms);
+    const texts = ["table", "report"].flatMap((name) => [this.pointer(name), BigInt(CAPACITY[name])]);
+    return this.call("boot", cut, ...texts);
   }
 
   /** Accepts a manifest with components `{ image, file, permanent }`. */
@@ -248,11 +250,11 @@ export class Device {
   }
 
   reset() {
-    this.library.bootswap_reset(this.pointer("kept"));
+    this.library.bootswap_reset(this.pointer("saved_state"));
   }
 
   get isBooted() {
-    return this.kept[OFFSETS.kept.is_booted] === 1;
+    return this.saved[OFFSETS.saved_state.is_booted] === 1;
   }
 
   digest(bytes) {
@@ -278,12 +280,12 @@ export class Device {
   /** Runs a function on the device, then restores its flash and its saved state. */
   aside(run) {
     const flash = this.flash.slice();
-    const kept = this.kept.slice();
+    const saved = this.saved.slice();
     try {
       return run();
     } finally {
       this.flash.set(flash);
-      this.kept.set(kept);
+      this.saved.set(saved);
     }
   }
 }

@@ -81,46 +81,46 @@ static int file = -1;
 static const struct bootswap_driver driver = {read_flash, program_flash, erase_flash, &file};
 static const struct bootswap_setup setup = {
     .sector_size = SECTOR, .images = IMAGES, .sectors = {2, 2}, .trial_boots = 1};
-static uint8_t mirror[FLASH], journal[BOOTSWAP_JOURNAL_ROOM(SECTOR)];
+static uint8_t copy[FLASH], journal[BOOTSWAP_JOURNAL_BOOT(IMAGES, SECTOR)];
 static struct bootswap_device device = {.setup = &setup,
                                         .driver = &driver,
-                                        .mirror = mirror,
-                                        .mirror_length = sizeof mirror,
+                                        .flash_length = FLASH,
+                                        .copy = copy,
                                         .journal = journal,
-                                        .journal_room = sizeof journal};
+                                        .journal_capacity = sizeof journal};
 
 static void stop(const char *what) {
     perror(what);
     exit(1);
 }
 
-/* Ends the program unless a call returned the wanted number. */
-static void must(const char *what, uint32_t number, uint32_t wanted) {
-    if (number != wanted) {
-        const struct bootswap_told *told = &device.told;
-        fprintf(stderr, "%s: %u (fault %u, detail %u)\n", what, (unsigned)number,
-                (unsigned)told->fault, (unsigned)told->detail);
+/* Ends the program unless a call returned the wanted status. */
+static void must(const char *what, uint32_t status, uint32_t wanted) {
+    if (status != wanted) {
+        const struct bootswap_result *result = &device.result;
+        fprintf(stderr, "%s: %u (fault %u, detail %u)\n", what, (unsigned)status,
+                (unsigned)result->fault, (unsigned)result->detail);
         exit(1);
     }
 }
 
-static size_t load(const char *name, uint8_t *bytes, size_t room) {
+static size_t load(const char *name, uint8_t *bytes, size_t capacity) {
     FILE *from = fopen(name, "rb");
     if (!from) {
         stop(name);
     }
-    size_t length = fread(bytes, 1, room, from);
+    size_t length = fread(bytes, 1, capacity, from);
     fclose(from);
     return length;
 }
 
 /* Writes the images to their primary slots, as at the factory, and provisions the device. */
 static void provision(char **names) {
-    memset(mirror, 0xff, sizeof mirror);
+    memset(copy, 0xff, FLASH);
     for (size_t image = 0; image < IMAGES; image++) {
-        load(names[image], mirror + image * (SLOT + SECTOR), SLOT);
+        load(names[image], copy + image * (SLOT + SECTOR), SLOT);
     }
-    if (write_all(file, mirror, sizeof mirror, 0) != 0 || fsync(file) != 0) {
+    if (write_all(file, copy, FLASH, 0) != 0 || fsync(file) != 0) {
         stop("the flash");
     }
     must("open", bootswap_open(&device), BOOTSWAP_DONE);
@@ -142,26 +142,26 @@ static void print_set(const char *word, uint32_t set) {
 static void print_running(void) {
     static struct bootswap_description it;
     for (uint8_t image = 0; image < IMAGES; image++) {
-        must("slot", bootswap_slot(&setup, mirror, sizeof mirror, image, 0, &it), 0);
+        must("slot", bootswap_slot(&setup, device.flash, FLASH, image, 0, &it), 0);
         printf("runs %u %u.%u.%u+%u\n", image, it.version.major, it.version.minor,
                it.version.revision, (unsigned)it.version.build);
     }
 }
 
 static void boot(void) {
-    static char table[BOOTSWAP_TABLE_ROOM], report[BOOTSWAP_REPORT_ROOM];
-    const struct bootswap_told *told = &device.told;
-    uint32_t number =
-        bootswap_device_boot(&device, table, sizeof table, report, sizeof report);
+    static char table[BOOTSWAP_MAX_TABLE_LENGTH], report[BOOTSWAP_MAX_REPORT_LENGTH];
+    const struct bootswap_result *result = &device.result;
+    uint32_t status =
+        bootswap_device_boot_with_texts(&device, table, sizeof table, report, sizeof report);
     if (device.reverted != 0) {
         print_set("reverted", device.reverted);
     }
-    if (number == BOOTSWAP_TRIAL_AGAIN) {
-        print_set("trial-again", told->set);
+    if (status == BOOTSWAP_TRIAL_AGAIN) {
+        print_set("trial-again", result->set);
     } else {
-        must("boot", number, BOOTSWAP_BOOTED);
-        const char *kind = told->permanent ? "permanent" : told->set ? "trial" : "plain";
-        printf("%s\n%.*s", kind, (int)told->report_length, report);
+        must("boot", status, BOOTSWAP_BOOTED);
+        const char *kind = result->permanent ? "permanent" : result->set ? "trial" : "plain";
+        printf("%s\n%.*s", kind, (int)result->report_length, report);
     }
     print_running();
 }

@@ -16,7 +16,7 @@ extern "C" {
 
 /* Memory in bytes that is always enough for a manifest whose objects name no key twice, for a text
  * of this length. */
-#define BOOTSWAP_MANIFEST_ROOM(text_length) ((size_t)(text_length) + 12288)
+#define BOOTSWAP_MANIFEST_MEMORY(text_length) ((size_t)(text_length) + 12288)
 
 /*
  * Reads a text of any length, for the device of a setup. `memory` may be used for anything before
@@ -27,9 +27,9 @@ extern "C" {
  * manifest.c was compiled with one of the two options above, only one call may run at a time. A
  * signal handler may not call while its thread is in a call.
  *
- * Returns 0, and `manifest` is what `bootswap_accept` takes. Or returns a bootswap_manifest_fault,
- * and `manifest` is unchanged: the lowest one that applies to the text, or BOOTSWAP_NO_MEMORY if
- * `memory` is too short for it.
+ * Returns 0, and `manifest` is what `bootswap_journal_accept` takes. Or returns a
+ * bootswap_manifest_fault, and `manifest` is unchanged: the lowest one that applies to the text, or
+ * BOOTSWAP_NO_MEMORY if `memory` is too short for it.
  */
 uint32_t bootswap_read_manifest(const struct bootswap_setup *setup, const char *text,
                                 size_t text_length, uint8_t *memory, size_t memory_length,

@@ -2,7 +2,7 @@
 
 A `Device` has a flash (`flash`, a bytearray that the caller may read and change) and its saved state. Each of its calls
 is proved to be one step of a machine that knows whole images only. `choose`, `check`, `describe` and `digest` need no
-device. `include/bootswap.h` says what each call returns.
+device. `include/bootswap_simulate.h` says what each call returns.
 
 A call raises `ValueError` for an argument that the device can't be passed, `Refused` if the device refuses the call, and
 `BootswapError` if no call could be made. In each of these cases but `Refused`, nothing changed. A device with
@@ -32,11 +32,11 @@ MOST_IMAGES = 8
 MOST_CUTS = 16
 TABLE_ROOM = 20480
 REPORT_ROOM = 2048
-# The memory for a manifest, beside the length of its text, as `BOOTSWAP_MANIFEST_ROOM` of bindings/c/manifest.h.
+# The memory for a manifest, beside the length of its text, as `BOOTSWAP_MANIFEST_MEMORY` of bindings/c/manifest.h.
 MANIFEST_ROOM = 12288
 
 # The name of the installed library. Its number is the major version.
-SHARED_NAME = "libbootswap.so.1"
+SHARED_NAME = "libbootswap.so.2"
 
 
 class Number(enum.IntEnum):
@@ -58,7 +58,8 @@ class Number(enum.IntEnum):
     NO_REPORT = 25
     INVALID_SET = 26
     WRONG = 27
-    NO_ROOM = 28
+    TOO_SMALL = 28
+    NO_ROOM = 28  # its name before 2.0.0
     BAD_IMAGE = 29
 
 
@@ -191,19 +192,20 @@ class _SavedState(ctypes.Structure):
 
 
 class _Cut(ctypes.Structure):
-    _fields_ = [("write", c_uint64), ("left", c_uint32), ("pattern_length", c_uint32), ("pattern", c_uint8 * 8)]
+    _fields_ = [("write", c_uint64), ("residue", c_uint32), ("pattern_length", c_uint32), ("pattern", c_uint8 * 8)]
 
 
 class _Version(ctypes.Structure):
     _fields_ = [("major", c_uint8), ("minor", c_uint8), ("revision", c_uint16), ("build", c_uint32)]
 
 
-class _Need(ctypes.Structure):
+class _Dependency(ctypes.Structure):
     _fields_ = [("image", c_uint32), ("minimum", _Version)]
 
 
 class _Refusal(ctypes.Structure):
-    _fields_ = [("image", c_uint32), ("reason", c_uint32), ("count", c_uint32), ("needs", _Need * 4)]
+    _fields_ = [("image", c_uint32), ("reason", c_uint32), ("count", c_uint32)]
+    _fields_ += [("dependencies", _Dependency * 4)]
 
 
 class _CallResult(ctypes.Structure):
@@ -227,19 +229,19 @@ class _Identity(ctypes.Structure):
 
 
 class _Group(ctypes.Structure):
-    _fields_ = [("count", c_uint32), ("alternatives", _Need * 4)]
+    _fields_ = [("count", c_uint32), ("alternatives", _Dependency * 4)]
 
 
 class _Description(ctypes.Structure):
     _fields_ = [("length", c_uint64), ("version", _Version), ("counter", c_uint32), ("flags", c_uint32)]
-    _fields_ += [("needs_count", c_uint32), ("groups_count", c_uint32), ("needs", _Need * 16), ("groups", _Group * 4)]
-    _fields_ += [("digest", c_uint8 * 32)]
+    _fields_ += [("dependencies_count", c_uint32), ("groups_count", c_uint32)]
+    _fields_ += [("dependencies", _Dependency * 16), ("groups", _Group * 4), ("digest", c_uint8 * 32)]
 
 
 class _ImageParts(ctypes.Structure):
     _fields_ = [("load_address", c_uint32), ("header_size", c_uint16), ("has_counter", c_uint8), ("unused", c_uint8)]
-    _fields_ += [("flags", c_uint32), ("version", _Version), ("counter", c_uint32), ("needs_count", c_uint32)]
-    _fields_ += [("groups_count", c_uint32), ("needs", _Need * 16), ("groups", _Group * 4)]
+    _fields_ += [("flags", c_uint32), ("version", _Version), ("counter", c_uint32), ("dependencies_count", c_uint32)]
+    _fields_ += [("groups_count", c_uint32), ("dependencies", _Dependency * 16), ("groups", _Group * 4)]
 
 
 class _State(ctypes.Structure):
@@ -277,16 +279,19 @@ def _load() -> ctypes.CDLL:
     }
     # What a call takes after its cuts, or in its other form after its journal.
     of_device = {
-        "boot": [*text, *text, *result],
         "accept": [POINTER(_Manifest), *result],
         "piece": [c_uint8, POINTER(c_uint8), c_size_t, *result],
         "finish": [c_uint8, *result],
         "withdraw": [c_uint8, *result],
         "confirm": [c_uint8, *result],
     }
-    for form, writes in (("", cuts), ("journal_", flash)):
+    boots = {
+        "simulate_": {"boot": [*text, *text, *result]},
+        "journal_": {"boot": result, "boot_with_texts": [*text, *text, *result]},
+    }
+    for form, writes in (("simulate_", cuts), ("journal_", flash)):
         arguments[f"{form}provision"] = [POINTER(_Setup), *flash, *writes, *result]
-        for name, types in of_device.items():
+        for name, types in {**of_device, **boots[form]}.items():
             arguments[f"{form}{name}"] = [POINTER(_Setup), *flash, POINTER(_SavedState), *writes, *types]
     # Everything else works over a library without the calls that read a manifest's text.
     missing = {it for it in ("parse_manifest", "read_manifest") if not hasattr(library, f"bootswap_{it}")}
@@ -443,7 +448,7 @@ def _version(given: _Version) -> Version:
     return Version(given.major, given.minor, given.revision, given.build)
 
 
-def _needs(given: Sequence[_Need], count: int) -> tuple[Need, ...]:
+def _needs(given: Sequence[_Dependency], count: int) -> tuple[Need, ...]:
     return tuple(Need(it.image, _version(it.minimum)) for it in given[:count])
 
 
@@ -455,7 +460,7 @@ def _component(given: _Component) -> Component:
 
 def _description(given: _Description) -> Description:
     groups = tuple(_needs(it.alternatives, it.count) for it in given.groups[: given.groups_count])
-    needs = _needs(given.needs, given.needs_count)
+    needs = _needs(given.dependencies, given.dependencies_count)
     return Description(
         _version(given.version), given.length, given.counter, given.flags, bytes(given.digest), needs, groups
     )
@@ -476,11 +481,11 @@ def _cuts(given: Sequence[Cut]) -> ctypes.Array[_Cut]:
     rows = (_Cut * max(len(given), 1))()
     for row, cut in zip(rows, given):
         row.write = _number("the number of a write", cut.write, 2**64 - 1)
-        row.left = {"keep": 0, "done": 1}.get(cut.left, 2) if isinstance(cut.left, str) else 2
+        row.residue = {"keep": 0, "done": 1}.get(cut.left, 2) if isinstance(cut.left, str) else 2
         if isinstance(cut.left, bytes):
             row.pattern_length = _number("the length of a cut's pattern", len(cut.left), 8)
             row.pattern[: len(cut.left)] = cut.left
-        elif row.left == 2:
+        elif row.residue == 2:
             raise ValueError(f"a cut leaves 'keep', 'done' or bytes, and not {cut.left!r}")
     return rows
 
@@ -685,7 +690,7 @@ class Device:
     def _call(self, name: str, cuts: Sequence[Cut], *words: object, texts: tuple = ()) -> Reply:
         if len(cuts) > MOST_CUTS:
             raise BootswapError(Number.TOO_MANY)
-        result, call = _CallResult(), getattr(_LIBRARY, f"bootswap_{name}")
+        result, call = _CallResult(), getattr(_LIBRARY, f"bootswap_simulate_{name}")
         with self._lock:
             flash, saved = self._flash(), [] if name == "provision" else [byref(self._saved)]
             number = Number(
@@ -714,7 +719,8 @@ def _after(first: Reply, second: Reply) -> Reply:
 
 
 def _reply(number: Number, result: _CallResult, texts: tuple) -> Reply:
-    refusals = (Refusal(it.image, Reason(it.reason), _needs(it.needs, it.count)) for it in result.refused[: result.refusals])
+    rows = result.refused[: result.refusals]
+    refusals = (Refusal(it.image, Reason(it.reason), _needs(it.dependencies, it.count)) for it in rows)
     lengths = zip(texts, (result.table_length, result.report_length))
     table, report = [it.raw[:length].decode() for it, length in lengths] or ("", "")
     return Reply(

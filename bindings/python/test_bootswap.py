@@ -269,7 +269,8 @@ class Threads(unittest.TestCase):
             running.pop()
             return 0
 
-        names = "provision boot accept piece finish withdraw confirm reset slot state".split()
+        names = [f"simulate_{it}" for it in "provision boot accept piece finish withdraw confirm".split()]
+        names += ["reset", "slot", "state"]
         calls = [device.provision, device.boot, lambda: device.accept(1, []), lambda: device.piece(0, b"")]
         calls += [lambda: device.finish(0), lambda: device.withdraw(0), lambda: device.confirm(0), device.reset]
         calls += [lambda: device.slot(0), lambda: self.assertRaises(ValueError, device.state), device.start]
@@ -280,7 +281,7 @@ class Threads(unittest.TestCase):
     def test_the_calls_of_two_devices_do_not(self):
         both = threading.Barrier(2, timeout=20)
         devices = device_of("pair"), device_of("pair")
-        with mock.patch.object(bootswap._LIBRARY, "bootswap_finish", lambda *given: both.wait() * 0):
+        with mock.patch.object(bootswap._LIBRARY, "bootswap_simulate_finish", lambda *given: both.wait() * 0):
             self.run_in_threads(2, lambda number: devices[number].finish(0))
 
     def test_a_copy_of_a_device_is_another_one(self):

@@ -10,7 +10,7 @@ from unittest import mock
 
 from support.files import ROOT
 
-DRIVER_FAILED, SMALL_JOURNAL, CUT = 32, 33, 5
+DRIVER_FAILED, JOURNAL_TOO_SMALL, CUT = 32, 33, 5
 
 # The bytes after each journal, which no call may write.
 CANARY = bytes(range(0xA0, 0xE0))
@@ -83,13 +83,15 @@ class Library:
         return driver, type("Device", (ctypes.Structure,), {"_fields_": [
             ("setup", POINTER(names._Setup)),
             ("driver", POINTER(driver)),
-            ("mirror", POINTER(c_uint8)),
-            ("mirror_length", c_size_t),
+            ("flash", POINTER(c_uint8)),
+            ("flash_length", c_size_t),
+            ("copy", POINTER(c_uint8)),
             ("journal", POINTER(c_uint8)),
-            ("journal_room", c_size_t),
-            ("kept", names._SavedState),
-            ("told", names._CallResult),
+            ("journal_capacity", c_size_t),
+            ("saved", names._SavedState),
+            ("result", names._CallResult),
             ("reverted", c_uint8),
+            ("is_stale", c_uint8),
         ]})
 
     def setup(self, sector, sectors, trial_boots=1):
@@ -108,15 +110,22 @@ class Library:
 
 class Flash:
     """A flash and its driver. `cuts` says what writes leave at which power fails, by their numbers. The call of the driver of
-    number `fails_at` fails, and changes nothing. `wrong` lists what no call may ask of a driver."""
+    number `fails_at` fails, and changes nothing. `wrong` lists what no call may ask of a driver. `mapped` is memory that shows
+    the contents, if the flash is mapped."""
 
     def __init__(self, contents, sector):
-        self.bytes, self.sector = bytearray(contents), sector
+        self.bytes, self.sector, self.mapped = bytearray(contents), sector, None
         self.cuts, self.fails_at = {}, None
         self.calls, self.writes, self.is_off, self.wrong, self.made = 0, 0, False, [], []
 
     def restart(self):
         self.is_off = False
+
+    def show(self, at=0, length=None):
+        """Makes the memory of a mapped flash show a range of it."""
+        if self.mapped is not None:
+            shown = bytes(self.bytes[at : len(self.bytes) if length is None else at + length])
+            ctypes.memmove(ctypes.addressof(self.mapped) + at, shown, len(shown))
 
     def refuses(self, what):
         """Counts a call, and returns whether it fails."""
@@ -155,6 +164,7 @@ class Flash:
         self.made.append((at, old, new))
         torn = self.cuts.get(self.writes)
         self.bytes[at : at + len(new)] = new if torn is None else torn_bytes(old, new, torn)
+        self.show(at, len(new))
         self.is_off = torn is not None
         return int(self.is_off)
 
@@ -168,38 +178,53 @@ def torn_bytes(old, new, torn):
 
 
 class Driven:
-    """A device over a flash. `room` is the length of its journal in bytes."""
+    """A device over a flash. `capacity` is the length of its journal in bytes. `memory` is what the library reads: the flash
+    itself if it is mapped into memory, or a copy of it."""
 
-    def __init__(self, library, setup, flash, room):
-        self.library, self.setup, self.flash, self.room = library, setup, flash, room
+    def __init__(self, library, setup, flash, capacity, is_mapped=False):
+        self.library, self.setup, self.flash, self.capacity, self.is_mapped = library, setup, flash, capacity, is_mapped
         self.driver = library.driver_of(flash)
-        self.mirror = library.new(c_uint8 * len(flash.bytes))
-        self.journal = library.new(c_uint8 * (room + len(CANARY)))
-        self.journal[room:] = CANARY
-        mirror, journal = (ctypes.cast(it, POINTER(c_uint8)) for it in (self.mirror, self.journal))
-        parts = ctypes.pointer(setup), ctypes.pointer(self.driver), mirror, len(self.mirror), journal, room
-        self.device = library.new(library.device, *parts)
+        self.memory = library.new(c_uint8 * len(flash.bytes))
+        self.journal = library.new(c_uint8 * (capacity + len(CANARY)))
+        self.journal[capacity:] = CANARY
+        memory, journal = (ctypes.cast(it, POINTER(c_uint8)) for it in (self.memory, self.journal))
+        flash_and_copy = POINTER(c_uint8)(), memory
+        if is_mapped:
+            self.driver.read, flash.mapped = type(self.driver.read)(), self.memory
+            flash_and_copy = memory, POINTER(c_uint8)()
+            flash.show()
+        parts = ctypes.pointer(setup), ctypes.pointer(self.driver), flash_and_copy[0], len(self.memory), flash_and_copy[1]
+        self.device = library.new(library.device, *parts, journal, capacity)
         self.table, self.report = (library.new(c_char * it) for it in (20480, 2048))
 
     def call(self, name, *words):
         """Makes a call, and returns its number."""
         number = getattr(self.library.calls, name)(byref(self.device), *words)
-        if bytes(self.journal[self.room :]) != CANARY:
+        if bytes(self.journal[self.capacity :]) != CANARY:
             self.flash.wrong.append(f"{name} wrote past the journal's end")
-        if number < DRIVER_FAILED and bytes(self.mirror) != self.flash.bytes[: len(self.mirror)]:
-            self.flash.wrong.append(f"after {name} the mirror isn't what the flash holds")
+        if number < DRIVER_FAILED and bytes(self.memory) != self.flash.bytes[: len(self.memory)]:
+            self.flash.wrong.append(f"after {name} the library doesn't read what the flash holds")
         return number
 
     def open(self):
+        self.flash.show()
         return self.call("bootswap_open")
+
+    def resume(self):
+        self.flash.show()
+        return self.call("bootswap_device_resume")
 
     def provision(self):
         return self.call("bootswap_device_provision")
 
     def boot(self):
+        """Boots, with the texts of the boot."""
         table, report = (ctypes.cast(it, POINTER(c_char)) for it in (self.table, self.report))
-        room = [c_size_t(len(it)) for it in (self.table, self.report)]
-        return self.call("bootswap_device_boot", table, room[0], report, room[1])
+        lengths = [c_size_t(len(it)) for it in (self.table, self.report)]
+        return self.call("bootswap_device_boot_with_texts", table, lengths[0], report, lengths[1])
+
+    def boot_without_texts(self):
+        return self.call("bootswap_device_boot")
 
     def accept(self, manifest):
         return self.call("bootswap_device_accept", byref(manifest))
@@ -221,13 +246,13 @@ class Driven:
 
     @property
     def is_booted(self):
-        return self.device.kept.is_booted == 1
+        return self.device.saved.is_booted == 1
 
     def versions(self):
         """The versions of the images at the front of the primary slots."""
         found = self.library.new(self.library.names._Description)
         for image in range(self.setup.images):
-            args = (byref(self.setup), self.mirror, c_size_t(len(self.mirror)), c_uint8(image), c_uint8(0), byref(found))
+            args = (byref(self.setup), self.memory, c_size_t(len(self.memory)), c_uint8(image), c_uint8(0), byref(found))
             if self.library.calls.bootswap_slot(*args) != 0:
                 yield None
             else:
@@ -235,14 +260,15 @@ class Driven:
                 yield f"{it.major}.{it.minor}.{it.revision}+{it.build}"
 
     def state(self):
-        """What a call begins with: the flash, its number of writes, the saved state and the mirror."""
-        return bytes(self.flash.bytes), self.flash.writes, bytes(self.device.kept), bytes(self.mirror)
+        """What a call begins with: the flash, its number of writes, the saved state and what the library reads."""
+        return bytes(self.flash.bytes), self.flash.writes, bytes(self.device.saved), bytes(self.memory)
 
     def put(self, state):
         """Puts a state back."""
-        self.flash.bytes[:], self.flash.writes, kept, mirror = state
-        ctypes.memmove(byref(self.device.kept), kept, len(kept))
-        ctypes.memmove(self.mirror, mirror, len(mirror))
+        self.flash.bytes[:], self.flash.writes, saved, memory = state
+        ctypes.memmove(byref(self.device.saved), saved, len(saved))
+        ctypes.memmove(self.memory, memory, len(memory))
+        self.device.flash, self.device.is_stale = ctypes.cast(self.memory, POINTER(c_uint8)), 0
         self.flash.restart()
 
 
@@ -258,24 +284,24 @@ def images_of(mask):
 
 def reply_of(device, number):
     """The lines that `run` prints for a reply, without the event's number (docs/FORMATS.md, "Replies of a device")."""
-    told, images = device.device.told, images_of(device.device.told.set)
+    result, images = device.device.result, images_of(device.device.result.set)
     if number in (DRIVER_FAILED, CUT):
         return "cut"
     if number == 1:
-        kind = "permanent" if told.permanent else "trial" if told.set else "plain"
-        return f"{kind}\n{device.report.raw[: told.report_length].decode()}".rstrip("\n")
+        kind = "permanent" if result.permanent else "trial" if result.set else "plain"
+        return f"{kind}\n{device.report.raw[: result.report_length].decode()}".rstrip("\n")
     if number == 3:
-        return f"trial-again {images} left {told.left}"
+        return f"trial-again {images} left {result.left}"
     if number == 4:
-        return refused(told)
+        return refused(result)
     return "done" if number == 0 else f"number {number}"
 
 
-def refused(told):
-    if told.fault == 10:
-        check = [str(told.check)] if told.detail == 7 else []
-        return " ".join(["refused upload", str(told.detail), UPLOAD_FAULTS[told.detail], *check])
-    if told.fault == 9:
-        return f"refused manifest {told.detail} NoComponent"
-    image = [str(told.detail)] if told.fault == 5 else []
-    return " ".join(["refused boot", str(told.fault), FAULTS[told.fault], *image])
+def refused(result):
+    if result.fault == 10:
+        check = [str(result.check)] if result.detail == 7 else []
+        return " ".join(["refused upload", str(result.detail), UPLOAD_FAULTS[result.detail], *check])
+    if result.fault == 9:
+        return f"refused manifest {result.detail} NoComponent"
+    image = [str(result.detail)] if result.fault == 5 else []
+    return " ".join(["refused boot", str(result.fault), FAULTS[result.fault], *image])

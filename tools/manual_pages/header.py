@@ -15,7 +15,7 @@ COMMENT = re.compile(r"/\*.*?\*/\n", re.DOTALL)
 
 # What may be declared. The body of a call in a header isn't shown.
 DECLARED = {
-    "constant": re.compile(r"#define (?P<name>\w+) (?P<body>\S.*)\n"),
+    "constant": re.compile(r"#define (?P<name>\w+(?:\([\w, ]+\))?) (?P<body>(?:.*\\\n)*.*\S)\n"),
     "enum": re.compile(r"enum (?P<name>\w+) \{\n(?P<body>.*?)^\};\n", re.DOTALL | re.MULTILINE),
     "struct": re.compile(r"struct (?P<name>\w+) \{\n(?P<body>.*?)^\};\n", re.DOTALL | re.MULTILINE),
     "call": re.compile(

@@ -5,12 +5,13 @@ import textwrap
 
 from manual_pages.header import groups_of, parts_of
 from manual_pages.roff import COLUMNS, Page, bold, escaped, line_of
-from manual_pages.tables import add_table
+from manual_pages.tables import add_rows, add_table
 
 NAME = "libbootswap"
-HEADERS = ("bootswap.h", "bootswap_manifest.h", "bootswap_names.h")
+HEADERS = ("bootswap.h", "bootswap_simulate.h", "bootswap_manifest.h", "bootswap_names.h")
 
 SYNOPSIS = """#include <bootswap.h>
+#include <bootswap_simulate.h>
 #include <bootswap_manifest.h>
 #include <bootswap_names.h>
 
@@ -44,7 +45,7 @@ def library_pages(headers, day, version):
 def page_of(groups, day, version):
     """Returns the page of the groups of the headers."""
     page = Page(NAME, 3, day, version, "bootloader core and updater for C")
-    (about, *main), manifest, names = groups
+    (about, *main), simulation, manifest, names = groups
     page.section("SYNOPSIS")
     page.unfilled([line_of(escaped(it)) for it in SYNOPSIS.splitlines()])
     page.section("DESCRIPTION")
@@ -52,7 +53,7 @@ def page_of(groups, day, version):
     for title, kind in SECTIONS.items():
         page.section(title)
         add_groups(page, [it for it in main if it.declared[0].kind == kind])
-    for title, (about, *more) in (("MANIFESTS", manifest), ("NAMES", names)):
+    for title, (about, *more) in (("SIMULATION", simulation), ("MANIFESTS", manifest), ("NAMES", names)):
         page.section(title)
         add_comment(page, about)
         add_groups(page, more)
@@ -98,10 +99,12 @@ def declaration_of(call):
 
 
 def add_constants(page, group):
-    """Adds constants, with the comment on them before."""
+    """Adds constants, with the comment on them before. Macros with parameters are a list: their values are long."""
     add_comment(page, group)
-    rows = [[cell_of(it.name), (it.body, escaped(it.body))] for it in group.declared]
-    add_table(page, [[("Name", "Name"), ("Value", "Value")], *rows])
+    values = [" ".join(it.body.replace("\\\n", " ").split()) for it in group.declared]
+    rows = [[cell_of(it.name), (value, escaped(value))] for it, value in zip(group.declared, values)]
+    add = add_rows if any("(" in it.name for it in group.declared) else add_table
+    add(page, [[("Name", "Name"), ("Value", "Value")], *rows])
 
 
 def cell_of(name):
