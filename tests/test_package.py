@@ -42,7 +42,7 @@ FILES = {
         "lib/x86_64-linux-gnu/libbootswap_manifest.a",
         *("lib/x86_64-linux-gnu/libbootswap.so", "lib/x86_64-linux-gnu/pkgconfig/bootswap.pc"),
         "lib/x86_64-linux-gnu/cmake/bootswap/bootswap-config.cmake",
-        *("share/man/man3/libbootswap.3.gz", "share/man/man3/bootswap_boot.3.gz"),
+        *("share/man/man3/libbootswap.3.gz", "share/man/man3/bootswap_simulate_boot.3.gz"),
     },
     "python3-bootswap": {"lib/python3/dist-packages/bootswap.py"},
     "bootswap-doc": {"share/doc/bootswap/README.md", "share/doc/bootswap/docs/TUTORIAL.md"},
@@ -66,6 +66,10 @@ CHANGELOG = f"""# Changelog
 
 Some words.
 
+| Before | Now |
+|---|---|
+| `e` | [f](docs/F.md), `g` |
+
 ### Fixed
 
 - `a` and [b](docs/B.md).
@@ -82,6 +86,7 @@ CHANGES = f"""Changes:
    * A new option.
  .
    * Some words.
+   * `e` -> f, `g`
  .
    [ Fixed ]
    * `a` and b.

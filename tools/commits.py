@@ -1,4 +1,4 @@
-"""The commit in a built program, as `--version` prints it: `1.0.0 (0123456789ab)`.
+"""The commit in a built program, as `--version` prints it: `2.0.0 (0123456789ab)`.
 
 The sources have zeros for the first digits of the commit, since proving each commit anew would take too long. The build
 writes the digits into the linked program. A `+` for the blank says that the crates differed from the commit.

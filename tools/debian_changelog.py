@@ -41,13 +41,21 @@ def debian_changelog(maintainer, seconds):
 
 
 def changes_in(text, before=""):
-    """Returns the lines of a section: the title of each part in brackets, and its items."""
+    """Returns the lines of a section: the title of each part in brackets, and its items. A row of a table is an item."""
     lines = []
     for block in re.split(r"\n\n|\n(?=- )", text.strip()):
-        words = re.sub(r"\[([^\]]+)\]\([^)]*\)", r"\1", " ".join(block.split()))
+        block = re.sub(r"\[([^\]]+)\]\([^)]*\)", r"\1", block)
+        words = " ".join(block.split())
         if words.startswith("### "):
             lines += ["", f"  [ {before}{words.removeprefix('### ')} ]"]
-        elif words:
+        else:
+            items = items_of(block) if block.startswith("|") else [words.removeprefix("- ")]
             marks = {"initial_indent": "  * ", "subsequent_indent": "    "}
-            lines += textwrap.wrap(words.removeprefix("- "), COLUMNS, break_on_hyphens=False, **marks)
+            for item in filter(None, items):
+                lines += textwrap.wrap(item, COLUMNS, break_on_hyphens=False, **marks)
     return lines
+
+
+def items_of(table):
+    """Returns an item for each row of a table: its cells, with an arrow between them."""
+    return [" -> ".join(it.strip() for it in row.strip("| ").split("|")) for row in table.splitlines()[2:]]

@@ -373,12 +373,12 @@ pub const SUBCOMMANDS: [Subcommand; 15] = [
 ];
 
 /// The version of the program, as in `include/bootswap.h`.
-pub const VERSION: &str = "1.0.0";
+pub const VERSION: &str = "2.0.0";
 
 /// The version and the commit, as `--version` prints them. Zeros mean that the commit is unknown. The
 /// build writes the first twelve digits of the commit over them in the linked program, and a `+` over
 /// the blank if the crates differ from the commit. So this text must occur nowhere else.
-const VERSION_AND_COMMIT: &str = "1.0.0 (000000000000)";
+const VERSION_AND_COMMIT: &str = "2.0.0 (000000000000)";
 
 /// Returns the program with its subcommands.
 pub fn bootswap<'a>(alloc: Global) -> Result<Command<'a>, AllocError>

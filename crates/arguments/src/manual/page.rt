@@ -7,7 +7,7 @@ use command_line::{Help, PROGRAM, SUBCOMMANDS, Subcommand, VERSION};
 
 /// The section of the manual, and the day of the release. A page has this date, so that each build
 /// makes the same page.
-const EDITION: &str = " 1 2026-11-28 \"bootswap ";
+const EDITION: &str = " 1 2026-11-30 \"bootswap ";
 
 /// The option for help, which `clap` adds to each command.
 const HELP_OPTION: &str = ".TP\n\\fB\\-h\\fR, \\fB\\-\\-help\\fR\nPrint help\n";
