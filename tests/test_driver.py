@@ -722,15 +722,15 @@ class MalformedTest(DriverTest):
         self.case("two writes", [f"{number}, {made}"] * ((number, made) != (0, [(1024, 512), (1032, bytes(range(16)))])))
 
     def test_no_progress(self):
-        """A boot whose attempts write the same ends after two of them."""
+        """A boot whose attempts are all cut ends: after three for each sector of the slots, and seventeen."""
         shortest = JOURNAL["BOOT"](1, 512)
         for journal, used in ((bytes(shortest), 0), ((words(0, 512, 8) + bytes(shortest))[:shortest], 20)):
             device, made = self.opened(journal, used, CUT)
             calls = self.library.calls
+            most = 3 * sum(device.setup[0].sectors[: device.setup[0].images]) + 17
             number = calls.bootswap_device_boot(byref(device))
             got = (number, calls.malformed_attempts(), len(made))
-            self.case(f"a boot that writes {used} bytes", [got] * (got != (JOURNAL_TOO_SMALL, 2, 2 * (used > 0))))
-
+            self.case(f"a boot that writes {used} bytes", [got] * (got != (JOURNAL_TOO_SMALL, most, most * (used > 0))))
 
     def test_reverts_only(self):
         """A call makes at most two boots. If both revert, it fails."""

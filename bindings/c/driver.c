@@ -120,32 +120,30 @@ static uint32_t end(struct bootswap_device *device, uint32_t status) {
 }
 
 /* The attempts of a boot: how many bytes of a full journal each performs, the number of writes so
- * far, and the digest of what the last attempt performed. */
+ * far, and how many further attempts may follow. */
 struct attempts {
     size_t limit;
     uint64_t writes;
-    struct bootswap_sha256 last;
+    uint64_t left;
 };
 
-static bool is_same(const struct bootswap_sha256 *one, const struct bootswap_sha256 *other) {
-    for (size_t i = 0; i < sizeof one->bytes; i++) {
-        if (one->bytes[i] != other->bytes[i]) {
-            return false;
-        }
+/*
+ * The most attempts of a boot that are cut, if the flash holds a state. It is proved that each of
+ * them gets further: it counts a step of the swap, records another state, or settles a set. A swap
+ * has three steps for each sector of its slots. A boot makes one swap at most, and five records.
+ */
+static uint64_t most_attempts(const struct bootswap_setup *setup) {
+    uint64_t sectors = 0;
+    for (size_t i = 0; i < setup->images && i < BOOTSWAP_MAX_IMAGES; i++) {
+        sectors += setup->sectors[i];
     }
-    return true;
+    return 3 * sectors + 16;
 }
 
-/*
- * Ends an attempt that returned `*status`, and returns whether another one has to follow.
- *
- * None follows two attempts that performed the same. The first of them left, in each range that it
- * wrote, what the second one wrote there again. So the second one changed nothing, and an attempt
- * is a function of the flash: each later one would write the same.
- */
+/* Ends an attempt that returned `*status`, and returns whether another one has to follow. A flash
+ * that holds no state may cut each attempt, so there is an end to them. */
 static bool has_to_follow(struct bootswap_device *device, struct attempts *attempts,
                           uint32_t *status) {
-    struct bootswap_sha256 digest;
     if (!perform(device, *status == BOOTSWAP_CUT ? attempts->limit : SIZE_MAX)) {
         *status = fail(device);
         return false;
@@ -155,12 +153,11 @@ static bool has_to_follow(struct bootswap_device *device, struct attempts *attem
     if (*status != BOOTSWAP_CUT) {
         return false;
     }
-    bootswap_digest(device->journal, (size_t)device->result.journal_length, &digest);
-    if (is_same(&digest, &attempts->last)) {
+    if (attempts->left == 0) {
         *status = BOOTSWAP_JOURNAL_TOO_SMALL;
         return false;
     }
-    attempts->last = digest;
+    attempts->left--;
     return true;
 }
 
@@ -247,7 +244,9 @@ static uint32_t boot_once(struct bootswap_device *device, boot_call *call,
     if (step > 0 && after <= device->journal_capacity) {
         steps = (device->journal_capacity - after) / step * step;
     }
-    struct attempts attempts = {.limit = steps, .writes = device->result.writes};
+    struct attempts attempts = {.limit = steps,
+                                .writes = device->result.writes,
+                                .left = most_attempts(device->setup)};
     if (steps < after_steps(device, BOOTSWAP_MAX_IMAGES)) {
         attempts.limit = SIZE_MAX;
     }
