@@ -1,5 +1,5 @@
 -- What the call that provisions a device does, and what each of its steps does.
-use Rattle.std.specs.Prelude.{◌≡◌, ◌⊎◌, ◌≤◌, ℕ, ◌+◌, ◌*◌, Bool, true, false, List, Option, Result}
+use Rattle.std.specs.Prelude.{◌≡◌, ◌⊎◌, ◌≤◌, ℕ, ◌+◌, ◌*◌, ◌++◌, ◌∷◌, [], Bool, true, false, List, Option, Result}
 use Rattle.std.specs.Prelude.{Err, IfErr, OnOk}
 use Rattle.flash_model.specs.declared.error.FlashError.{FlashError}
 use Rattle.flash_model.specs.Chip.{Chip, Ends}
@@ -11,6 +11,8 @@ use Rattle.certificate.specs.declared.table.Image.{Image}
 use Rattle.machine.specs.declared.error.Fault.{Fault}
 use Rattle.flash_model.specs.declared.error.FlashError.TheVariants.{Off}
 use Rattle.machine.specs.declared.error.Fault.TheVariants.{Flash, InvalidSet, RunningDamaged}
+use Rattle.decision.specs.Places.{read_as, some_if}
+use Rattle.decision.specs.Telling.{TellsUnlessOff}
 use Rattle.boot_core.specs.Answers.{IsOff}
 use Rattle.boot_core.specs.Provisioned.{AnswersMaking, AreCleared, EndsMaking, IsDoneOrCut}
 use Rattle.boot_core.specs.Provisioned.{IsFirstDamaged, IsInvalidThere, IsJudged, IsProvisioned}
@@ -21,6 +23,14 @@ use Rattle.boot_core.specs.Provisioned.{provided, running_bytes}
 -- The row of an image that its primary slot begins with, or None if that isn't intact.
 abbrev pub IsRowIn : SectorMap → ℕ → Chip → Option Image → Type 0
 IsRowIn map image chip row = IsRowThere (running_bytes map chip image) row
+
+-- A call adds the row of the image that a primary slot begins with.
+pub record PushesRunning (map : SectorMap) (image : ℕ) (old new : Chip) (before after : List Image)
+    (result : Result Bool FlashError) : Type 0 where
+  pub row : Image
+  -- One row is added.
+  pub pushed : after ≡ before ++ row ∷ []
+  pub reads : TellsUnlessOff (IsRowIn map image) old new (read_as (some_if row) result)
 
 -- A call checks the images in the primary slots.
 pub record Judges (map : SectorMap) (old new : Chip) (result : Result (List ℕ) Fault)

@@ -1,6 +1,7 @@
 //! Provisions a flash: makes it a device's.
 
-ghost use Rattle.std.specs.Prelude.{◌≡◌, ℕ, ◌*◌, ◌≤◌, List, OnOk, slice_index};
+ghost use Rattle.std.specs.Prelude.{◌≡◌, ℕ, ◌*◌, ◌<◌, ◌≤◌, List, OnOk, length, slice_index};
+ghost use Rattle.common.specs.Limits.{MOST_IMAGES};
 ghost use Rattle.sector_map.specs.Map.{HasImage, IsLaidOut};
 ghost use Rattle.sector_map.specs.Part.{trailers_of};
 ghost use Rattle.image_reading.specs.Image.{BeginsIntact};
@@ -8,59 +9,79 @@ ghost use Rattle.boot_core.specs.FirstState.{HoldsFirst};
 ghost use Rattle.boot_core.specs.Provisioned.{AreCounters, IsReadThere};
 ghost use Rattle.boot_core.specs.Provisioned.{IsRunningRow, any_trailer};
 ghost use Rattle.boot_core.specs.Provisions.{AreClearedIn, BeginsAfresh, IsClearedIn, IsRowIn};
-ghost use Rattle.boot_core.specs.Provisions.{Judges, Leaves, MakesDevice, Provisions};
+ghost use Rattle.boot_core.specs.Provisions.{Judges, Leaves, MakesDevice, Provisions, PushesRunning};
+ghost use Rattle.decision.specs.Places.{read_as, reading_in, some_if};
 ghost use Rattle.decision.specs.Telling.{TellsUnlessOff};
 
 use crate::deciding::raised_floors;
 use arrayvec::ArrayVec;
 use certificate::{Image, Request, Table, is_valid};
 use common::limits::MOST_IMAGES;
-use decision::entry_of;
+use decision::{push_blank_row, put_entry};
 use flash_model::{Flash, Result};
-use image_reading::{Desc, intact_image};
-use machine::{Fault, Reading};
+use image_reading::{Desc, intact_image_into};
+use machine::Fault;
 use sector_map::{SectorMap, Side};
 use set_log::{State, start};
 use trailer::clear;
 
-/// The row of a running image, from its description: it has no request, and its own security
+/// Fills the row of a running image, from its description: it has no request, and its own security
 /// counter is the floor.
-fn running_image(description: Desc) -> Image
-    ensures { (whole : List ℕ) → BeginsIntact whole description → IsRunningRow whole result }
+fn put_running(description: Desc, row: &mut Image)
+    ensures { (whole : List ℕ) → BeginsIntact whole description → IsRunningRow whole row.new }
 {
-    let floor = description.counter;
-    Image {
-        running: entry_of(description),
-        request: Request::None,
-        floor,
-    }
+    row.floor = description.counter;
+    row.request = Request::None;
+    put_entry(description, &mut row.running);
 }
 
-/// The row of the image that a primary slot begins with, or `None` if that isn't intact.
-fn read_row<F: Flash>(flash: &mut F, map: &SectorMap, image: u8) -> Result<Option<Image>>
+/// Reads the row of the image that a primary slot begins with into a place. Returns whether the
+/// image is intact.
+fn read_row<F: Flash>(flash: &mut F, map: &SectorMap, image: u8, row: &mut Image) -> Result<bool>
     requires { HasImage map.now image (F.chip flash.old) }
-    ensures { TellsUnlessOff (IsRowIn map.now image) (F.chip flash.old) (F.chip flash.new) result }
+    ensures { TellsUnlessOff (IsRowIn map.now image) (F.chip flash.old) (F.chip flash.new)
+        (read_as (some_if row.new) result) }
 {
-    match intact_image(flash, map, image, Side::Primary)? {
-        Some(description) => Ok(Some(running_image(description))),
-        None => Ok(None),
+    let mut description = Desc::default();
+    if !intact_image_into(flash, map, image, Side::Primary, &mut description)? {
+        return Ok(false);
     }
+    put_running(description, row);
+    Ok(true)
 }
 
-/// The table of the images that the primary slots begin with, or the lowest image that isn't
-/// intact.
-fn read_running<F: Flash>(flash: &mut F, map: &SectorMap) -> Result<Reading>
-    requires laid_out { IsLaidOut map.now (F.chip flash.old) }
-    ensures { TellsUnlessOff (IsReadThere map.now) (F.chip flash.old) (F.chip flash.new) result }
+/// Adds the row of the image that a primary slot begins with. Returns whether the image is intact.
+/// Otherwise the row may be any.
+fn push_row<F: Flash>(
+    flash: &mut F,
+    map: &SectorMap,
+    image: u8,
+    images: &mut ArrayVec<Image, MOST_IMAGES>,
+) -> Result<bool>
+    requires there { HasImage map.now image (F.chip flash.old) }
+    requires few { length images.old.items < MOST_IMAGES }
+    ensures { PushesRunning map.now image (F.chip flash.old) (F.chip flash.new)
+        images.old.items images.new.items result }
 {
-    let mut images = ArrayVec::new();
+    let last = images.len();
+    push_blank_row(images);
+    read_row(flash, map, image, &mut images[last])
+}
+
+/// Reads the table of the images that the primary slots begin with into a place. Returns the lowest
+/// image that isn't intact, if there is one.
+fn read_running<F: Flash>(flash: &mut F, map: &SectorMap, table: &mut Table) -> Result<Option<u8>>
+    requires laid_out { IsLaidOut map.now (F.chip flash.old) }
+    ensures { TellsUnlessOff (IsReadThere map.now) (F.chip flash.old) (F.chip flash.new)
+        (read_as (reading_in table.new) result) }
+{
+    table.images.clear();
     for image in 0..map.images {
-        match read_row(flash, map, image)? {
-            None => return Ok(Reading::DamagedAt(image)),
-            Some(row) => images.push(row),
+        if !push_row(flash, map, image, &mut table.images)? {
+            return Ok(Some(image));
         }
     }
-    Ok(Reading::Read(Table { images }))
+    Ok(None)
 }
 
 /// The security counters of the running images of a table.
@@ -70,14 +91,17 @@ fn running_counters(table: &Table) -> [u32; MOST_IMAGES]
     raised_floors(table, 0, &[0; MOST_IMAGES])
 }
 
-/// The security counters of the running images, if these are intact and valid.
+/// The security counters of the running images, if these are intact and valid. The table takes
+/// stack only here.
+#[inline(never)]
 fn judge<F: Flash>(flash: &mut F, map: &SectorMap) -> Result<[u32; MOST_IMAGES], Fault>
     requires laid_out { IsLaidOut map.now (F.chip flash.old) }
     ensures { Judges map.now (F.chip flash.old) (F.chip flash.new) result }
 {
-    match read_running(flash, map)? {
-        Reading::DamagedAt(image) => Err(Fault::RunningDamaged(image)),
-        Reading::Read(table) => {
+    let mut table = Table::default();
+    match read_running(flash, map, &mut table)? {
+        Some(image) => Err(Fault::RunningDamaged(image)),
+        None => {
             if !is_valid(&table) {
                 return Err(Fault::InvalidSet);
             }

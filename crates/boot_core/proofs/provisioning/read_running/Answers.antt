@@ -1,7 +1,8 @@
-use Rattle.std.proofs.Common.{rules, sym, subst, arith, ◌≡◌, ◌<◌, ◌≤◌, ◌+◌, ◌∙◌, true}
+use Rattle.std.proofs.Common.{rules, ap, sym, subst, arith, ◌≡◌, ◌<◌, ◌≤◌, ◌+◌, ◌∙◌, true}
 use Rattle.flash_model.specs.Chip.{Chip}
 use Rattle.sector_map.specs.Map.{IsLaidOut}
 use Rattle.boot_core.specs.Provisioned.{AreRunningRows, IsRowThere, running_bytes}
+use Rattle.decision.specs.Places.{some_if}
 use Rattle.boot_core.proofs.Afresh.{first_damaged, rows_more, rows_none}
 use Rattle.boot_core.proofs.provisioning.read_running.Goals as goal
 
@@ -12,40 +13,45 @@ loop-image-init g c = record {
   same = search rules;
   on = λ some. absurd (omega (arith, some));
   rows = subst (λ l. AreRunningRows c.args.map.now (g.F.Flash.chip c.args.flash.now) 0 l)
-      (sym c.new-images.ensures) (rows_none c.args.map.now (g.F.Flash.chip c.args.flash.now));
+      (sym c.clear.ensures) (rows_none c.args.map.now (g.F.Flash.chip c.args.flash.now));
 }
 
-pub returns-in-None : goal.returns-in-None
-returns-in-None g c = record {
-  same = search rules;
-  ok =
-      let map = c.args.map.now in
-      let old = g.F.Flash.chip c.args.flash.now in
-      let lt : c.loop-image.image < c.args.map.now.images = omega arith in
-      first_damaged map old c.loop-image.image _ c.loop-image.invariant.rows lt
-      (subst (λ found. IsRowThere (running_bytes map old c.loop-image.image) found) c.in-None.is
-      (subst (λ chip. IsRowThere (running_bytes map chip c.loop-image.image) c.in_ok-read_row.field-0)
-      c.loop-image.invariant.same c.in_ok-read_row.ensures.ok));
-  ends = search rules;
-  on = subst (λ (chip : Chip). chip.is_on ≡ true) c.loop-image.invariant.same c.in_ok-read_row.ensures.on;
-  off = search rules;
-}
+pub returns-then-not-branch : goal.returns-then-not-branch
+returns-then-not-branch g c =
+    let pushed = c.in_ok-push_row.ensures in
+    record {
+      same = pushed.reads.same ∙ c.loop-image.invariant.same;
+      ok =
+          let map = c.args.map.now in
+          let old = g.F.Flash.chip c.args.flash.now in
+          let lt : c.loop-image.image < c.args.map.now.images = omega arith in
+          first_damaged map old c.loop-image.image _ c.loop-image.invariant.rows lt
+          (subst (λ found. IsRowThere (running_bytes map old c.loop-image.image) found)
+          (ap (λ is. some_if pushed.row is) c.if-not-branch.true)
+          (subst (λ chip. IsRowThere (running_bytes map chip c.loop-image.image)
+          (some_if pushed.row c.in_ok-push_row.field-0)) c.loop-image.invariant.same pushed.reads.ok));
+      ends = search rules;
+      on = subst (λ (chip : Chip). chip.is_on ≡ true) c.loop-image.invariant.same pushed.reads.on;
+      off = search rules;
+    }
 
 pub loop-image-preserved : goal.loop-image-preserved
 loop-image-preserved g c =
     let map = c.args.map.now in
     let old = g.F.Flash.chip c.args.flash.now in
+    let pushed = c.in_ok-push_row.ensures in
     record {
-      laid_out = subst (λ chip. IsLaidOut c.args.map.now chip) (sym c.read_row.ensures.same)
+      laid_out = subst (λ chip. IsLaidOut c.args.map.now chip) (sym pushed.reads.same)
           c.loop-image.invariant.laid_out;
       few = search rules;
-      same = c.read_row.ensures.same ∙ c.loop-image.invariant.same;
-      on = λ some. subst (λ (chip : Chip). chip.is_on ≡ true) c.loop-image.invariant.same c.in_ok-read_row.ensures.on;
-      rows = subst (λ l. AreRunningRows map old (c.loop-image.image + 1) l) (sym c.push.ensures.items)
+      same = pushed.reads.same ∙ c.loop-image.invariant.same;
+      on = λ some. subst (λ (chip : Chip). chip.is_on ≡ true) c.loop-image.invariant.same pushed.reads.on;
+      rows = subst (λ l. AreRunningRows map old (c.loop-image.image + 1) l) (sym pushed.pushed)
           (rows_more map old c.loop-image.image _ _ c.loop-image.invariant.rows
-          (subst (λ found. IsRowThere (running_bytes map old c.loop-image.image) found) c.in-Some.is
-          (subst (λ chip. IsRowThere (running_bytes map chip c.loop-image.image) c.in_ok-read_row.field-0)
-          c.loop-image.invariant.same c.in_ok-read_row.ensures.ok)));
+          (subst (λ found. IsRowThere (running_bytes map old c.loop-image.image) found)
+          (ap (λ is. some_if pushed.row is) c.if-not-branch.false)
+          (subst (λ chip. IsRowThere (running_bytes map chip c.loop-image.image)
+          (some_if pushed.row c.in_ok-push_row.field-0)) c.loop-image.invariant.same pushed.reads.ok)));
     }
 
 pub returns : goal.returns

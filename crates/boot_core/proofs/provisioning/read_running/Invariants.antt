@@ -9,5 +9,5 @@ invariant-loop-image g l = record {
   few : l.image-end ≤ 8;
   same : g.F.Flash.chip l.flash ≡ g.F.Flash.chip l.initial.flash;
   on : 0 < l.image → (g.F.Flash.chip l.initial.flash).is_on ≡ true;
-  rows : AreRunningRows l.map (g.F.Flash.chip l.initial.flash) l.image l.images.items;
+  rows : AreRunningRows l.map (g.F.Flash.chip l.initial.flash) l.image l.table.images.items;
 }
