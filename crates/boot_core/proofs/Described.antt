@@ -1,5 +1,5 @@
 -- How much of a slot is used, by the description of its image.
-use Rattle.std.proofs.Common.{◌≡◌, ℕ, ◌+◌, ◌*◌, ◌<◌, ◌≤◌, ◌^◌, List, length, sym, ◌∙◌, ap, arith, length-append}
+use Rattle.std.proofs.Common.{◌≡◌, ℕ, ◌+◌, ◌*◌, ◌<◌, ◌≤◌, ◌^◌, List, length, refl, sym, ◌∙◌, ap, arith, length-append}
 use Rattle.flash_model.specs.Chip.{Chip}
 use Rattle.flash_model.proofs.Frame.{mul_le}
 use Rattle.sector_map.specs.declared.layout.SectorMap.{SectorMap}
@@ -13,6 +13,7 @@ use Rattle.image_reading.specs.Fault.{IsFrontFault}
 use Rattle.image_reading.specs.Image.{BeginsIntact}
 use Rattle.image_reading.specs.Slot.{slot_bytes}
 use Rattle.image_reading.proofs.Descriptions.{front-unique, front_has_no_fault}
+use Rattle.machine.specs.Starting.{IsHeld}
 use Rattle.boot_core.specs.Preparing.{IsSizeIn, IsUsedIn}
 use Rattle.boot_core.specs.SwapSize.{IsUsed}
 use Rattle.decision.proofs.Described.{described_front}
@@ -48,6 +49,15 @@ slot_small map image fits =
     mul_le (slot_sectors map image) 5459 map.sector_size few in
     omega (arith, all, fits.sector.most)
 
+-- A slot has at least one byte.
+pub slot_some : (map : SectorMap) (image : ℕ) → IsMap map → image < map.images
+    → 0 < slot_sectors map image * map.sector_size
+slot_some map image fits there =
+    let some : 1 ≤ slot_sectors map image = fits.counts.some image there in
+    let all : 1 * map.sector_size ≤ slot_sectors map image * map.sector_size =
+    mul_le 1 (slot_sectors map image) map.sector_size some in
+    omega (arith, all, fits.sector.least)
+
 -- A slot that begins with an intact image uses the length of that image.
 described_used : (slot : List ℕ) (d : Desc) → BeginsIntact slot d → IsUsed slot d.length
 described_used slot d begins = record {
@@ -82,3 +92,9 @@ fault_size map chip image side fault n laid failed long some = record {
   some = some;
   most = omega (arith, long);
 }
+
+-- A slot that holds an image begins with it.
+pub held_begins : (slot : List ℕ) → IsHeld slot → (d : Desc) × BeginsIntact slot d
+held_begins slot held =
+    let there = held.1.image held.0 refl in
+    (there.1.0, (held.0, there.0.0, there.0.1, there.1.1))

@@ -1,12 +1,14 @@
 -- Which images a boot may move, and what the primary slots begin with by a decision.
-use Rattle.std.proofs.Common.{◌≡◌, ℕ, Bool, true, false, ◌||◌, length, Option, Some, None, IsSomeAnd, is_some, ap, refl, subst, sym, ◌∙◌}
+use Rattle.std.proofs.Common.{◌≡◌, ℕ, ◌<◌, Bool, List, true, false, ◌||◌, length, Option, Some, None, IsSomeAnd, is_some, ap, refl, subst, sym, ◌∙◌}
 use Rattle.std.proofs.lemmas.Bool.{false≢true}
 use Rattle.flash_model.specs.Chip.{Chip}
 use Rattle.sector_map.specs.declared.layout.SectorMap.{SectorMap}
 use Rattle.sector_map.specs.declared.layout.Side.TheVariants.{Primary, Secondary}
 use Rattle.sector_map.specs.Map.{Keeps}
 use Rattle.sector_map.specs.Part.{Log, is_member, only}
+use Rattle.certificate.specs.declared.table.Entry.{Entry}
 use Rattle.certificate.specs.declared.table.Image.{Image}
+use Rattle.certificate.specs.declared.table.Request.{Request}
 use Rattle.certificate.specs.declared.table.Table.{Table}
 use Rattle.certificate.specs.declared.table.Request.TheVariants as request
 use Rattle.certificate.specs.declared.report.Report.{Report}
@@ -19,9 +21,10 @@ use Rattle.set_log.specs.Log.{state_of}
 use Rattle.upload.specs.Steady.{request_in, told_by}
 use Rattle.upload.specs.View.{View, view}
 use Rattle.upload.proofs.Views.{view_kept}
-use Rattle.machine.specs.Starting.{HoldsEntry, StartsSet}
+use Rattle.machine.specs.Starting.{AreHeld, HoldsEntry, IsHeld, StartsSet}
 use Rattle.machine.proofs.Steadying.{no_member}
-use Rattle.decision.specs.Found.{AreRowsHeld, IsRowAsked}
+use Rattle.decision.specs.Found.{AreRowsHeld, IsRequestHeld, IsRowAsked, IsRowWanted}
+use Rattle.boot_core.specs.Preparing.{IsSetHeld}
 use Rattle.boot_core.specs.Moving.{is_recorded, may_move}
 
 or_right : (a b : Bool) → b ≡ true → (a || b) ≡ true
@@ -98,3 +101,37 @@ starts_set w table report mask count held greatest each = record {
   each = λ i row there. subst (λ b. HoldsEntry (w.slot i Primary) (entry_in row b)) (each i) (held.held i row there);
   valid = greatest.valid;
 }
+
+-- A slot that begins with the image of an entry begins with an intact image.
+entry_held : (slot : List ℕ) (entry : Entry) → HoldsEntry slot entry → IsHeld slot
+entry_held slot entry held = (held.0, held.1)
+
+-- A request that is taken is that of the image in its slot.
+wanted_held : (slot : List ℕ) (asked : Request) (P : Entry → Type 0) → IsSomeAnd (intact_entry asked) P
+    → IsRequestHeld slot asked → IsHeld slot
+wanted_held slot request.None P accepts held = absurd accepts
+wanted_held slot request.Damaged P accepts held = absurd accepts
+wanted_held slot (request.Entry entry) P accepts held = entry_held slot entry held
+
+-- An image that is taken has a row.
+taken_held : (slot : List ℕ) (found : Option Image) → ((row : Image) → found ≡ Some row
+    → IsSomeAnd (intact_entry row.request) (λ entry. MayReplace row entry) → IsHeld slot)
+    → IsSomeAnd found (λ image. IsSomeAnd (intact_entry image.request) (λ entry. MayReplace image entry))
+    → IsHeld slot
+taken_held slot None rows accepts = absurd accepts
+taken_held slot (Some row) rows accepts = rows row refl accepts
+
+-- Each image that a decision takes is intact, and so is the running one that it replaces.
+pub set_held : (map : SectorMap) (old : Chip) (table : Table) (report : Report) (mask : ℕ)
+    → AreRowsHeld (view map old) 0 table.images.items → IsGreatest table (taken_in report)
+    → ((i : ℕ) → is_member mask i ≡ taken_in report i) → IsSetHeld map mask old
+set_held map old table report mask held greatest each = λ side.
+    elim side as (λ on. AreHeld (view map old) mask on map.images) [
+      | Primary ↦ λ i lt member. taken_held ((view map old).slot i Primary) (image_at table i)
+          (λ row there accepts. entry_held _ _ (held.held i row there))
+          (greatest.valid.members i (sym (each i) ∙ member))
+      | Secondary ↦ λ i lt member. taken_held ((view map old).slot i Secondary) (image_at table i)
+          (λ row there accepts. wanted_held _ row.request _ accepts
+          (subst (λ b. IsRowWanted (view map old) b i (Some row)) (no_member i) (held.wanted i row there)))
+          (greatest.valid.members i (sym (each i) ∙ member))
+    ]

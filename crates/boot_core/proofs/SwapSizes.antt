@@ -1,11 +1,11 @@
 -- Lemmas for trailers that are prepared one after the other.
-use Rattle.std.proofs.Common.{◌≡◌, ◌≢◌, ℕ, ◌+◌, ◌<◌, ◌≤◌, ◌==◌, List, length, ◌&&◌, true, false, Some, arith, refl, sym, ◌∙◌, ap, subst}
+use Rattle.std.proofs.Common.{◌≡◌, ◌≢◌, ℕ, Bool, ◌+◌, ◌<◌, ◌≤◌, ◌==◌, List, length, ◌&&◌, true, false, Some, arith, refl, sym, ◌∙◌, ap, subst}
 use Rattle.std.proofs.lemmas.Bool.Decides.{nat_tests}
 use Rattle.flash_model.specs.Chip.{Chip}
 use Rattle.sector_map.specs.declared.layout.SectorMap.{SectorMap}
 use Rattle.sector_map.specs.declared.layout.Side.{Side}
 use Rattle.sector_map.specs.declared.layout.Side.TheVariants.{Primary, Secondary}
-use Rattle.sector_map.specs.Part.{TrailerOf, is_member, only, same_side, trailers_on}
+use Rattle.sector_map.specs.Part.{Part, Slot, TrailerOf, is_member, only, same_side, trailers_on}
 use Rattle.sector_map.proofs.Parts.{keeps_wider}
 use Rattle.sector_map.proofs.Touched.{trailer_on_side}
 use Rattle.sector_map.specs.Map.{Keeps}
@@ -15,6 +15,8 @@ use Rattle.upload.specs.View.{View, view}
 use Rattle.upload.proofs.Views.{view_kept}
 use Rattle.machine.specs.Prepared.{IsRoomFor, IsRoomForBoth}
 use Rattle.machine.proofs.Preparing.{prepared, prepared_kept}
+use Rattle.machine.specs.Starting.{IsHeld}
+use Rattle.boot_core.specs.Preparing.{IsImageHeld}
 use Rattle.boot_core.specs.SwapSize.{IsReady, IsSwapSize, IsUsed}
 use Rattle.decision.proofs.Described.{intact_long}
 use Rattle.boot_core.proofs.Masks.{members_more}
@@ -98,3 +100,9 @@ pub ready_more : (map : SectorMap) (mask n : ℕ) (side : Side) (old new : Chip)
 ready_more map mask n side old new before kept here =
     members_more (λ i. IsReady (view map new) side i) mask n
     (λ i lt member. let other : i ≢ n = λ is. omega (arith, is, lt) in kept i other (before i lt member)) here
+
+-- What the slots of an image begin with stays while trailers are written.
+pub held_kept : (map : SectorMap) (touched : Part → Bool) (i : ℕ) (old new : Chip) → Keeps map touched old new
+    → ((on : Side) → touched (Slot i on) ≡ false) → IsImageHeld map i old → IsImageHeld map i new
+held_kept map touched i old new keeps aside held = λ on.
+    subst (λ slot. IsHeld slot) (sym ((view_kept map touched old new keeps).slots i on (aside on))) (held on)

@@ -10,6 +10,7 @@ use Rattle.swap_scratch.specs.Swap.{share}
 use Rattle.image_reading.specs.Slot.{slot_bytes}
 use Rattle.upload.specs.View.{view}
 use Rattle.machine.specs.Prepared.{IsPrepared}
+use Rattle.machine.specs.Starting.{AreHeld, IsHeld}
 use Rattle.machine.specs.Wear.{members}
 use Rattle.boot_core.specs.SwapSize.{IsReady, IsSwapSize, IsUsed}
 
@@ -20,6 +21,14 @@ IsUsedIn map image side chip size = IsUsed (slot_bytes map chip image side) size
 -- How many bytes of each slot of an image a swap moves.
 abbrev pub IsSwapSizeIn : SectorMap → ℕ → Chip → ℕ → Type 0
 IsSwapSizeIn map image chip size = IsSwapSize (view map chip) image size
+
+-- Both slots of an image begin with intact images.
+abbrev pub IsImageHeld : SectorMap → ℕ → Chip → Type 0
+IsImageHeld map image chip = (side : Side) → IsHeld (slot_bytes map chip image side)
+
+-- Both slots of each image of a set begin with intact images.
+abbrev pub IsSetHeld : SectorMap → ℕ → Chip → Type 0
+IsSetHeld map mask chip = (side : Side) → AreHeld (view map chip) mask side map.images
 
 -- A number of bytes in a slot of an image.
 pub record IsSizeIn (map : SectorMap) (image : ℕ) (says : Chip → ℕ → Type 0) (chip : Chip)

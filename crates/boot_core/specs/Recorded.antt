@@ -9,6 +9,7 @@ use Rattle.set_log.specs.declared.state.RecordKind.{RecordKind}
 use Rattle.set_log.specs.declared.state.State.{State}
 use Rattle.set_log.specs.Log.{state_of}
 use Rattle.set_log.specs.States.{Appends}
+use Rattle.boot_core.specs.Preparing.{IsSetHeld}
 
 -- The map is laid out on the flash, and the log says this state.
 pub record HasRecord (map : SectorMap) (state : State) (chip : Chip) : Type 0 where
@@ -22,12 +23,13 @@ pub record HasRecordOf (map : SectorMap) (which : RecordKind) (state : State) (c
   pub kind : state.kind ≡ which
 
 -- The map is laid out on the flash, and the log says this state. A set of some images of the map is
--- to be taken.
+-- to be taken. All its images are intact, the running and the requested ones.
 pub record CanTake (map : SectorMap) (state : State) (mask : ℕ) (chip : Chip) : Type 0 where
   pub laid_out : IsLaidOut map chip
   pub read : state_of map chip ≡ Some state
   pub some : mask ≢ 0
   pub within : IsWithin map mask
+  pub held : IsSetHeld map mask chip
 
 -- The log says `state`, and `now` is that.
 pub record IsStateRecorded (map : SectorMap) (state : State) (old new : Chip) (now : State)

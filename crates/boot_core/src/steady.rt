@@ -34,7 +34,7 @@ fn begin_swap<F: Flash>(
     ensures { BeginsSwap map.now state.now mask permanent
         (F.chip flash.old) (F.chip flash.new) result }
 {
-    prepare_set(flash, map, mask, Side::Primary)?;
+    prepare_set(flash, map, mask, Side::Primary, true)?;
     let swap = State {
         kind: RecordKind::Swap,
         mask,

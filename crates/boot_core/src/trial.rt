@@ -205,7 +205,7 @@ fn begin_back<F: Flash>(flash: &mut F, map: &SectorMap, state: &State) -> Result
     requires { HasRecordOf map.now RecordKind.Trial state.now (F.chip flash.old) }
     ensures { BeginsBack map.now state.now (F.chip flash.old) (F.chip flash.new) result }
 {
-    prepare_set(flash, map, state.mask, Side::Secondary)?;
+    prepare_set(flash, map, state.mask, Side::Secondary, false)?;
     let back = State {
         kind: RecordKind::Back,
         permanent: false,

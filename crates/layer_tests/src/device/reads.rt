@@ -26,6 +26,13 @@ const OLD: u64 = 36 + 32 + 4 + 4 + 32;
 /// read again.
 const NEW: u64 = 48 + 32 + 4 + 4 + 4 + 4 + 4 + 32;
 
+/// What a look at the length of RUNNING reads, after its check: the header, the head of the area and
+/// the head of its entry.
+const OLD_LENGTH: u64 = 32 + 4 + 4;
+
+/// The same for COUNTED_FIVE, which has two areas of one entry each.
+const NEW_LENGTH: u64 = 32 + 4 + 4 + 4 + 4;
+
 /// A sector, which a swap copies once from each slot and once from scratch.
 const MOVED: u64 = 512;
 
@@ -48,7 +55,18 @@ const CONFIRM: Parts = [0, 8, 0, 0, 0, 0, 0, 0, 0, 112];
 
 // Boots from one record to the next: from Steady to Swap, Settle and Trial; to one boot less; to
 // Back, BackSettle and Steady.
-const TO_SWAP: Parts = [2 * OLD, 568, 2 * NEW + 16, 80, OLD, 0, 8, 40, 0, 520];
+const TO_SWAP: Parts = [
+    OLD + OLD_LENGTH,
+    568,
+    NEW + NEW_LENGTH + 16,
+    80,
+    OLD,
+    0,
+    8,
+    40,
+    0,
+    520,
+];
 
 const TO_SETTLE: Parts = [MOVED + NEW, 56, MOVED + OLD, 0, OLD, 0, 8, 40, MOVED, 448];
 
@@ -64,9 +82,9 @@ const TO_STEADY: Parts = [OLD, 32, 0, 88, 0, 0, 0, 0, 0, 640];
 
 /// A boot that upgrades without a power cut.
 const UPGRADE: Parts = [
-    2 * OLD + MOVED + NEW,
+    OLD + OLD_LENGTH + MOVED + NEW,
     624,
-    2 * NEW + 16 + MOVED + OLD,
+    NEW + NEW_LENGTH + 16 + MOVED + OLD,
     80,
     2 * OLD,
     0,

@@ -1,4 +1,4 @@
-use Rattle.std.proofs.Common.{arith, ap, ◌≡◌, sym, subst, true}
+use Rattle.std.proofs.Common.{arith, ap, ◌≡◌, refl, sym, subst, true}
 use Rattle.std.proofs.lemmas.Result.{on_ok_weaker}
 use Rattle.flash_model.specs.Units.{are_erased}
 use Rattle.flash_model.specs.Chip.{Chip}
@@ -9,21 +9,26 @@ use Rattle.trailer.specs.Fields.{bytes_at, fields_at, trailer_bytes}
 use Rattle.trailer.proofs.Erased.{erased_range}
 use Rattle.upload.proofs.Ends.{err_passed}
 use Rattle.boot_core.proofs.Passed.{err_ends, then_ends, then_err}
-use Rattle.boot_core.proofs.SwapSizes.{made_ready, sized}
+use Rattle.boot_core.proofs.SwapSizes.{held_kept, made_ready, sized}
 use Rattle.boot_core.proofs.Records.{one_erase}
 use Rattle.boot_core.proofs.preparing.prepare_image.Goals as goal
 
-pub swap_length-requires : goal.swap_length-requires
-swap_length-requires g c = record {
-  laid_out = laid_out_kept c.args.map.now _ _ _ c.requires.laid_out c.clear.ensures.outside;
-  there = c.requires.there;
+pub swap_length-requires-clause-held : goal.swap_length-requires-clause-held
+swap_length-requires-clause-held g c = λ is.
+    held_kept c.args.map.now (only (TrailerOf c.args.image c.args.side)) c.args.image _ _ c.clear.ensures.outside
+    (λ on. refl) (c.requires.held is)
+
+pub swap_length-requires-clause-there : goal.swap_length-requires-clause-there
+swap_length-requires-clause-there g c = record {
+  laid_out = laid_out_kept c.args.map.now _ _ _ c.requires.there.laid_out c.clear.ensures.outside;
+  there = c.requires.there.there;
 }
 
 pub write_size-requires-clause-image : goal.write_size-requires-clause-image
 write_size-requires-clause-image g c = record {
   laid_out = rw c.swap_length.ensures.same
-      (laid_out_kept c.args.map.now _ _ _ c.requires.laid_out c.clear.ensures.outside);
-  there = c.requires.there;
+      (laid_out_kept c.args.map.now _ _ _ c.requires.there.laid_out c.clear.ensures.outside);
+  there = c.requires.there.there;
 }
 
 pub write_size-requires-clause-erased : goal.write_size-requires-clause-erased

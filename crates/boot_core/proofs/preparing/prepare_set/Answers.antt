@@ -1,10 +1,11 @@
 use Rattle.std.proofs.Common.{rules, refl, arith}
 use Rattle.flash_model.proofs.Ending.{asleep_trans, ends_after, ends_well, uncut_refl, uncut_trans}
 use Rattle.sector_map.proofs.Parts.{keeps_refl, keeps_trans, laid_out_kept}
+use Rattle.sector_map.specs.Part.{trailers_on}
 use Rattle.swap_scratch.proofs.Sums.{sum_none, sum_more}
 use Rattle.upload.proofs.Ends.{err_passed}
 use Rattle.boot_core.proofs.Masks.{sum_before}
-use Rattle.boot_core.proofs.SwapSizes.{ready_more}
+use Rattle.boot_core.proofs.SwapSizes.{held_kept, ready_more}
 use Rattle.boot_core.proofs.preparing.prepare_set.Goals as goal
 
 pub loop-image-init : goal.loop-image-init
@@ -17,6 +18,11 @@ loop-image-init g c = record {
   uncut = uncut_refl _;
   asleep = λ off. refl;
 }
+
+pub prepare_member-requires-clause-held : goal.prepare_member-requires-clause-held
+prepare_member-requires-clause-held g c = λ is member.
+    held_kept c.args.map.now (trailers_on c.args.mask c.args.side) c.loop-image.image _ _ c.loop-image.invariant.outside
+    (λ on. refl) (λ on. c.requires.held is on c.loop-image.image (omega arith) member)
 
 pub loop-image-preserved : goal.loop-image-preserved
 loop-image-preserved g c =

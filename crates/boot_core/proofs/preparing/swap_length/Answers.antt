@@ -1,10 +1,19 @@
-use Rattle.std.proofs.Common.{arith, ◌∙◌, subst}
-use Rattle.sector_map.specs.declared.layout.Side.TheVariants.{Secondary}
+use Rattle.std.proofs.Common.{arith, ◌∙◌, subst, sym}
+use Rattle.sector_map.specs.declared.layout.Side.TheVariants.{Primary, Secondary}
 use Rattle.image_reading.specs.Slot.{slot_bytes}
 use Rattle.upload.proofs.Ends.{err_passed}
+use Rattle.machine.specs.Starting.{IsHeld}
 use Rattle.boot_core.specs.SwapSize.{IsUsed}
 use Rattle.boot_core.proofs.Passed.{err_ends, then_err, then_ok}
 use Rattle.boot_core.proofs.preparing.swap_length.Goals as goal
+
+pub used_length-requires-clause-held : goal.used_length-requires-clause-held
+used_length-requires-clause-held g c = λ is. c.requires.held is Primary
+
+pub used_length-requires-2-clause-held : goal.used_length-requires-2-clause-held
+used_length-requires-2-clause-held g c = λ is.
+    subst (λ chip. IsHeld (slot_bytes c.args.map.now chip c.args.image Secondary)) (sym c.used_length.ensures.same)
+    (c.requires.held is Secondary)
 
 pub returns : goal.returns
 returns g c = record {

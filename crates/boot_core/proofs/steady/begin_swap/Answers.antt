@@ -9,6 +9,9 @@ use Rattle.sector_map.specs.declared.layout.Side.TheVariants.{Primary}
 use Rattle.boot_core.proofs.Passed.{passes_err}
 use Rattle.boot_core.proofs.steady.begin_swap.Goals as goal
 
+pub prepare_set-requires-clause-held : goal.prepare_set-requires-clause-held
+prepare_set-requires-clause-held g c = λ is. c.requires.held
+
 pub append_state-requires-clause-has_state : goal.append_state-requires-clause-has_state
 append_state-requires-clause-has_state g c =
     state_kept c.args.map.now _ _ _ c.args.state.now c.prepare_set.ensures.outside refl c.requires.read

@@ -1,4 +1,4 @@
-use Rattle.std.proofs.Common.{◌+◌, ◌∙◌, ap, arith, refl, subst, sym}
+use Rattle.std.proofs.Common.{rules, ◌+◌, ◌∙◌, ap, arith, refl, subst, sym}
 use Rattle.std.proofs.lemmas.Result.{IfOk-weaker}
 use Rattle.upload.proofs.Ends.{err_passed}
 use Rattle.upload.specs.Device.{DeviceState}
@@ -9,7 +9,8 @@ use Rattle.machine.proofs.Upgrading.{steady_cut}
 use Rattle.machine.specs.Wear.{IsSetIn}
 use Rattle.boot_core.specs.FromSteady.{HasChosen}
 use Rattle.boot_core.proofs.Booted.{boot_after, boot_fails, boot_wider}
-use Rattle.boot_core.proofs.Moves.{mask_asked, mask_moves, starts_set}
+use Rattle.boot_core.proofs.Moves.{mask_asked, mask_moves, set_held, starts_set}
+use Rattle.boot_core.specs.Preparing.{IsSetHeld}
 use Rattle.boot_core.proofs.Asking.{begins_more}
 use Rattle.boot_core.specs.Journal.{AsksAtMost, Begins}
 use Rattle.flash_model.specs.Chip.{Chip}
@@ -59,6 +60,21 @@ returns-in-Invalid g c =
     steady_gives c.args.map.now c.args.left _ _ 0 c.requires.recorded.laid_out c.find_into.ensures.same
     (ends_invalid c.args.map.now (c.args.left + 1) _ _ _ _ c.requires.recorded.read c.find_into.ensures.same
     c.in_ok-image.ensures.ok (ap (λ v. finding_in c.find_into.new.table c.find_into.new.report v) c.in-Invalid.is)) refl tt tt tt c.in_ok-image.ensures.ends
+
+pub upgrade-requires-clause-chosen : goal.upgrade-requires-clause-chosen
+upgrade-requires-clause-chosen g c =
+    let old = g.F.Flash.chip c.args.flash.now in
+    let held = subst (λ f. IsFindingHeld (view c.args.map.now old) 0 f)
+    (decided_in c.find_into.new.table c.find_into.new.report _ c.in-Decided.is) c.in_ok-image.ensures.held in
+    record {
+      laid_out = search rules;
+      read = search rules;
+      some = search rules;
+      within = search rules;
+      held = subst (λ chip. IsSetHeld c.args.map.now c.taken_mask-mask.result chip) (sym c.find_into.ensures.same)
+          (set_held c.args.map.now old c.find_into.new.table c.find_into.new.report c.taken_mask-mask.result held.0 held.1
+          c.taken_mask-mask.ensures.each);
+    }
 
 pub returns-else-mask-eq0 : goal.returns-else-mask-eq0
 returns-else-mask-eq0 g c =

@@ -10,6 +10,7 @@ use Rattle.boot_core.proofs.Measured.{fresh_of, fresh_wear}
 use Rattle.boot_core.proofs.OnMap.{layout_same, layout_then}
 use Rattle.boot_core.proofs.Passed.{then_ends}
 use Rattle.boot_core.proofs.Upgrades.{begun_cuts, begun_here, finished_cuts, finished_ends, found_fresh}
+use Rattle.boot_core.specs.Preparing.{IsSetHeld}
 use Rattle.boot_core.specs.Wear.{TriesNone}
 use Rattle.boot_core.specs.Places.{reply_in}
 use Rattle.flash_model.specs.Chip.{Chip}
@@ -24,6 +25,8 @@ begin_swap-requires g c = record {
   read = ap (λ chip. state_of c.args.map.now chip) c.asks_for_good.ensures.same ∙ c.requires.chosen.read;
   some = c.requires.chosen.some;
   within = c.requires.chosen.within;
+  held = subst (λ chip. IsSetHeld c.args.map.now c.args.mask chip) (sym c.asks_for_good.ensures.same)
+      c.requires.chosen.held;
 }
 
 pub finish_swap-requires-clause-recorded : goal.finish_swap-requires-clause-recorded

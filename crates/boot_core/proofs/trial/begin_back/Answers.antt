@@ -1,4 +1,5 @@
 use Rattle.std.proofs.Common.{arith, inl, refl}
+use Rattle.std.proofs.lemmas.Bool.{false≢true}
 use Rattle.upload.proofs.Ends.{err_passed}
 use Rattle.machine.proofs.Reverting.{back_either, back_kept, back_ok}
 use Rattle.boot_core.proofs.Begun.{begun}
@@ -7,6 +8,9 @@ use Rattle.boot_core.proofs.OnMap.{layout_kept, trailers_moved}
 use Rattle.sector_map.specs.declared.layout.Side.TheVariants.{Secondary}
 use Rattle.boot_core.proofs.Passed.{passes_err}
 use Rattle.boot_core.proofs.trial.begin_back.Goals as goal
+
+pub prepare_set-requires-clause-held : goal.prepare_set-requires-clause-held
+prepare_set-requires-clause-held g c = λ is. absurd (false≢true is)
 
 pub append_state-requires-clause-has_state : goal.append_state-requires-clause-has_state
 append_state-requires-clause-has_state g c =
