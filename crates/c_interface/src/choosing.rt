@@ -1,11 +1,13 @@
 //! The choice for a table, and the check of a report, both as texts.
+//!
+//! Tables and reports are filled in place, since each one that is moved is copied on the stack.
 
 ghost use Rattle.c_interface.specs.Choosing.{AnswersCheck, AnswersChoice};
 
 use crate::numbers::{DONE, INVALID_SET, NO_REPORT, NO_ROOM, NO_TABLE, WRONG};
 use crate::texts::put_report;
 use certificate::{BadReport, BadTable, Report, Table, check, is_valid};
-use chooser::choose;
+use chooser::choose_into;
 
 /// Chooses among the requests of a table, which is a text, and writes the text of the report to the
 /// front of `buffer`. A buffer of 2048 bytes is always large enough.
@@ -17,18 +19,19 @@ use chooser::choose;
 pub extern "C" fn bootswap_choose(table: &[u8], buffer: &mut [u8], length: &mut u64) -> u32
     ensures { AnswersChoice table.now buffer.old buffer.new length.new result }
 {
-    let table = match Table::parse(table) {
-        Ok(table) => table,
-        Err(BadTable(line)) => {
-            *length = line as u64;
-            return NO_TABLE;
-        }
-    };
+    let text = table;
+    let mut table = Table::default();
+    if let Err(BadTable(line)) = Table::parse_into(text, &mut table) {
+        *length = line as u64;
+        return NO_TABLE;
+    }
     if !is_valid(&table) {
         *length = 0;
         return INVALID_SET;
     }
-    match put_report(&choose(&table), buffer) {
+    let mut report = Report::default();
+    choose_into(&table, &mut report);
+    match put_report(&report, buffer) {
         Some(put) => {
             *length = u64::from(put);
             DONE
@@ -48,20 +51,17 @@ pub extern "C" fn bootswap_choose(table: &[u8], buffer: &mut [u8], length: &mut 
 pub extern "C" fn bootswap_check(table: &[u8], report: &[u8], line: &mut u64) -> u32
     ensures { AnswersCheck table.now report.now line.new result }
 {
-    let table = match Table::parse(table) {
-        Ok(table) => table,
-        Err(BadTable(bad)) => {
-            *line = bad as u64;
-            return NO_TABLE;
-        }
-    };
-    let report = match Report::parse(report) {
-        Ok(report) => report,
-        Err(BadReport(bad)) => {
-            *line = bad as u64;
-            return NO_REPORT;
-        }
-    };
+    let (rows, lines) = (table, report);
+    let mut table = Table::default();
+    if let Err(BadTable(bad)) = Table::parse_into(rows, &mut table) {
+        *line = bad as u64;
+        return NO_TABLE;
+    }
+    let mut report = Report::default();
+    if let Err(BadReport(bad)) = Report::parse_into(lines, &mut report) {
+        *line = bad as u64;
+        return NO_REPORT;
+    }
     *line = 0;
     if check(&table, &report) { DONE } else { WRONG }
 }
