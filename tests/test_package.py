@@ -1,11 +1,13 @@
 """The packages that `tools/package` makes."""
 
+import calendar
 import gzip
 import os
 import re
 import shutil
 import subprocess
 import sys
+import time
 import unittest
 
 from support.built_clone import LIBRARIES, BuiltCloneTest
@@ -19,7 +21,9 @@ from installing import major, version
 
 # What packages name as the commit of their sources, and the time of their files.
 COMMIT = "0123456789abcdef0123456789abcdef01234567"
-SECONDS = "1700000000"
+# The time of the packages: the day of the last release, as the one before it is in their changelog too.
+DAY = re.search(r"^## \[\d.* - (.*)$", read(f"{ROOT}/CHANGELOG.md").decode(), re.MULTILINE)[1]
+SECONDS = str(calendar.timegm(time.strptime(DAY, "%Y-%m-%d")))
 
 # What the packed program prints as its version.
 VERSION = f"bootswap {version()} ({COMMIT[:12]})\n"
