@@ -168,9 +168,9 @@ class OtherLanguagesTest(CaseTest):
     def test_header_in_cpp(self):
         file = f"{self.folder}/header.cpp"
         with open(file, "wb") as it:
-            it.write(b"#include <bootswap_manifest.h>")
+            it.write(b"#include <bootswap_manifest.h>\n#include <bootswap_simulate.h>\n#include <bootswap_names.h>\n")
         faults, _ = ran(["cc", "-x", "c++", "-Wall", "-Wextra", "-Werror", "-I", f"{ROOT}/include", "-fsyntax-only", file])
-        self.case("the header compiles as C++", faults)
+        self.case("the headers compile as C++", faults)
 
     def test_random_manifests(self):
         """Ten thousand random texts are refused by their pieces, and each other one is read."""
