@@ -39,8 +39,8 @@ left_same : (row : CutRow) (left : Left) → IsLeftBy row left
 left_same row Keep is = rw is (refl, refl)
 left_same row Done is = rw is (refl, refl)
 left_same row (Bytes pattern) (more, is) =
-    let zeroth : (row.left == 0) ≡ false = ne_eqb row.left 0 (λ e. absurd (omega (arith, e, more))) in
-    let first : (row.left == 1) ≡ false = ne_eqb row.left 1 (λ e. absurd (omega (arith, e, more))) in
+    let zeroth : (row.residue == 0) ≡ false = ne_eqb row.residue 0 (λ e. absurd (omega (arith, e, more))) in
+    let first : (row.residue == 1) ≡ false = ne_eqb row.residue 1 (λ e. absurd (omega (arith, e, more))) in
     rw (zeroth, first) (refl, is)
 
 cutting_same : (row : CutRow) (cut : ArmedCut) → IsCutOf row cut → cutting_of cut ≡ cutting_by row

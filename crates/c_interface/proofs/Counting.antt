@@ -26,7 +26,7 @@ use Rattle.c_interface.specs.Cuts.{AreCutsOf, IsCutAsAsked, numbers_of}
 -- ---- the numbers of rows
 
 abbrev no_row : CutRow
-no_row = record { write = 0; left = 0; pattern_length = 0; pattern = [] }
+no_row = record { write = 0; residue = 0; pattern_length = 0; pattern = [] }
 
 numbers_at : (rows : List CutRow) (table : List ArmedCut) → AreCutsOf rows table → (k : ℕ) → k < length rows
     → get_or (numbers_in table) k 0 ≡ get_or (numbers_of rows) k 0

@@ -15,11 +15,11 @@ use Rattle.tlv.specs.Writing.{Fits, IsAtFront, IsLonger}
 use Rattle.tlv.proofs.MakingLaws.{makeable_has_no_fault}
 use Rattle.c_interface.specs.declared.making.ImageParts.{ImageParts}
 use Rattle.common.proofs.Mapped.{All-from_AllByRecursion-map}
-use Rattle.c_interface.specs.declared.call_result.NeedRow.{NeedRow}
+use Rattle.c_interface.specs.declared.call_result.DependencyRow.{DependencyRow}
 use Rattle.c_interface.specs.declared.description.GroupRow.{GroupRow}
-use Rattle.c_interface.specs.Making.{AnswersMaking, BadImage, HasFewAlternatives, HasGroups, HasNeeds, IsSpecOf, Made, NoRoom, counter_in, group_in, need_in, version_in}
+use Rattle.c_interface.specs.Making.{AnswersMaking, BadImage, HasFewAlternatives, HasGroups, HasDependencies, IsSpecOf, Made, NoRoom, counter_in, group_in, dependency_in, version_in}
 
--- ---- needs and groups
+-- ---- dependencies and groups
 
 -- A fact of each item is one of the item at a place.
 each_at : {X : Type 0} (P : X → Type 0) (xs : List X) (i : ℕ) (other : X) → i < length xs → AllByRecursion P xs
@@ -28,12 +28,12 @@ each_at P [] i other within each = absurd (omega arith)
 each_at P (x ∷ xs) zero other within each = each.0
 each_at P (x ∷ xs) (suc i) other within each = each_at P xs i other (omega arith) each.1
 
--- No needs have a number that is too large.
-pub wide_need : (rows : List NeedRow) (i : ℕ) (other : NeedRow) → i < length rows
-    → 256 ≤ (get_or rows i other).image → AllByRecursion FitsDependency (map need_in rows) → ⊥
-wide_need rows i other within wide each =
-    let fits : FitsDependency (need_in (get_or rows i other)) =
-    All-from_AllByRecursion-map FitsDependency need_in rows each i other within in
+-- No dependencies have a number that is too large.
+pub wide_dependency : (rows : List DependencyRow) (i : ℕ) (other : DependencyRow) → i < length rows
+    → 256 ≤ (get_or rows i other).image → AllByRecursion FitsDependency (map dependency_in rows) → ⊥
+wide_dependency rows i other within wide each =
+    let fits : FitsDependency (dependency_in (get_or rows i other)) =
+    All-from_AllByRecursion-map FitsDependency dependency_in rows each i other within in
     omega (arith, fits.image, wide)
 
 -- If one row is no group, the rows are no groups.
@@ -62,9 +62,9 @@ slices_more groups slices i other slice within room so_far same =
 -- ---- the answer
 
 -- The values that the code passes on are those of the parts.
-pub spec_of : (parts : ImageParts) (needs : Bor (List Dependency)) (slices : Bor (List (Bor (List Dependency))))
+pub spec_of : (parts : ImageParts) (dependencies : Bor (List Dependency)) (slices : Bor (List (Bor (List Dependency))))
     (body : Bor (List ℕ)) (version : Version) (counter : Option ℕ) (groups : List Group)
-    → version ≡ version_in parts.version → counter ≡ counter_in parts → HasNeeds parts needs.now
+    → version ≡ version_in parts.version → counter ≡ counter_in parts → HasDependencies parts dependencies.now
     → groups_of slices.now ≡ groups → HasGroups parts groups
     → IsSpecOf parts body.now (record {
       load_address = parts.load_address;
@@ -72,17 +72,17 @@ pub spec_of : (parts : ImageParts) (needs : Bor (List Dependency)) (slices : Bor
       flags = parts.flags;
       version = version;
       counter = counter;
-      dependencies = needs;
+      dependencies = dependencies;
       groups = slices;
       body = body;
     })
-spec_of parts needs slices body version counter groups version_is counter_is has_needs same has_groups = record {
+spec_of parts dependencies slices body version counter groups version_is counter_is has_dependencies same has_groups = record {
   load_address = refl;
   header_size = refl;
   flags = refl;
   version = version_is;
   counter = counter_is;
-  dependencies = has_needs;
+  dependencies = has_dependencies;
   groups = subst (HasGroups parts) (sym same) has_groups;
   body_is = refl;
 }
@@ -93,7 +93,7 @@ makeable_same : (parts : ImageParts) (body : List ℕ) (one other : ImageSpec) �
 makeable_same parts body one other of_one of_other makeable =
     let header_size : one.header_size ≡ other.header_size = of_one.header_size ∙ sym of_other.header_size in
     let flags : one.flags ≡ other.flags = of_one.flags ∙ sym of_other.flags in
-    let needs : one.dependencies.now ≡ other.dependencies.now =
+    let dependencies : one.dependencies.now ≡ other.dependencies.now =
     of_one.dependencies.each ∙ sym of_other.dependencies.each in
     let groups : groups_of one.groups.now ≡ groups_of other.groups.now =
     of_one.groups.each ∙ sym of_other.groups.each in
@@ -104,7 +104,7 @@ makeable_same parts body one other of_one of_other makeable =
             subst (λ (n : ℕ). 32 ≤ n) header_size makeable.0.0.0.0,
             subst (λ (n : ℕ). bit_or n 0x111 ≡ 0x111) flags makeable.0.0.0.1,
           ),
-          subst (λ (needs : List Dependency). length needs ≤ 16) needs makeable.0.0.1,
+          subst (λ (dependencies : List Dependency). length dependencies ≤ 16) dependencies makeable.0.0.1,
         ),
         subst AreGroups groups makeable.0.1,
       ),

@@ -20,7 +20,8 @@ use Rattle.c_interface.specs.Texts.{IsPut}
 use Rattle.c_interface.specs.CallResult.{IsResultOf, no_result, number_of}
 
 -- The answer of a call: the number of the device's reply, and in the result the number of writes
--- that it made. It has no journal. Or why no call was made: then nothing changed, and the result is all zero.
+-- that it made. It has no journal. Or why no call was made: then nothing changed, and the result is
+-- all zero.
 pub data Answers (setup : Setup) (cuts : List CutRow) (call : DeviceCall) (old : List ℕ)
     (was : SavedState) (new : List ℕ) (is : SavedState) (call_result : CallResult)
     (says : Reply → Type 0) (number : ℕ) : Type 0 where

@@ -20,7 +20,7 @@ use Rattle.machine.specs.declared.reply.Reply.{Reply}
 use Rattle.machine.specs.declared.reply.Reply.TheVariants.{Done, Booted, Reverted, TrialAgain, Refused, Cut}
 use Rattle.c_interface.specs.Numbers as numbers
 use Rattle.c_interface.specs.declared.call_result.CallResult.{CallResult}
-use Rattle.c_interface.specs.declared.call_result.NeedRow.{NeedRow}
+use Rattle.c_interface.specs.declared.call_result.DependencyRow.{DependencyRow}
 use Rattle.c_interface.specs.declared.call_result.RefusalRow.{RefusalRow}
 use Rattle.c_interface.specs.declared.call_result.VersionRow.{VersionRow}
 
@@ -33,26 +33,30 @@ version_row version = record {
   build = version.build;
 }
 
--- A need as C has it.
-abbrev pub need_row : Dependency → NeedRow
-need_row need = record { image = need.image; minimum = version_row need.minimum }
+-- A dependency as C has it.
+abbrev pub dependency_row : Dependency → DependencyRow
+dependency_row dependency = record {
+  image = dependency.image;
+  minimum = version_row dependency.minimum;
+}
 
--- No need: all zero.
+-- No dependency: all zero.
 abbrev pub no_version : Version
 no_version = record { major = 0; minor = 0; revision = 0; build = 0 }
 
-abbrev pub no_need : NeedRow
-no_need = record { image = 0; minimum = version_row no_version }
+abbrev pub no_dependency : DependencyRow
+no_dependency = record { image = 0; minimum = version_row no_version }
 
 -- From a place on, all rows are blank.
 abbrev pub IsBlankFrom : {T : Type 0} → ℕ → List T → T → Type 0
 IsBlankFrom n rows blank = (k : ℕ) → n ≤ k → k < length rows → slice_get rows k ≡ Some blank
 
--- The rows of needs, and blank rows after them.
-pub record AreNeedRows (needs : List Dependency) (rows : List NeedRow) : Type 0 where
-  pub each : (k : ℕ) (need : Dependency) → slice_get needs k ≡ Some need
-      → slice_get rows k ≡ Some (need_row need)
-  pub rest : IsBlankFrom (length needs) rows no_need
+-- The rows of dependencies, and blank rows after them.
+pub record AreDependencyRows (dependencies : List Dependency) (rows : List DependencyRow)
+    : Type 0 where
+  pub each : (k : ℕ) (dependency : Dependency) → slice_get dependencies k ≡ Some dependency
+      → slice_get rows k ≡ Some (dependency_row dependency)
+  pub rest : IsBlankFrom (length dependencies) rows no_dependency
 
 -- The number of a reason.
 abbrev pub reason_number : Reason → ℕ
@@ -64,22 +68,22 @@ reason_number (Needs image minimum) = 5
 reason_number (NeedsOne group) = 6
 
 -- The images that a reason names.
-abbrev pub needs_of : Reason → List Dependency
-needs_of (NoSuchImage image) = record { image = image; minimum = no_version } ∷ []
-needs_of (Needs image minimum) = record { image = image; minimum = minimum } ∷ []
-needs_of (NeedsOne group) = group.alternatives.items
-needs_of other = []
+abbrev pub dependencies_of : Reason → List Dependency
+dependencies_of (NoSuchImage image) = record { image = image; minimum = no_version } ∷ []
+dependencies_of (Needs image minimum) = record { image = image; minimum = minimum } ∷ []
+dependencies_of (NeedsOne group) = group.alternatives.items
+dependencies_of other = []
 
 -- A refusal as C has it.
 pub record IsRefusalRow (refusal : Refusal) (row : RefusalRow) : Type 0 where
   pub image : row.image ≡ refusal.image
   pub reason : row.reason ≡ reason_number refusal.reason
-  pub count : row.count ≡ length (needs_of refusal.reason)
-  pub needs : AreNeedRows (needs_of refusal.reason) row.needs
+  pub count : row.count ≡ length (dependencies_of refusal.reason)
+  pub dependencies : AreDependencyRows (dependencies_of refusal.reason) row.dependencies
 
 -- No refusal: all zero.
 abbrev pub no_refusal : RefusalRow
-no_refusal = record { image = 0; reason = 0; count = 0; needs = replicate 4 no_need }
+no_refusal = record { image = 0; reason = 0; count = 0; dependencies = replicate 4 no_dependency }
 
 -- The rows of a report's versions, and blank rows after them.
 pub record AreVersionRows (images : List ReportedImage) (rows : List VersionRow) : Type 0 where

@@ -15,10 +15,10 @@ use Rattle.c_interface.specs.declared.cuts.CutRow.{CutRow}
 -- What a row says that its cut leaves: the old bytes, the new bytes, or up to 8 bytes of its
 -- pattern.
 abbrev pub IsLeftBy : CutRow → Left → Type 0
-IsLeftBy row Keep = row.left ≡ 0
-IsLeftBy row Done = row.left ≡ 1
+IsLeftBy row Keep = row.residue ≡ 0
+IsLeftBy row Done = row.residue ≡ 1
 IsLeftBy row (Bytes pattern) =
-    (2 ≤ row.left) × (pattern.now ≡ take (min row.pattern_length 8) row.pattern)
+    (2 ≤ row.residue) × (pattern.now ≡ take (min row.pattern_length 8) row.pattern)
 
 -- The cut of a row.
 pub record IsCutOf (row : CutRow) (cut : ArmedCut) : Type 0 where
@@ -39,10 +39,10 @@ numbers_of rows = map (λ row. row.write) rows
 
 -- What the cut of a row leaves in its range: 0 the old bytes, 1 the new bytes, 3 the pattern.
 abbrev pub kind_by : CutRow → ℕ
-kind_by row = if row.left == 0 then 0 else if row.left == 1 then 1 else 3
+kind_by row = if row.residue == 0 then 0 else if row.residue == 1 then 1 else 3
 
 abbrev pub pattern_by : CutRow → List ℕ
-pattern_by row = if row.left == 0 then [] else if row.left == 1 then []
+pattern_by row = if row.residue == 0 then [] else if row.residue == 1 then []
     else take (min row.pattern_length 8) row.pattern
 
 abbrev pub cutting_by : CutRow → Cutting

@@ -8,16 +8,17 @@ use Rattle.image_reading.specs.Fault.{IsFirstFault, IsFrontFault}
 use Rattle.image_reading.specs.Image.{BeginsIntact, IsIntact}
 use Rattle.c_interface.specs.declared.description.Description.{Description}
 use Rattle.c_interface.specs.declared.description.GroupRow.{GroupRow}
-use Rattle.c_interface.specs.CallResult.{AreNeedRows, IsBlankFrom, no_need, no_version, version_row}
+use Rattle.c_interface.specs.CallResult.{AreDependencyRows, IsBlankFrom, no_dependency, no_version}
+use Rattle.c_interface.specs.CallResult.{version_row}
 
 -- A group as C has it.
 pub record IsGroupRow (group : Group) (row : GroupRow) : Type 0 where
   pub count : row.count ≡ length group.alternatives.items
-  pub alternatives : AreNeedRows group.alternatives.items row.alternatives
+  pub alternatives : AreDependencyRows group.alternatives.items row.alternatives
 
 -- No group: all zero.
 abbrev pub no_group : GroupRow
-no_group = record { count = 0; alternatives = replicate 4 no_need }
+no_group = record { count = 0; alternatives = replicate 4 no_dependency }
 
 -- The rows of groups, and blank rows after them.
 pub record AreGroupRows (groups : List Group) (rows : List GroupRow) : Type 0 where
@@ -32,9 +33,9 @@ no_description = record {
   version = version_row no_version;
   counter = 0;
   flags = 0;
-  needs_count = 0;
+  dependencies_count = 0;
   groups_count = 0;
-  needs = replicate 16 no_need;
+  dependencies = replicate 16 no_dependency;
   groups = replicate 4 no_group;
   digest = replicate 32 0;
 }
@@ -45,9 +46,9 @@ pub record Describes (described : Desc) (description : Description) : Type 0 whe
   pub version : description.version ≡ version_row described.version
   pub counter : description.counter ≡ described.counter
   pub flags : description.flags ≡ described.flags
-  pub needs_count : description.needs_count ≡ length described.dependencies.items
+  pub dependencies_count : description.dependencies_count ≡ length described.dependencies.items
   pub groups_count : description.groups_count ≡ length described.groups.items
-  pub needs : AreNeedRows described.dependencies.items description.needs
+  pub dependencies : AreDependencyRows described.dependencies.items description.dependencies
   pub groups : AreGroupRows described.groups.items description.groups
   pub digest : description.digest ≡ described.digest
 

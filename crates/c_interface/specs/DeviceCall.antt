@@ -1,5 +1,5 @@
 -- The calls of a device.
-use Rattle.std.specs.Prelude.{◌≡◌, ℕ, Bool, true, false, List}
+use Rattle.std.specs.Prelude.{ℕ, Bool, true, false, List}
 use Rattle.std.specs.Borrow.{Bor}
 use Rattle.flash_model.specs.declared.error.FlashError.TheVariants as flash
 use Rattle.upload.specs.declared.error.UploadError.TheVariants as upload

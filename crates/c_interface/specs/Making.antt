@@ -10,7 +10,7 @@ use Rattle.image_reading.specs.Image.{IsIntact, image_bytes}
 use Rattle.tlv.specs.Making.{FitsSpec, IsMakeable, description_of, groups_of, image_of}
 use Rattle.tlv.specs.declared.make.spec.ImageSpec.{ImageSpec}
 use Rattle.c_interface.specs.Numbers.{BAD_IMAGE, DONE, NO_ROOM}
-use Rattle.c_interface.specs.declared.call_result.NeedRow.{NeedRow}
+use Rattle.c_interface.specs.declared.call_result.DependencyRow.{DependencyRow}
 use Rattle.c_interface.specs.declared.call_result.VersionRow.{VersionRow}
 use Rattle.c_interface.specs.declared.description.GroupRow.{GroupRow}
 use Rattle.c_interface.specs.declared.making.ImageParts.{ImageParts}
@@ -24,9 +24,9 @@ version_in row = record {
   build = row.build;
 }
 
--- The need of a row.
-abbrev pub need_in : NeedRow → Dependency
-need_in row = record { image = row.image; minimum = version_in row.minimum }
+-- The dependency of a row.
+abbrev pub dependency_in : DependencyRow → Dependency
+dependency_in row = record { image = row.image; minimum = version_in row.minimum }
 
 -- A group of a row has at most 4 alternatives.
 abbrev pub HasFewAlternatives : GroupRow → Type 0
@@ -35,13 +35,13 @@ HasFewAlternatives row = row.count ≤ MOST_ALTERNATIVES
 -- The group of a row.
 abbrev pub group_in : GroupRow → Group
 group_in row = record {
-  alternatives = record { items = map need_in (take row.count row.alternatives) };
+  alternatives = record { items = map dependency_in (take row.count row.alternatives) };
 }
 
--- The parts have these needs, at most 16.
-pub record HasNeeds (parts : ImageParts) (needs : List Dependency) : Type 0 where
-  pub few : parts.needs_count ≤ MOST_DEPENDENCIES
-  pub each : needs ≡ map need_in (take parts.needs_count parts.needs)
+-- The parts have these dependencies, at most 16.
+pub record HasDependencies (parts : ImageParts) (dependencies : List Dependency) : Type 0 where
+  pub few : parts.dependencies_count ≤ MOST_DEPENDENCIES
+  pub each : dependencies ≡ map dependency_in (take parts.dependencies_count parts.dependencies)
 
 -- The parts have these groups, at most 4, each with at most 4 alternatives.
 pub record HasGroups (parts : ImageParts) (groups : List Group) : Type 0 where
@@ -60,7 +60,7 @@ pub record IsSpecOf (parts : ImageParts) (body : List ℕ) (spec : ImageSpec) : 
   pub flags : spec.flags ≡ parts.flags
   pub version : spec.version ≡ version_in parts.version
   pub counter : spec.counter ≡ counter_in parts
-  pub dependencies : HasNeeds parts spec.dependencies.now
+  pub dependencies : HasDependencies parts spec.dependencies.now
   pub groups : HasGroups parts (groups_of spec.groups.now)
   pub body_is : spec.body.now ≡ body
 

@@ -1,6 +1,6 @@
 //! A call on a device in the caller's memory: the bytes of its flash, and its saved state.
 
-ghost use Rattle.std.specs.Prelude.{◌≡◌, ℕ, ◌+◌, [], IfErr, IfOk, IfSome, List, None, Option, false, true};
+ghost use Rattle.std.specs.Prelude.{◌≡◌, ◌+◌, [], IfErr, IfOk, List, Option, false, true};
 ghost use Rattle.flash_model.specs.Blanks.{IsBlankOf};
 ghost use Rattle.sector_map.specs.Map.{IsLaidOut};
 ghost use Rattle.machine.specs.Steps.{cut_of};
@@ -9,7 +9,8 @@ ghost use Rattle.slice_flash.specs.Rows.{fixed_by};
 ghost use Rattle.upload.specs.declared.sessions.Upload.{Upload};
 ghost use Rattle.c_interface.specs.Calls.{CallsOn, IsJournaled, IsRefusedBefore, StepsBetween};
 ghost use Rattle.c_interface.specs.Calls.{StepsOn};
-ghost use Rattle.c_interface.specs.SavedState.{IsSavedFor, IsSavedWith, IsTakenBy, SavesDevice, is_piece};
+ghost use Rattle.c_interface.specs.SavedState.{IsSavedFor, IsSavedWith, IsTakenBy, SavesDevice};
+ghost use Rattle.c_interface.specs.SavedState.{is_piece};
 ghost use Rattle.c_interface.specs.DeviceCall.{DeviceCall};
 ghost use Rattle.c_interface.specs.Setup.{HasRoom, IsTrial};
 
@@ -139,8 +140,8 @@ pub(crate) fn resume_and_run<F: Flash, C: Call>(
     save(&uploads, is_booted, saved);
 }
 
-/// Runs a call on the flash of these bytes, writes the answer, and returns the number of writes that
-/// the call began. The writes in the table are cut.
+/// Runs a call on the flash of these bytes, writes the answer, and returns the number of writes
+/// that the call began. The writes in the table are cut.
 fn run_over_bytes<L: Ledger, C: Call>(
     blank: Blank,
     checked: &CheckedSetup,
@@ -154,8 +155,8 @@ fn run_over_bytes<L: Ledger, C: Call>(
     requires room { HasRoom checked.now.map bytes.old }
     requires images { checked.now.identity.images ≡ checked.now.map.images }
     requires trial { IsTrial checked.now.boots }
-    ensures { StepsOn checked.now (fixed_by table.now [] 0) (C.call call.now) bytes.old saved.old bytes.new
-        saved.new (C.Answer.reply answer.new) result }
+    ensures { StepsOn checked.now (fixed_by table.now [] 0) (C.call call.now) bytes.old saved.old
+        bytes.new saved.new (C.Answer.reply answer.new) result }
 {
     let mut flash = SliceFlash::<L>::new(blank, bytes, checked.map.sector_size, table);
     resume_and_run(&mut flash, checked, saved, call, answer);

@@ -1,10 +1,12 @@
 //! The result of a call that C reads beside the returned number.
 
 ghost use Rattle.std.specs.Prelude.{◌≡◌, ◌<◌, ◌≤◌, ◌^◌, length};
-ghost use Rattle.c_interface.specs.CallResult.{AreNeedRows, AreRefusalRows, AreVersionRows};
+ghost use Rattle.c_interface.specs.CallResult.{AreDependencyRows, AreRefusalRows, AreVersionRows};
 ghost use Rattle.c_interface.specs.CallResult.{IsRefusalRow, HasTextLengths, IsResultOf, IsResultOfReport};
-ghost use Rattle.c_interface.specs.CallResult.{check_of, detail_of, needs_of, number_of, reason_number};
-ghost use Rattle.c_interface.specs.CallResult.{taken_mask, fault_result, need_row, no_result, version_row};
+ghost use Rattle.c_interface.specs.CallResult.{check_of, detail_of, dependencies_of, number_of};
+ghost use Rattle.c_interface.specs.CallResult.{reason_number};
+ghost use Rattle.c_interface.specs.CallResult.{taken_mask, fault_result, dependency_row};
+ghost use Rattle.c_interface.specs.CallResult.{no_result, version_row};
 ghost use Rattle.machine.specs.Codes.{code_of};
 
 use crate::numbers::{BOOTED, CUT, DONE, REFUSED, REVERTED, TRIAL_AGAIN};
@@ -30,13 +32,13 @@ pub struct VersionRow {
     pub build: u32,
 }
 
-/// A needed image and its lowest version.
+/// A dependency: an image and its lowest version.
 #[repr(C)]
 #[derive(Clone, Copy)]
-pub struct NeedRow {
+pub struct DependencyRow {
     /// The number of the image, counted from 0.
     pub image: u32,
-    /// The lowest version that meets the need.
+    /// The lowest version that meets the dependency.
     pub minimum: VersionRow,
 }
 
@@ -50,10 +52,11 @@ pub struct RefusalRow {
     /// security counter is below the floor, 4 it needs an image that the device lacks, 5 what it
     /// needs isn't available, 6 none of the alternatives that it needs is available.
     pub reason: u32,
-    /// The number of entries in `needs`: 1 for reasons 4 and 5, up to 4 for reason 6, else 0.
+    /// The number of entries in `dependencies`: 1 for reasons 4 and 5, up to 4 for reason 6, else
+    /// 0.
     pub count: u32,
     /// What it needs. For reason 4 only the image counts.
-    pub needs: [NeedRow; MOST_ALTERNATIVES],
+    pub dependencies: [DependencyRow; MOST_ALTERNATIVES],
 }
 
 /// The result of a call. A field that doesn't apply to the returned number is 0.
@@ -101,8 +104,8 @@ pub(crate) const NO_VERSION: VersionRow = VersionRow {
     build: 0,
 };
 
-/// No need.
-pub(crate) const NO_NEED: NeedRow = NeedRow {
+/// No dependency.
+pub(crate) const NO_DEPENDENCY: DependencyRow = DependencyRow {
     image: 0,
     minimum: NO_VERSION,
 };
@@ -112,7 +115,7 @@ const NO_REFUSAL: RefusalRow = RefusalRow {
     image: 0,
     reason: 0,
     count: 0,
-    needs: [NO_NEED; MOST_ALTERNATIVES],
+    dependencies: [NO_DEPENDENCY; MOST_ALTERNATIVES],
 };
 
 /// The result if no call was made.
@@ -145,24 +148,24 @@ pub(crate) fn version_row(version: Version) -> VersionRow
     }
 }
 
-/// A need as C has it.
-pub(crate) fn need_row(need: Dependency) -> NeedRow
-    ensures { result ≡ need_row need }
+/// A dependency as C has it.
+pub(crate) fn dependency_row(dependency: Dependency) -> DependencyRow
+    ensures { result ≡ dependency_row dependency }
 {
-    NeedRow {
-        image: u32::from(need.image),
-        minimum: version_row(need.minimum),
+    DependencyRow {
+        image: u32::from(dependency.image),
+        minimum: version_row(dependency.minimum),
     }
 }
 
-/// Needs as C has them.
-pub(crate) fn need_rows<const N: usize>(needs: &[Dependency]) -> [NeedRow; N]
-    requires { length needs.now ≤ N }
-    ensures { AreNeedRows needs.now result }
+/// Dependencies as C has them.
+pub(crate) fn dependency_rows<const N: usize>(dependencies: &[Dependency]) -> [DependencyRow; N]
+    requires { length dependencies.now ≤ N }
+    ensures { AreDependencyRows dependencies.now result }
 {
-    let mut rows = [NO_NEED; N];
-    for i in 0..needs.len() {
-        rows[i] = need_row(needs[i]);
+    let mut rows = [NO_DEPENDENCY; N];
+    for i in 0..dependencies.len() {
+        rows[i] = dependency_row(dependencies[i]);
     }
     rows
 }
@@ -182,12 +185,12 @@ fn reason_number(reason: &Reason) -> u32
 }
 
 /// The images that a reason names.
-fn needs_of(reason: &Reason) -> ArrayVec<Dependency, MOST_ALTERNATIVES>
-    ensures { result.items ≡ needs_of reason.now }
+fn dependencies_of(reason: &Reason) -> ArrayVec<Dependency, MOST_ALTERNATIVES>
+    ensures { result.items ≡ dependencies_of reason.now }
 {
-    let mut needs = ArrayVec::new();
+    let mut dependencies = ArrayVec::new();
     match reason {
-        Reason::NoSuchImage(image) => needs.push(Dependency {
+        Reason::NoSuchImage(image) => dependencies.push(Dependency {
             image: *image,
             minimum: Version {
                 major: 0,
@@ -196,26 +199,26 @@ fn needs_of(reason: &Reason) -> ArrayVec<Dependency, MOST_ALTERNATIVES>
                 build: 0,
             },
         }),
-        Reason::Needs(image, minimum) => needs.push(Dependency {
+        Reason::Needs(image, minimum) => dependencies.push(Dependency {
             image: *image,
             minimum: *minimum,
         }),
         Reason::NeedsOne(group) => return group.copied().alternatives,
         _ => {}
     }
-    needs
+    dependencies
 }
 
 /// A refusal as C has it.
 fn refusal_row(refusal: &Refusal) -> RefusalRow
     ensures { IsRefusalRow refusal.now result }
 {
-    let needs = needs_of(&refusal.reason);
+    let dependencies = dependencies_of(&refusal.reason);
     RefusalRow {
         image: u32::from(refusal.image),
         reason: reason_number(&refusal.reason),
-        count: needs.len() as u32,
-        needs: need_rows(needs.as_slice()),
+        count: dependencies.len() as u32,
+        dependencies: dependency_rows(dependencies.as_slice()),
     }
 }
 

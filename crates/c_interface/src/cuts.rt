@@ -15,7 +15,7 @@ pub struct CutRow {
     /// The number of the write in the call, counted from 1. A write is a program or an erase.
     pub write: u64,
     /// What it leaves: 0 the old bytes, 1 the new bytes, any other number the pattern.
-    pub left: u32,
+    pub residue: u32,
     /// The length of the pattern in bytes, 0 to 8. An empty pattern leaves the old bytes. A longer
     /// one counts as 8.
     pub pattern_length: u32,
@@ -28,7 +28,7 @@ fn cut_of(row: &CutRow) -> ArmedCut<'_>
     ensures { IsCutOf row.now result }
 {
     let length = (row.pattern_length as usize).min(8);
-    let left = match row.left {
+    let left = match row.residue {
         0 => Left::Keep,
         1 => Left::Done,
         _ => Left::Bytes(&row.pattern[..length]),

@@ -3,7 +3,9 @@
 ghost use Rattle.std.specs.Prelude.{◌≡◌, ◌≤◌, length};
 ghost use Rattle.c_interface.specs.Description.{AreGroupRows, IsGroupRow, Describes};
 
-use crate::call_result::{NO_NEED, NO_VERSION, NeedRow, VersionRow, need_rows, version_row};
+use crate::call_result::{
+    DependencyRow, NO_DEPENDENCY, NO_VERSION, VersionRow, dependency_rows, version_row,
+};
 use common::limits::{MOST_ALTERNATIVES, MOST_DEPENDENCIES, MOST_GROUPS};
 use image_reading::Desc;
 use version_order::Group;
@@ -15,7 +17,7 @@ pub struct GroupRow {
     /// The number of alternatives, 1 to 4.
     pub count: u32,
     /// The alternatives.
-    pub alternatives: [NeedRow; MOST_ALTERNATIVES],
+    pub alternatives: [DependencyRow; MOST_ALTERNATIVES],
 }
 
 /// The description of an image.
@@ -31,11 +33,11 @@ pub struct Description {
     /// The flags of its header (`ih_flags`).
     pub flags: u32,
     /// The number of its dependencies, 0 to 16.
-    pub needs_count: u32,
+    pub dependencies_count: u32,
     /// The number of its groups, 0 to 4.
     pub groups_count: u32,
     /// Its dependencies (`IMAGE_TLV_DEPENDENCY`), in the order of its entries.
-    pub needs: [NeedRow; MOST_DEPENDENCIES],
+    pub dependencies: [DependencyRow; MOST_DEPENDENCIES],
     /// Its groups.
     pub groups: [GroupRow; MOST_GROUPS],
     /// The SHA-256 of its header, body and protected area (`IMAGE_TLV_SHA256`).
@@ -45,7 +47,7 @@ pub struct Description {
 /// No group.
 const NO_GROUP: GroupRow = GroupRow {
     count: 0,
-    alternatives: [NO_NEED; MOST_ALTERNATIVES],
+    alternatives: [NO_DEPENDENCY; MOST_ALTERNATIVES],
 };
 
 /// The description if there is no intact image.
@@ -54,9 +56,9 @@ pub(crate) const NO_DESCRIPTION: Description = Description {
     version: NO_VERSION,
     counter: 0,
     flags: 0,
-    needs_count: 0,
+    dependencies_count: 0,
     groups_count: 0,
-    needs: [NO_NEED; MOST_DEPENDENCIES],
+    dependencies: [NO_DEPENDENCY; MOST_DEPENDENCIES],
     groups: [NO_GROUP; MOST_GROUPS],
     digest: [0; 32],
 };
@@ -67,7 +69,7 @@ fn group_row(group: &Group) -> GroupRow
 {
     GroupRow {
         count: group.alternatives.len() as u32,
-        alternatives: need_rows(group.alternatives.as_slice()),
+        alternatives: dependency_rows(group.alternatives.as_slice()),
     }
 }
 
@@ -92,9 +94,9 @@ pub(crate) fn description_of(description: &Desc) -> Description
         version: version_row(description.version),
         counter: description.counter,
         flags: description.flags,
-        needs_count: description.dependencies.len() as u32,
+        dependencies_count: description.dependencies.len() as u32,
         groups_count: description.groups.len() as u32,
-        needs: need_rows(description.dependencies.as_slice()),
+        dependencies: dependency_rows(description.dependencies.as_slice()),
         groups: group_rows(description.groups.as_slice()),
         digest: description.digest,
     }

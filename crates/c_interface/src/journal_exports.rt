@@ -44,8 +44,9 @@ fn record_and_report<C: Call>(
     }
 }
 
-/// Provisions bytes as the flash of a device, as `bootswap_simulate_provision` does, and records the
-/// writes in the journal. The journal has room for them if it has 144 bytes, and 24 for each image.
+/// Provisions bytes as the flash of a device, as `bootswap_simulate_provision` does, and records
+/// the writes in the journal. The journal has room for them if it has 144 bytes, and 24 for each
+/// image.
 ///
 /// Returns `DONE`, `REFUSED`, or why no call was made; or `CUT`, only if the journal was too short.
 /// After `CUT` it may be called again.

@@ -4,8 +4,8 @@
 //!   caller's bytes hold to what they hold then; a piece if the saved uploads match the flash.
 //! - Main calls: with a journal `bootswap_journal_boot`, `bootswap_journal_boot_with_texts`,
 //!   `bootswap_journal_accept`, `bootswap_journal_piece`, `bootswap_journal_finish`,
-//!   `bootswap_journal_withdraw`, `bootswap_journal_confirm`, `bootswap_journal_provision`; on bytes
-//!   in memory that may be cut `bootswap_simulate_boot`, `bootswap_simulate_accept`, ..; and
+//!   `bootswap_journal_withdraw`, `bootswap_journal_confirm`, `bootswap_journal_provision`; with
+//!   power cuts on bytes in memory `bootswap_simulate_boot`, `bootswap_simulate_accept`, ..; and
 //!   `bootswap_slot`, `bootswap_state`, `bootswap_describe`, `bootswap_choose`, `bootswap_check`,
 //!   `bootswap_make_image`.
 //! - Allocates: no.

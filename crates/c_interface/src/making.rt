@@ -4,11 +4,13 @@ ghost use Rattle.std.specs.Prelude.{◌≡◌, ◌^◌, ◌≤◌, IfSome, List,
 ghost use Rattle.std.specs.List.{AllByRecursion};
 ghost use Rattle.image_reading.specs.Fields.{FitsDependency, FitsGroup};
 ghost use Rattle.tlv.specs.Making.{groups_of};
-ghost use Rattle.c_interface.specs.Making.{AnswersMaking, HasFewAlternatives, HasGroups, HasNeeds, counter_in, group_in, need_in, version_in};
+ghost use Rattle.c_interface.specs.Making.{AnswersMaking, HasDependencies, HasFewAlternatives};
+ghost use Rattle.c_interface.specs.Making.{HasGroups, counter_in, dependency_in, group_in};
+ghost use Rattle.c_interface.specs.Making.{version_in};
 ghost use Rattle.version_order.specs.declared.dependency.Dependency.{Dependency};
 ghost use Rattle.version_order.specs.declared.group.Group.{Group};
 
-use crate::call_result::{NeedRow, VersionRow};
+use crate::call_result::{DependencyRow, VersionRow};
 use crate::description::GroupRow;
 use crate::numbers::{BAD_IMAGE, DONE, NO_ROOM};
 use arrayvec::ArrayVec;
@@ -36,12 +38,12 @@ pub struct ImageParts {
     /// The security counter (`IMAGE_TLV_SEC_CNT`).
     pub counter: u32,
     /// The number of its dependencies, 0 to 16.
-    pub needs_count: u32,
+    pub dependencies_count: u32,
     /// The number of its groups, 0 to 4.
     pub groups_count: u32,
     /// Its dependencies (`IMAGE_TLV_DEPENDENCY`), in the order of its entries. Entries after the
     /// last one are ignored.
-    pub needs: [NeedRow; MOST_DEPENDENCIES],
+    pub dependencies: [DependencyRow; MOST_DEPENDENCIES],
     /// Its groups, each with 1 to 4 alternatives. Entries after the last one are ignored.
     pub groups: [GroupRow; MOST_GROUPS],
 }
@@ -58,9 +60,9 @@ fn version_in(row: &VersionRow) -> Version
     }
 }
 
-/// The need of a row, if an image can have its number.
-fn need_in(row: &NeedRow) -> Option<Dependency>
-    ensures some { IfSome result (λ need. need ≡ need_in row.now) }
+/// The dependency of a row, if an image can have its number.
+fn dependency_in(row: &DependencyRow) -> Option<Dependency>
+    ensures some { IfSome result (λ dependency. dependency ≡ dependency_in row.now) }
     ensures none { result ≡ None → 2 ^ 8 ≤ row.now.image }
 {
     if row.image > u32::from(u8::MAX) {
@@ -72,17 +74,17 @@ fn need_in(row: &NeedRow) -> Option<Dependency>
     })
 }
 
-/// The needs of rows, if images can have their numbers.
-fn needs_in<const N: usize>(rows: &[NeedRow]) -> Option<ArrayVec<Dependency, N>>
+/// The dependencies of rows, if images can have their numbers.
+fn dependencies_in<const N: usize>(rows: &[DependencyRow]) -> Option<ArrayVec<Dependency, N>>
     requires { length rows.now ≤ N }
-    ensures some { IfSome result (λ needs. needs.items ≡ map need_in rows.now) }
-    ensures none { result ≡ None → AllByRecursion FitsDependency (map need_in rows.now) → ⊥ }
+    ensures some { IfSome result (λ dependencies. dependencies.items ≡ map dependency_in rows.now) }
+    ensures none { result ≡ None → AllByRecursion FitsDependency (map dependency_in rows.now) → ⊥ }
 {
-    let mut needs = ArrayVec::new();
+    let mut dependencies = ArrayVec::new();
     for row in rows {
-        needs.push(need_in(row)?);
+        dependencies.push(dependency_in(row)?);
     }
-    Some(needs)
+    Some(dependencies)
 }
 
 /// The group of a row, unless it has too many alternatives, or one for a number of no image.
@@ -92,7 +94,7 @@ fn group_in(row: &GroupRow) -> Option<Group>
     ensures none { result ≡ None → HasFewAlternatives row.now → FitsGroup (group_in row.now) → ⊥ }
 {
     Some(Group {
-        alternatives: needs_in(row.alternatives.get(..row.count as usize)?)?,
+        alternatives: dependencies_in(row.alternatives.get(..row.count as usize)?)?,
     })
 }
 
@@ -111,13 +113,14 @@ fn groups_in(rows: &[GroupRow]) -> Option<ArrayVec<Group, MOST_GROUPS>>
     Some(groups)
 }
 
-/// The needs of the parts of an image, unless these are too many, or one is no need.
-fn needs_of(parts: &ImageParts) -> Option<ArrayVec<Dependency, MOST_DEPENDENCIES>>
-    ensures some { IfSome result (λ needs. HasNeeds parts.now needs.items) }
-    ensures none { result ≡ None → (needs : List Dependency) → HasNeeds parts.now needs
-        → AllByRecursion FitsDependency needs → ⊥ }
+/// The dependencies of the parts of an image, unless these are too many, or one can be of no image.
+fn dependencies_of(parts: &ImageParts) -> Option<ArrayVec<Dependency, MOST_DEPENDENCIES>>
+    ensures some { IfSome result (λ dependencies. HasDependencies parts.now dependencies.items) }
+    ensures none { result ≡ None → (dependencies : List Dependency)
+        → HasDependencies parts.now dependencies
+        → AllByRecursion FitsDependency dependencies → ⊥ }
 {
-    needs_in(parts.needs.get(..parts.needs_count as usize)?)
+    dependencies_in(parts.dependencies.get(..parts.dependencies_count as usize)?)
 }
 
 /// The groups of the parts of an image, unless these are too many, or one is no group.
@@ -152,16 +155,16 @@ fn slices_of(groups: &[Group]) -> [&[Dependency]; MOST_GROUPS]
     slices
 }
 
-/// Writes the image of the parts, with these needs and groups, to the front of a buffer.
+/// Writes the image of the parts, with these dependencies and groups, to the front of a buffer.
 fn write_parts(
     parts: &ImageParts,
-    needs: &[Dependency],
+    dependencies: &[Dependency],
     groups: &[Group],
     body: &[u8],
     image: &mut [u8],
     length: &mut u64,
 ) -> u32
-    requires needs { HasNeeds parts.now needs.now }
+    requires dependencies { HasDependencies parts.now dependencies.now }
     requires groups { HasGroups parts.now groups.now }
     ensures { AnswersMaking parts.now body.now image.old image.new length.new result }
 {
@@ -172,7 +175,7 @@ fn write_parts(
         flags: parts.flags,
         version: version_in(&parts.version),
         counter: counter_in(parts),
-        dependencies: needs,
+        dependencies,
         groups: &slices[..groups.len()],
         body,
     };
@@ -204,7 +207,7 @@ pub extern "C" fn bootswap_make_image(
     ensures { AnswersMaking parts.now body.now image.old image.new length.new result }
 {
     *length = 0;
-    let Some(needs) = needs_of(parts) else {
+    let Some(dependencies) = dependencies_of(parts) else {
         return BAD_IMAGE;
     };
     let Some(groups) = groups_of(parts) else {
@@ -212,7 +215,7 @@ pub extern "C" fn bootswap_make_image(
     };
     write_parts(
         parts,
-        needs.as_slice(),
+        dependencies.as_slice(),
         groups.as_slice(),
         body,
         image,

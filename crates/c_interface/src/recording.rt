@@ -43,8 +43,8 @@ fn run_recorded<L: Ledger, C: Call>(
     requires images { checked.now.identity.images ≡ checked.now.map.images }
     requires trial { IsTrial checked.now.boots }
     ensures { StepsRecorded checked.now (C.call call.now) bytes.now saved.old
-        (replayed bytes.now journal.new result.writes) saved.new journal.old journal.new (C.Answer.reply answer.new)
-        result.writes result.used }
+        (replayed bytes.now journal.new result.writes) saved.new journal.old journal.new
+        (C.Answer.reply answer.new) result.writes result.used }
 {
     let mut flash = OverlayFlash::<L>::new(blank, bytes, checked.map.sector_size, journal);
     resume_and_run(&mut flash, checked, saved, call, answer);
@@ -66,9 +66,9 @@ pub(crate) fn record_device<C: Call>(
     call: &C,
     answer: &mut C::Answer,
 ) -> Result<RecordedWrites, u32>
-    ensures outcome { IfOk result (λ outcome. RecordsOn setup.now (C.call call.now) bytes.now saved.old
-        (replayed bytes.now journal.new outcome.writes) saved.new journal.old journal.new (C.Answer.reply answer.new)
-        outcome.writes outcome.used) }
+    ensures outcome { IfOk result (λ outcome. RecordsOn setup.now (C.call call.now) bytes.now
+        saved.old (replayed bytes.now journal.new outcome.writes) saved.new journal.old journal.new
+        (C.Answer.reply answer.new) outcome.writes outcome.used) }
     ensures refused { IfErr result (λ number. IsRefusedSetup setup.now bytes.now number
         × (saved.new ≡ saved.old) × (journal.new ≡ journal.old)) }
 {
@@ -86,7 +86,8 @@ pub(crate) fn record_device<C: Call>(
     }
 }
 
-/// Provisions bytes as the flash of a device of this map, records the writes, and writes the answer.
+/// Provisions bytes as the flash of a device of this map, records the writes, and writes the
+/// answer.
 fn provision_recorded<L: Ledger>(
     blank: Blank,
     map: &SectorMap,
@@ -117,8 +118,8 @@ pub(crate) fn record_provision(
     given: &mut Result<(), Fault>,
 ) -> Result<RecordedWrites, u32>
     ensures outcome { IfOk result (λ outcome. ProvisionsOf setup.now bytes.now
-        (replayed bytes.now journal.new outcome.writes) journal.old journal.new (reply_of_result given.new)
-        outcome.writes outcome.used) }
+        (replayed bytes.now journal.new outcome.writes) journal.old journal.new
+        (reply_of_result given.new) outcome.writes outcome.used) }
     ensures refused { IfErr result (λ number. IsRefusedSetup setup.now bytes.now number
         × (journal.new ≡ journal.old)) }
 {

@@ -1,6 +1,7 @@
 //! The state of a device that its caller keeps between two calls.
 
-ghost use Rattle.std.specs.Prelude.{◌≡◌, ◌≤◌, List, Option, Some, None, IfSome, false, length, map, true};
+ghost use Rattle.std.specs.Prelude.{◌≡◌, ◌≤◌, List, Option, Some, None, IfSome, length, map};
+ghost use Rattle.std.specs.Prelude.{false, true};
 ghost use Rattle.upload.specs.declared.sessions.Upload.{Upload};
 ghost use Rattle.c_interface.specs.SavedState.{SavesUpload, SaveUploads, number_of_kind, row_of};
 ghost use Rattle.c_interface.specs.SavedState.{saved_kind};
@@ -132,8 +133,8 @@ pub(crate) fn load_uploads(rows: &[SavedUpload], uploads: &mut [Option<Upload>])
     requires uploads { length uploads.old ≡ 8 }
     ensures size { length uploads.new ≡ 8 }
     ensures some { result ≡ true → SaveUploads rows.now uploads.new }
-    ensures none { result ≡ false → (sessions : List (Option Upload)) → SaveUploads rows.now sessions
-        → ⊥ }
+    ensures none { result ≡ false → (sessions : List (Option Upload))
+        → SaveUploads rows.now sessions → ⊥ }
 {
     for i in 0..MOST_IMAGES {
         match load_upload(&rows[i]) {

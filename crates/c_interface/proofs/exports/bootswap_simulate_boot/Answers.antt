@@ -1,4 +1,4 @@
-use Rattle.std.proofs.Common.{refl, sym, subst}
+use Rattle.std.proofs.Common.{sym, subst}
 use Rattle.c_interface.specs.DeviceCall.{Boot}
 use Rattle.c_interface.specs.Answers.{Replied, NotCalled}
 use Rattle.c_interface.specs.Calls.{CallsOn}

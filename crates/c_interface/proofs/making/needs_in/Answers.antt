@@ -1,7 +1,0 @@
-use Rattle.std.proofs.Common.{refl}
-use Rattle.c_interface.proofs.Parts.{wide_need}
-use Rattle.c_interface.proofs.making.needs_in.Goals as goal
-
-pub returns-in_err-need_in-clause-none : goal.returns-in_err-need_in-clause-none
-returns-in_err-need_in-clause-none g c = λ none each.
-    wide_need c.args.rows.now c.loop-row.row-index _ c.loop-row-test.true (c.in_err-need_in.ensures.none refl) each
