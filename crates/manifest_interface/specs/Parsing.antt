@@ -14,8 +14,8 @@ use Rattle.manifest_interface.specs.declared.identity.IdentityRow.{IdentityRow}
 abbrev pub identity_in : IdentityRow → Identity
 identity_in row = record { vendor = row.vendor; class = row.class; images = row.images }
 
--- The answer of the call. A text that is read is in the row, as `bootswap_accept` takes it. A text
--- that is refused, or for which an allocation fails, leaves the row unchanged.
+-- The answer of the call. A text that is read is in the row, as `bootswap_journal_accept` takes it.
+-- A text that is refused, or for which an allocation fails, leaves the row unchanged.
 pub data Parses (identity : IdentityRow) (text : List ℕ) (old new : ManifestRow) (number : ℕ)
     : Type 0 where
   Read : (manifest : Manifest) → IsManifest (identity_in identity) text manifest

@@ -1,7 +1,7 @@
 //! A static library for C that reads the JSON text of a manifest.
 //!
-//! - Promises: The text of a manifest for this device is read exactly, as `bootswap_accept` takes
-//!   it. Any other text gets the lowest refusal that applies, and nothing is written.
+//! - Promises: The text of a manifest for this device is read exactly, as `bootswap_journal_accept`
+//!   takes it. Any other text gets the lowest refusal that applies, and nothing is written.
 //! - Main calls: `bootswap_parse_manifest`
 //! - Allocates: to read a text.
 //! - Callers: programs in C. `include/bootswap_manifest.h` declares the call.
