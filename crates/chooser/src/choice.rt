@@ -43,17 +43,8 @@ pub fn choose(table: &Table) -> Report
     choose_counted(table, &mut Steps::default())
 }
 
-/// Chooses as [`choose`] does, and writes the report to a place, so that none is copied.
-///
-/// # Examples
-///
-/// ```text
-/// // Image 0 runs 1.0.0+0 and requests 2.0.0+0. The security counters and the floor are 0.
-/// let table = Table::parse(b"image 0 1.0.0+0 0 0\nrequest 2.0.0+0 0\n")?;
-/// let mut report = Report::default();
-/// choose_into(&table, &mut report);
-/// assert!(rt; report == choose(&table));
-/// ```
+/// Chooses as [`choose`] does, and writes the report to a place, so that none is copied. What the
+/// place held before doesn't matter.
 pub fn choose_into(table: &Table, report: &mut Report)
     requires { IsValid table.now running_set }
     ensures right { IsRight table.now report.new }
