@@ -1,7 +1,7 @@
 //! The calls of a device, as C makes them.
 
 ghost use Rattle.c_interface.specs.Answers.{Accepts, Answers, HasNoTexts, HasTexts};
-ghost use Rattle.std.specs.Prelude.{◌≡◌, ◌<◌, IfSome, None};
+ghost use Rattle.std.specs.Prelude.{◌≡◌, ◌<◌, false, true};
 ghost use Rattle.c_interface.specs.Lifecycle.{IsBoot};
 ghost use Rattle.c_interface.specs.Numbers.{MOST_COMPONENTS};
 ghost use Rattle.manifest.specs.Rows.{IsManifestOf};
@@ -20,13 +20,20 @@ use crate::texts::put_texts;
 use machine::Reply;
 use manifest::{Manifest, ManifestRow, manifest_in};
 
-/// The manifest of a row, unless it has too many components. Copies of it take stack only here.
+/// Writes the manifest of a row, unless the row has too many components, and returns whether it
+/// did. Copies of the manifest take stack only here.
 #[inline(never)]
-pub(crate) fn manifest_of(row: &ManifestRow) -> Option<Manifest>
-    ensures some { IfSome result (IsManifestOf row.now) }
-    ensures none { result ≡ None → MOST_COMPONENTS < row.now.count }
+pub(crate) fn put_manifest(row: &ManifestRow, manifest: &mut Manifest) -> bool
+    ensures some { result ≡ true → IsManifestOf row.now manifest.new }
+    ensures none { result ≡ false → MOST_COMPONENTS < row.now.count }
 {
-    manifest_in(row)
+    match manifest_in(row) {
+        Some(given) => {
+            *manifest = given;
+            true
+        }
+        None => false,
+    }
 }
 
 /// Makes a call on the device of a setup, reports its outcome, and returns the number of its reply.
@@ -102,17 +109,14 @@ pub extern "C" fn bootswap_simulate_accept(
     ensures { Accepts setup.now cuts.now manifest.now flash.old saved.old flash.new saved.new
         call_result.new result }
 {
-    match &manifest_of(manifest) {
-        Some(manifest) => {
-            let call = Accept(manifest);
-            let mut given = Ok(());
-            call_and_report(setup, flash, saved, cuts, &call, &mut given, call_result)
-        }
-        None => {
-            put_no_result(call_result);
-            TOO_MANY
-        }
+    let mut accepted = Manifest::default();
+    if !put_manifest(manifest, &mut accepted) {
+        put_no_result(call_result);
+        return TOO_MANY;
     }
+    let call = Accept(&accepted);
+    let mut given = Ok(());
+    call_and_report(setup, flash, saved, cuts, &call, &mut given, call_result)
 }
 
 /// Adds bytes to the upload of an image, after those that were received before. Images are numbered

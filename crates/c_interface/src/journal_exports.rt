@@ -11,14 +11,14 @@ ghost use Rattle.c_interface.specs.DeviceCall as call;
 use crate::answers::Answer;
 use crate::call_result::{CallResult, number_of, put_no_result, put_result};
 use crate::calls::{Accept, Boot, Call, Confirm, Finish, Piece, Withdraw};
-use crate::exports::manifest_of;
+use crate::exports::put_manifest;
 use crate::numbers::TOO_MANY;
 use crate::recording::{RecordedWrites, record_device, record_provision};
 use crate::saved_state::SavedState;
 use crate::setup::Setup;
 use crate::texts::put_texts;
 use machine::Reply;
-use manifest::ManifestRow;
+use manifest::{Manifest, ManifestRow};
 
 /// Makes a call on the device of a setup, records its writes, reports its outcome, and returns the
 /// number of its reply.
@@ -153,17 +153,14 @@ pub extern "C" fn bootswap_journal_accept(
         (performed flash.now journal.new call_result.new) saved.new journal.old journal.new
         call_result.new result }
 {
-    match &manifest_of(manifest) {
-        Some(manifest) => {
-            let call = Accept(manifest);
-            let mut given = Ok(());
-            record_and_report(setup, flash, saved, journal, &call, &mut given, call_result)
-        }
-        None => {
-            put_no_result(call_result);
-            TOO_MANY
-        }
+    let mut accepted = Manifest::default();
+    if !put_manifest(manifest, &mut accepted) {
+        put_no_result(call_result);
+        return TOO_MANY;
     }
+    let call = Accept(&accepted);
+    let mut given = Ok(());
+    record_and_report(setup, flash, saved, journal, &call, &mut given, call_result)
 }
 
 /// Adds bytes to the upload of an image, as `bootswap_simulate_piece` does, and records the writes
