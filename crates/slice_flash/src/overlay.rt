@@ -30,7 +30,8 @@ use std::sync::ledger::{Blank, Book, Ledger, Share};
 /// Sectors whose numbers are equal modulo 64 share one row of an index. It knows the last of them
 /// that was erased or changed for the first time. A read in another one that was changed walks all
 /// writes. Sectors whose numbers are equal modulo 1024 count as changed together, and a program over
-/// several sectors counts as a change of all sectors.
+/// several sectors counts as a change of all sectors. A row holds no place 2^32 bytes or more after
+/// the front of the journal: a read that would begin there walks all writes.
 ///
 /// A caller that performs the journal on the part begins with an empty one, and so with reads that
 /// walk no writes.
