@@ -28,10 +28,6 @@ HEADERS = (HEADER, "include/bootswap_simulate.h", "include/bootswap_manifest.h")
 # Names of the header that are others elsewhere: `class` is a word of C++, and a number of the header has `INVALID_SET`.
 OTHER_NAMES = {"class": "class_id", "InvalidSet": "RunningInvalid"}
 
-# Fields and numbers that have a name of their own in Rattle.
-RATTLE_NAMES = {"needs": "dependencies", "needs_count": "dependencies_count", "NO_ROOM": "TOO_SMALL"}
-RATTLE_FIELDS = {("CutRow", "left"): "residue"}
-
 NUMBERS = {"u8": 1, "u16": 2, "u32": 4, "u64": 8}
 
 # Bounds of the journal. The flash of a setup that has a map has fewer than 2^32 bytes, in sectors of 512 bytes or more.
@@ -171,7 +167,7 @@ def structs_of_rattle():
 
     def fields_of(struct):
         fields = re.findall(r"^    pub (\w+): (.+),$", bodies[struct], re.MULTILINE)
-        return [(RATTLE_FIELDS.get((struct, name)) or RATTLE_NAMES.get(name, name), kind_of(kind)) for name, kind in fields]
+        return [(name, kind_of(kind)) for name, kind in fields]
 
     return {name: fields_of(name) for name in bodies}
 
@@ -355,8 +351,7 @@ class HeaderTest(unittest.TestCase):
 
     def test_numbers_that_calls_return(self):
         wanted = self.enums["status"]
-        consts = [re.findall(r"^pub const (\w+): u32 = (\d+);", it, re.MULTILINE) for it in sources()]
-        consts = [{RATTLE_NAMES.get(name, name): number for name, number in it} for it in consts]
+        consts = [dict(re.findall(r"^pub const (\w+): u32 = (\d+);", it, re.MULTILINE)) for it in sources()]
         self.assertIn({name: str(number) for name, number in wanted.items()}, consts)
         self.assertEqual({it.name: it.value for it in self.module.Number}, wanted)
         self.assertEqual(self.module.Number.NO_ROOM, self.module.Number.TOO_SMALL)

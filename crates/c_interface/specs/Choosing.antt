@@ -9,7 +9,7 @@ use Rattle.certificate.specs.Rightness.{IsRight}
 use Rattle.certificate.specs.StandardOrder.{IsInStandardOrder}
 use Rattle.certificate.specs.TableText.{IsSomeTable, IsTableText}
 use Rattle.c_interface.specs.Texts.{MOST_REPORT}
-use Rattle.c_interface.specs.Numbers.{DONE, INVALID_SET, NO_REPORT, NO_ROOM, NO_TABLE, WRONG}
+use Rattle.c_interface.specs.Numbers.{DONE, INVALID_SET, NO_REPORT, TOO_SMALL, NO_TABLE, WRONG}
 
 -- The answer of a choice. Without a report the buffer is unchanged, and the length is 0 or the
 -- number of a bad line. A buffer of 2048 bytes is large enough for every report.
@@ -24,7 +24,7 @@ pub data AnswersChoice (text old new : List ℕ) (out number : ℕ) : Type 0 whe
       → out ≡ 0 → new ≡ old → number ≡ INVALID_SET → AnswersChoice text old new out number
   NoRoom : (table : Table) (report : Report) → IsTableText text table → IsRight table report
       → IsInStandardOrder table report.refusals.items → length old < length (report_text report)
-      → length (report_text report) ≤ MOST_REPORT → out ≡ 0 → new ≡ old → number ≡ NO_ROOM
+      → length (report_text report) ≤ MOST_REPORT → out ≡ 0 → new ≡ old → number ≡ TOO_SMALL
       → AnswersChoice text old new out number
 
 -- The answer of a check. The report is read only if the table is one.

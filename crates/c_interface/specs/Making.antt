@@ -9,7 +9,7 @@ use Rattle.version_order.specs.declared.group.Group.{Group}
 use Rattle.image_reading.specs.Image.{IsIntact, image_bytes}
 use Rattle.tlv.specs.Making.{FitsSpec, IsMakeable, description_of, groups_of, image_of}
 use Rattle.tlv.specs.declared.make.spec.ImageSpec.{ImageSpec}
-use Rattle.c_interface.specs.Numbers.{BAD_IMAGE, DONE, NO_ROOM}
+use Rattle.c_interface.specs.Numbers.{BAD_IMAGE, DONE, TOO_SMALL}
 use Rattle.c_interface.specs.declared.call_result.DependencyRow.{DependencyRow}
 use Rattle.c_interface.specs.declared.call_result.VersionRow.{VersionRow}
 use Rattle.c_interface.specs.declared.description.GroupRow.{GroupRow}
@@ -75,6 +75,6 @@ pub data AnswersMaking (parts : ImageParts) (body old new : List ℕ) (out numbe
       → number ≡ DONE → AnswersMaking parts body old new out number
   NoRoom : (spec : ImageSpec) → IsSpecOf parts body spec → IsMakeable spec
       → out ≡ length (image_bytes (image_of spec)) → length old < out → new ≡ old
-      → number ≡ NO_ROOM → AnswersMaking parts body old new out number
+      → number ≡ TOO_SMALL → AnswersMaking parts body old new out number
   BadImage : ((spec : ImageSpec) → IsSpecOf parts body spec → FitsSpec spec → IsMakeable spec → ⊥)
       → out ≡ 0 → new ≡ old → number ≡ BAD_IMAGE → AnswersMaking parts body old new out number

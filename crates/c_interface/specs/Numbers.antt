@@ -52,8 +52,8 @@ INVALID_SET = 26
 abbrev pub WRONG : ℕ
 WRONG = 27
 
-abbrev pub NO_ROOM : ℕ
-NO_ROOM = 28
+abbrev pub TOO_SMALL : ℕ
+TOO_SMALL = 28
 
 -- What the call that makes an image returns if no image has its values.
 abbrev pub BAD_IMAGE : ℕ

@@ -4,7 +4,7 @@
 
 ghost use Rattle.c_interface.specs.Choosing.{AnswersCheck, AnswersChoice};
 
-use crate::numbers::{DONE, INVALID_SET, NO_REPORT, NO_ROOM, NO_TABLE, WRONG};
+use crate::numbers::{DONE, INVALID_SET, NO_REPORT, NO_TABLE, TOO_SMALL, WRONG};
 use crate::texts::put_report;
 use certificate::{BadReport, BadTable, Report, Table, check, is_valid};
 use chooser::choose_into;
@@ -14,7 +14,7 @@ use chooser::choose_into;
 ///
 /// Returns 0, and in `length` the length of the report in bytes; `NO_TABLE`, and in `length` the
 /// number of the first bad line, counted from 1; `INVALID_SET` if the running images don't fit each
-/// other; or `NO_ROOM`, only if the report has more bytes than `buffer`.
+/// other; or `TOO_SMALL`, only if the report has more bytes than `buffer`.
 #[unsafe(no_mangle)]
 pub extern "C" fn bootswap_choose(table: &[u8], buffer: &mut [u8], length: &mut u64) -> u32
     ensures { AnswersChoice table.now buffer.old buffer.new length.new result }
@@ -38,7 +38,7 @@ pub extern "C" fn bootswap_choose(table: &[u8], buffer: &mut [u8], length: &mut 
         }
         None => {
             *length = 0;
-            NO_ROOM
+            TOO_SMALL
         }
     }
 }

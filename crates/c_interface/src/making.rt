@@ -12,7 +12,7 @@ ghost use Rattle.version_order.specs.declared.group.Group.{Group};
 
 use crate::call_result::{DependencyRow, VersionRow};
 use crate::description::GroupRow;
-use crate::numbers::{BAD_IMAGE, DONE, NO_ROOM};
+use crate::numbers::{BAD_IMAGE, DONE, TOO_SMALL};
 use arrayvec::ArrayVec;
 use common::limits::{MOST_DEPENDENCIES, MOST_GROUPS};
 use tlv::{ImageSpec, write_image};
@@ -182,7 +182,7 @@ fn write_parts(
     match write_image(&spec, image) {
         Ok(whole) => {
             *length = whole as u64;
-            if whole > image.len() { NO_ROOM } else { DONE }
+            if whole > image.len() { TOO_SMALL } else { DONE }
         }
         Err(_) => {
             *length = 0;
@@ -195,7 +195,7 @@ fn write_parts(
 /// writes it to the front of `image`.
 ///
 /// Returns 0, and in `length` the length of the image in bytes; `BAD_IMAGE` if no image has these
-/// values: then `length` is 0; or `NO_ROOM`, only if the image has more bytes than the buffer: then
+/// values: then `length` is 0; or `TOO_SMALL`, only if the image has more bytes than the buffer: then
 /// `length` is its length. The buffer changes only if the result is 0.
 #[unsafe(no_mangle)]
 pub extern "C" fn bootswap_make_image(

@@ -35,6 +35,6 @@ pub const INVALID_SET: u32 = 26;
 /// The report isn't right for the table.
 pub const WRONG: u32 = 27;
 /// The text or the image is longer than its buffer.
-pub const NO_ROOM: u32 = 28;
+pub const TOO_SMALL: u32 = 28;
 /// No image has the values.
 pub const BAD_IMAGE: u32 = 29;
