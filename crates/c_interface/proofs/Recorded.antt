@@ -4,15 +4,12 @@ use Rattle.flash_model.specs.Chip.{Chip, Fixed}
 use Rattle.sector_map.specs.declared.layout.SectorMap.{SectorMap}
 use Rattle.machine.specs.Steps.{cut_of}
 use Rattle.machine.specs.declared.reply.Reply.{Reply}
-use Rattle.machine.specs.declared.reply.Reply.TheVariants as reply_is
 use Rattle.slice_flash.specs.JournalFlash.{IsKept, Recording}
 use Rattle.slice_flash.specs.Overlay.{replayed}
 use Rattle.slice_flash.specs.OverlayFlash.{ShowsJournal}
 use Rattle.slice_flash.specs.Steps.{IsRecordedBy, IsTooShort, fixed_over}
-use Rattle.c_interface.specs.declared.call_result.CallResult.{CallResult}
 use Rattle.c_interface.specs.DeviceCall.{DeviceCall}
 use Rattle.c_interface.specs.DeviceCall.{Accept, Piece, Finish, Withdraw, Confirm, Boot}
-use Rattle.c_interface.specs.CallResult.{IsResultOf}
 use Rattle.c_interface.specs.Calls.{IsJournaled}
 use Rattle.boot_core.specs.Journal.{GetsFurther}
 use Rattle.c_interface.specs.Recording.{IsCutIfShort, IsEnough, IsJournalOf}
@@ -109,26 +106,3 @@ pub enough_to_provision : (reply : Reply) (bound room size used : ℕ) (new : Li
     → IsCutIfShort size new room used first last reply
     → last.journaled ≤ first.journaled + bound → bound ≤ room → cut_of reply ≡ 0
 enough_to_provision = uncut_by
-
--- ---- the result
-
--- A result with another count of used bytes is still the result of its reply.
-pub result_with : (reply : Reply) (used : ℕ) (call_result : CallResult) → IsResultOf reply call_result
-    → IsResultOf reply (record call_result { journal_length = used })
-result_with reply_is.Done used call_result is = ap (λ (r : CallResult). record r { journal_length = used }) is
-result_with (reply_is.Booted table report permanent) used call_result is = record {
-  set = is.set;
-  permanent = is.permanent;
-  images = is.images;
-  versions = is.versions;
-  refusals = is.refusals;
-  refused = is.refused;
-  fault = is.fault;
-  detail = is.detail;
-  check = is.check;
-  left = is.left;
-}
-result_with (reply_is.Reverted mask) used call_result is = ap (λ (r : CallResult). record r { journal_length = used }) is
-result_with (reply_is.TrialAgain set left) used call_result is = ap (λ (r : CallResult). record r { journal_length = used }) is
-result_with (reply_is.Refused fault) used call_result is = ap (λ (r : CallResult). record r { journal_length = used }) is
-result_with reply_is.Cut used call_result is = ap (λ (r : CallResult). record r { journal_length = used }) is

@@ -16,4 +16,4 @@ pub mod Making
 pub mod Slots
 pub mod Lifecycle
 pub mod State
-pub mod Blank
+pub mod BootAnswer

@@ -7,11 +7,10 @@ ghost use Rattle.c_interface.specs.Answers.{HasNoTexts};
 ghost use Rattle.c_interface.specs.CallResult.{IsResultOf, fault_result, number_of, only_counts};
 ghost use Rattle.c_interface.specs.DeviceCall.{is_cut};
 
-use crate::call_result::{CallResult, number_of, put_fault, put_no_result, put_result};
+use crate::call_result::{CallResult, put_fault, put_no_result};
 use crate::numbers::{CUT, DONE, REFUSED};
-use crate::texts::NO_TEXTS;
 use flash_model::FlashError;
-use machine::{Fault, Reply};
+use machine::Fault;
 use upload::UploadError;
 
 /// What a call of a device answers. Contracts see it as a reply of the machine.
@@ -28,17 +27,8 @@ pub(crate) trait Answer {
         ensures number { result ≡ number_of (reply self.now) };
 }
 
-impl Answer for Reply {
-    ghost reply = { λ reply. reply };
-
-    fn report(&self, writes: u64, used: u64, call_result: &mut CallResult) -> u32 {
-        put_result(self, writes, used, NO_TEXTS, call_result);
-        number_of(self)
-    }
-}
-
 /// Whether a fault says that power failed during the call.
-fn is_cut(fault: Fault) -> bool
+pub(crate) fn is_cut(fault: Fault) -> bool
     ensures { result ≡ is_cut fault }
 {
     match fault {

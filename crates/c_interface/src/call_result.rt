@@ -2,19 +2,18 @@
 
 ghost use Rattle.std.specs.Prelude.{◌≡◌, ◌<◌, ◌≤◌, ◌^◌, length};
 ghost use Rattle.c_interface.specs.CallResult.{AreDependencyRows, AreRefusalRows, AreVersionRows};
-ghost use Rattle.c_interface.specs.CallResult.{IsRefusalRow, HasTextLengths, IsResultOf, IsResultOfReport};
-ghost use Rattle.c_interface.specs.CallResult.{check_of, detail_of, dependencies_of, number_of};
+ghost use Rattle.c_interface.specs.CallResult.{IsRefusalRow, IsResultOfReport};
+ghost use Rattle.c_interface.specs.CallResult.{check_of, detail_of, dependencies_of};
 ghost use Rattle.c_interface.specs.CallResult.{reason_number};
 ghost use Rattle.c_interface.specs.CallResult.{taken_mask, fault_result, dependency_row};
 ghost use Rattle.c_interface.specs.CallResult.{no_result, version_row};
 ghost use Rattle.machine.specs.Codes.{code_of};
 
-use crate::numbers::{BOOTED, CUT, DONE, REFUSED, REVERTED, TRIAL_AGAIN};
 use crate::texts::Lengths;
 use arrayvec::ArrayVec;
 use certificate::{Reason, Refusal, Report, ReportedImage};
 use common::limits::{MOST_ALTERNATIVES, MOST_IMAGES};
-use machine::{Fault, Reply};
+use machine::Fault;
 use upload::UploadError;
 use version_order::{Dependency, Version};
 
@@ -282,7 +281,12 @@ fn check_of(fault: Fault) -> u32
 }
 
 /// The result of a boot that decided.
-fn report_result(report: &Report, permanent: bool, writes: u64, lengths: Lengths) -> CallResult
+pub(crate) fn report_result(
+    report: &Report,
+    permanent: bool,
+    writes: u64,
+    lengths: Lengths,
+) -> CallResult
     ensures fields { IsResultOfReport report.now permanent result }
     ensures writes { result.writes ≡ writes }
     ensures journal { result.journal_length ≡ 0 }
@@ -317,7 +321,7 @@ pub(crate) fn put_fault(fault: Fault, call_result: &mut CallResult)
 }
 
 /// The result of a refused call.
-fn fault_result(fault: Fault, writes: u64) -> CallResult
+pub(crate) fn fault_result(fault: Fault, writes: u64) -> CallResult
     ensures { result ≡ fault_result fault writes 0 }
 {
     let mut call_result = CallResult {
@@ -328,88 +332,10 @@ fn fault_result(fault: Fault, writes: u64) -> CallResult
     call_result
 }
 
-/// The result of a call with this reply and no journal. The lengths of texts count only for a boot
-/// that decided.
-fn result_of(reply: &Reply, writes: u64, lengths: Lengths) -> CallResult
-    ensures fields { IsResultOf reply.now result }
-    ensures writes { result.writes ≡ writes }
-    ensures journal { result.journal_length ≡ 0 }
-    ensures lengths { HasTextLengths reply.now lengths.table lengths.report result }
-{
-    match reply {
-        Reply::Booted {
-            table: _,
-            report,
-            permanent,
-        } => report_result(report, *permanent, writes, lengths),
-        Reply::Reverted(set) => CallResult {
-            writes,
-            set: u32::from(*set),
-            ..NO_RESULT
-        },
-        Reply::TrialAgain { set, left } => CallResult {
-            writes,
-            set: u32::from(*set),
-            left: u32::from(*left),
-            ..NO_RESULT
-        },
-        Reply::Refused(fault) => fault_result(*fault, writes),
-        Reply::Done | Reply::Cut => CallResult {
-            writes,
-            ..NO_RESULT
-        },
-    }
-}
-
-/// The result of a call with this reply, of whose journal this number of bytes is used.
-fn recorded_result_of(reply: &Reply, writes: u64, used: u64, lengths: Lengths) -> CallResult
-    ensures fields { IsResultOf reply.now result }
-    ensures writes { result.writes ≡ writes }
-    ensures journal { result.journal_length ≡ used }
-    ensures lengths { HasTextLengths reply.now lengths.table lengths.report result }
-{
-    CallResult {
-        journal_length: used,
-        ..result_of(reply, writes, lengths)
-    }
-}
-
-/// Writes the result of a call with this reply, of whose journal this number of bytes is used. A
-/// temporary result takes stack only here.
-#[inline(never)]
-pub(crate) fn put_result(
-    reply: &Reply,
-    writes: u64,
-    used: u64,
-    lengths: Lengths,
-    call_result: &mut CallResult,
-)
-    ensures fields { IsResultOf reply.now call_result.new }
-    ensures writes { call_result.new.writes ≡ writes }
-    ensures journal { call_result.new.journal_length ≡ used }
-    ensures lengths { HasTextLengths reply.now lengths.table lengths.report call_result.new }
-{
-    *call_result = recorded_result_of(reply, writes, used, lengths);
-}
-
 /// Writes the result if no call was made. A temporary one takes stack only here.
 #[inline(never)]
 pub(crate) fn put_no_result(call_result: &mut CallResult)
     ensures { call_result.new ≡ no_result }
 {
     *call_result = NO_RESULT;
-}
-
-/// The number that a call returns.
-pub(crate) fn number_of(reply: &Reply) -> u32
-    ensures { result ≡ number_of reply.now }
-{
-    match reply {
-        Reply::Done => DONE,
-        Reply::Booted { .. } => BOOTED,
-        Reply::Reverted(_) => REVERTED,
-        Reply::TrialAgain { .. } => TRIAL_AGAIN,
-        Reply::Refused(_) => REFUSED,
-        Reply::Cut => CUT,
-    }
 }

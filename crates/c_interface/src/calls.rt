@@ -2,34 +2,25 @@
 //!
 //! Each call is a type of its own, so that a program links only what its calls reach.
 
-ghost use Rattle.std.specs.Prelude.{◌≡◌, ◌≤◌, Bool, false, true};
+ghost use Rattle.std.specs.Prelude.{◌≡◌, false, true};
 ghost use Rattle.boot_core.specs.Booting.{EndsUploadsAndBoots};
 ghost use Rattle.boot_core.specs.Device.{seen};
 ghost use Rattle.sector_map.specs.Map.{IsLaidOut};
 ghost use Rattle.upload.specs.Sessions.{AllOpenAt};
 ghost use Rattle.upload.specs.View.{view};
+ghost use Rattle.c_interface.specs.BootAnswer.{boot_reply};
 ghost use Rattle.c_interface.specs.Calls.{HasBootResult, MakesCall};
-ghost use Rattle.c_interface.specs.Blank.{BootsIn, IsBooted};
-ghost use Rattle.boot_core.specs.Answers.{fault_reply, reply_of_boot};
-ghost use Rattle.boot_core.specs.Places.{reply_in};
-ghost use Rattle.decision.specs.Places.{read_as};
-ghost use Rattle.certificate.specs.declared.table.Table.{Table};
-ghost use Rattle.certificate.specs.declared.report.Report.{Report};
-ghost use Rattle.machine.specs.declared.reply.Reply.TheVariants as replies;
-ghost use Rattle.common.specs.Limits.{MOST_BOOTS_LEFT};
 ghost use Rattle.c_interface.specs.DeviceCall.{DeviceCall};
 ghost use Rattle.c_interface.specs.DeviceCall as calls;
 ghost use Rattle.c_interface.specs.SavedState.{is_piece};
 ghost use Rattle.c_interface.specs.Setup.{IsTrial};
 
 use crate::answers::Answer;
+use crate::boot_answer::BootAnswer;
 use crate::setup::CheckedSetup;
-use boot_core::apart::{
-    Outcome, accept_manifest, boot_device_into, confirm_on, finish, piece, reply_of, withdraw,
-};
-use certificate::{Report, Table};
+use boot_core::apart::{accept_manifest, boot_device_into, confirm_on, finish, piece, withdraw};
 use flash_model::Flash;
-use machine::{Fault, Reply};
+use machine::Fault;
 use manifest::Manifest;
 use sector_map::SectorMap;
 use upload::Uploads;
@@ -198,7 +189,7 @@ impl Call for Confirm {
 }
 
 impl Call for Boot {
-    type Answer = Reply;
+    type Answer = BootAnswer;
 
     ghost call = { λ it. calls.Boot };
 
@@ -212,7 +203,7 @@ impl Call for Boot {
         checked: &CheckedSetup,
         uploads: &mut Uploads,
         is_booted: &mut bool,
-        answer: &mut Reply,
+        answer: &mut BootAnswer,
     ) {
         boot_into(
             flash,
@@ -225,79 +216,7 @@ impl Call for Boot {
     }
 }
 
-/// Writes the reply to a refused boot. A reply has 8 kB. The temporary one takes stack only here,
-/// after the boot, because this function isn't inlined.
-#[inline(never)]
-fn put_refusal(reply: &mut Reply, fault: Fault)
-    ensures { reply.new ≡ fault_reply fault }
-{
-    *reply = reply_of(fault);
-}
-
-/// Writes a reply with an empty table and report. The temporary one takes stack only here.
-#[inline(never)]
-fn put_blank(reply: &mut Reply)
-    ensures { IsBooted reply.new }
-{
-    *reply = Reply::Booted {
-        table: Table::default(),
-        report: Report::default(),
-        permanent: false,
-    };
-}
-
-/// Boots the device, with the table and the report of a decision in the places of a reply.
-fn boot_in<F: Flash>(
-    flash: &mut F,
-    map: &SectorMap,
-    uploads: &mut Uploads,
-    is_booted: &mut bool,
-    left: u8,
-    reply: &mut Reply,
-) -> Result<Outcome, Fault>
-    requires laid_out { IsLaidOut map.now (F.chip flash.old) }
-    requires few { left ≤ MOST_BOOTS_LEFT }
-    requires blank { IsBooted reply.old }
-    ensures { BootsIn reply.new result (EndsUploadsAndBoots map.now left
-        (seen (F.chip flash.old) uploads.old.sessions is_booted.old)
-        (seen (F.chip flash.new) uploads.new.sessions is_booted.new)) }
-{
-    match reply {
-        Reply::Booted { table, report, .. } => {
-            boot_device_into(flash, map, uploads, is_booted, left, table, report)
-        }
-        _ => unreachable!(),
-    }
-}
-
-/// Writes the reply for the outcome of a boot. A temporary reply takes stack only here.
-#[inline(never)]
-fn put_outcome(reply: &mut Reply, given: Result<Outcome, Fault>)
-    ensures { (table : Table) (report : Report) (permanent : Bool)
-        → reply.old ≡ replies.Booted table report permanent
-        → reply.new ≡ reply_of_boot (read_as (reply_in table report) given) }
-{
-    match given {
-        Ok(Outcome::Booted { permanent: is }) => put_permanent(reply, is),
-        Ok(Outcome::Reverted(set)) => *reply = Reply::Reverted(set),
-        Ok(Outcome::TrialAgain { set, left }) => *reply = Reply::TrialAgain { set, left },
-        Ok(Outcome::Refused(fault)) => *reply = Reply::Refused(fault),
-        Err(fault) => put_refusal(reply, fault),
-    }
-}
-
-/// Sets whether a reply is of a permanent upgrade.
-fn put_permanent(reply: &mut Reply, is: bool)
-    ensures { (table : Table) (report : Report) (permanent : Bool)
-        → reply.old ≡ replies.Booted table report permanent
-        → reply.new ≡ replies.Booted table report is }
-{
-    if let Reply::Booted { permanent, .. } = reply {
-        *permanent = is;
-    }
-}
-
-/// Boots the device, and writes the reply.
+/// Boots the device, and writes the answer in its places.
 #[inline(never)]
 fn boot_into<F: Flash>(
     flash: &mut F,
@@ -305,15 +224,14 @@ fn boot_into<F: Flash>(
     uploads: &mut Uploads,
     is_booted: &mut bool,
     boots: u8,
-    reply: &mut Reply,
+    answer: &mut BootAnswer,
 )
     requires laid_out { IsLaidOut map.now (F.chip flash.old) }
     requires trial { IsTrial boots }
-    ensures { HasBootResult reply.new boots (λ left. EndsUploadsAndBoots map.now left
+    ensures { HasBootResult (boot_reply answer.new) boots (λ left. EndsUploadsAndBoots map.now left
         (seen (F.chip flash.old) uploads.old.sessions is_booted.old)
         (seen (F.chip flash.new) uploads.new.sessions is_booted.new)) }
 {
-    put_blank(reply);
-    let outcome = boot_in(flash, map, uploads, is_booted, boots - 1, reply);
-    put_outcome(reply, outcome);
+    let (table, report) = (&mut answer.table, &mut answer.report);
+    answer.outcome = boot_device_into(flash, map, uploads, is_booted, boots - 1, table, report);
 }

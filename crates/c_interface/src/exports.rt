@@ -9,15 +9,14 @@ ghost use Rattle.c_interface.specs.SavedState.{IsNotBooted};
 ghost use Rattle.c_interface.specs.DeviceCall as call;
 
 use crate::answers::Answer;
+use crate::boot_answer::{BootAnswer, number_of, put_result, put_texts};
 use crate::borrowed::call_device;
-use crate::call_result::{CallResult, number_of, put_no_result, put_result};
+use crate::call_result::{CallResult, put_no_result};
 use crate::calls::{Accept, Boot, Call, Confirm, Finish, Piece, Withdraw};
 use crate::cuts::CutRow;
 use crate::numbers::TOO_MANY;
 use crate::saved_state::{NOT_BOOTED, SavedState};
 use crate::setup::Setup;
-use crate::texts::put_texts;
-use machine::Reply;
 use manifest::{Manifest, ManifestRow, manifest_in};
 
 /// Writes the manifest of a row, unless the row has too many components, and returns whether it
@@ -78,12 +77,12 @@ pub extern "C" fn bootswap_simulate_boot(
         call_result.new (HasTexts call_result.new.table_length call_result.new.report_length
         table.old table.new report.old report.new) result }
 {
-    let mut reply = Reply::Done;
-    match call_device(setup, flash, saved, cuts, &Boot, &mut reply) {
+    let mut answer = BootAnswer::new();
+    match call_device(setup, flash, saved, cuts, &Boot, &mut answer) {
         Ok(writes) => {
-            let lengths = put_texts(&reply, table, report);
-            put_result(&reply, writes, 0, lengths, call_result);
-            number_of(&reply)
+            let lengths = put_texts(&answer, table, report);
+            put_result(&answer, writes, 0, lengths, call_result);
+            number_of(&answer)
         }
         Err(number) => {
             put_no_result(call_result);

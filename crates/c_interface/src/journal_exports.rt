@@ -9,15 +9,14 @@ ghost use Rattle.c_interface.specs.Recording.{AnswersRecorded, performed};
 ghost use Rattle.c_interface.specs.DeviceCall as call;
 
 use crate::answers::Answer;
-use crate::call_result::{CallResult, number_of, put_no_result, put_result};
+use crate::boot_answer::{BootAnswer, number_of, put_result, put_texts};
+use crate::call_result::{CallResult, put_no_result};
 use crate::calls::{Accept, Boot, Call, Confirm, Finish, Piece, Withdraw};
 use crate::exports::put_manifest;
 use crate::numbers::TOO_MANY;
 use crate::recording::{RecordedWrites, record_device, record_provision};
 use crate::saved_state::SavedState;
 use crate::setup::Setup;
-use crate::texts::put_texts;
-use machine::Reply;
 use manifest::{Manifest, ManifestRow};
 
 /// Makes a call on the device of a setup, records its writes, reports its outcome, and returns the
@@ -93,8 +92,16 @@ pub extern "C" fn bootswap_journal_boot(
         (performed flash.now journal.new call_result.new) saved.new journal.old journal.new
         call_result.new (HasNoTexts call_result.new) result }
 {
-    let mut reply = Reply::Done;
-    record_and_report(setup, flash, saved, journal, &Boot, &mut reply, call_result)
+    let mut answer = BootAnswer::new();
+    record_and_report(
+        setup,
+        flash,
+        saved,
+        journal,
+        &Boot,
+        &mut answer,
+        call_result,
+    )
 }
 
 /// Boots the device, as `bootswap_journal_boot` does. A boot that decides also writes its table and
@@ -119,13 +126,13 @@ pub extern "C" fn bootswap_journal_boot_with_texts(
         call_result.new (HasTexts call_result.new.table_length
         call_result.new.report_length table.old table.new report.old report.new) result }
 {
-    let mut reply = Reply::Done;
-    match record_device(setup, flash, journal, saved, &Boot, &mut reply) {
+    let mut answer = BootAnswer::new();
+    match record_device(setup, flash, journal, saved, &Boot, &mut answer) {
         Ok(outcome) => {
             let RecordedWrites { writes, used } = outcome;
-            let lengths = put_texts(&reply, table, report);
-            put_result(&reply, writes, used, lengths, call_result);
-            number_of(&reply)
+            let lengths = put_texts(&answer, table, report);
+            put_result(&answer, writes, used, lengths, call_result);
+            number_of(&answer)
         }
         Err(number) => {
             put_no_result(call_result);

@@ -31,6 +31,7 @@
 #![tactic(auto)]
 
 mod answers;
+mod boot_answer;
 mod borrowed;
 mod call_result;
 mod calls;

@@ -2,15 +2,13 @@
 
 ghost use Rattle.certificate.specs.ReportText.{report_text};
 ghost use Rattle.certificate.specs.TableText.{table_text};
-ghost use Rattle.c_interface.specs.Answers.{HasTexts};
 ghost use Rattle.c_interface.specs.Texts.{IsTried};
 
 use crate::sinks::{BufferSink, LengthSink};
 use certificate::{Report, Table};
-use machine::Reply;
 
 /// Writes the text of a table to the front of a buffer, if it fits, and returns its length.
-fn put_table(table: &Table, buffer: &mut [u8]) -> Option<u32>
+pub(crate) fn put_table(table: &Table, buffer: &mut [u8]) -> Option<u32>
     ensures { IsTried (table_text table.now) buffer.old buffer.new result }
 {
     let mut length = LengthSink::new();
@@ -45,17 +43,3 @@ pub(crate) const NO_TEXTS: Lengths = Lengths {
     table: 0,
     report: 0,
 };
-
-/// Writes the texts of a boot that decided to the front of two buffers.
-pub(crate) fn put_texts(reply: &Reply, table_buffer: &mut [u8], report_buffer: &mut [u8]) -> Lengths
-    ensures { HasTexts result.table result.report table_buffer.old table_buffer.new
-        report_buffer.old report_buffer.new reply.now }
-{
-    match reply {
-        Reply::Booted { table, report, .. } => Lengths {
-            table: put_table(table, table_buffer).unwrap_or(0),
-            report: put_report(report, report_buffer).unwrap_or(0),
-        },
-        _ => NO_TEXTS,
-    }
-}
