@@ -55,7 +55,7 @@ SHARING = [
      {"use crate::table::": "use crate::checking::images::*;\nuse crate::table::",
       "has_image(&entry.dependencies, number)": "(0..8).any(is_taken)"}),
     ("chooser/src/choice.rt", "certificate::checking::check",
-     {"    report_of(table,": "    right(table, certificate::check); report_of(table,"}),
+     {"    put_images(table,": "    right(table, certificate::check); put_images(table,"}),
     ("version_order/src/group.rt", "version_order::group::Group::copied",
      {"impl Group {": "impl Drop for Group {\n fn drop(&mut self) { self.copied(); }\n}\n\nimpl Group {"}),
 ]
