@@ -4,7 +4,7 @@ use Rattle.flash_model.specs.Chip.{Chip, Fixed}
 use Rattle.sector_map.specs.declared.layout.SectorMap.{SectorMap}
 use Rattle.machine.specs.Steps.{cut_of}
 use Rattle.machine.specs.declared.reply.Reply.{Reply}
-use Rattle.slice_flash.specs.JournalFlash.{IsKept, Recording}
+use Rattle.slice_flash.specs.Recording.{IsKept, Recording}
 use Rattle.slice_flash.specs.Overlay.{replayed}
 use Rattle.slice_flash.specs.OverlayFlash.{ShowsJournal}
 use Rattle.slice_flash.specs.Steps.{IsRecordedBy, IsTooShort, fixed_over}

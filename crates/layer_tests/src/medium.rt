@@ -3,7 +3,6 @@
 //! Expected bytes, sectors and addresses are constants.
 mod calls;
 mod flash_files;
-mod journal_flash;
 mod lent_flash;
 mod maps;
 mod memory_flash;

@@ -8,13 +8,13 @@ use Rattle.std.proofs.lemmas.List.{drop_at, drop-drop, drop-take, length-append,
 use Rattle.std.proofs.lemmas.Nat.{from_le_bytes-to_le_bytes_4}
 use Rattle.flash_model.specs.Torn.{replaced}
 use Rattle.slice_flash.specs.Index.{IsOneMore}
-use Rattle.slice_flash.specs.JournalFlash.{Recording, Records, recorded}
+use Rattle.slice_flash.specs.Recording.{Recording, Records, recorded}
 use Rattle.slice_flash.specs.Overlay.{number_at, kind_at, length_at, place_at, position, done_at, replayed, room_at, AreEntries, IsEntryAt}
-use Rattle.slice_flash.proofs.Writes.{bytes_back, put_back}
-use Rattle.slice_flash.proofs.Recorded.{at_is, length_is, lies_inside, one_recorded}
-use Rattle.slice_flash.specs.Asked.{length_of, room_of, step_of}
+use Rattle.slice_flash.proofs.Writes.{bytes_back}
+use Rattle.slice_flash.proofs.Recorded.{at_is, length_is, lies_inside}
+use Rattle.slice_flash.specs.Asked.{step_of}
 use Rattle.slice_flash.specs.declared.steps.Asked.{Asked}
-use Rattle.slice_flash.specs.Steps.{IsAccepted, IsRecordedBy, Step, Programmed, Erased, at_of, header, range_of, spelled}
+use Rattle.slice_flash.specs.Steps.{IsAccepted, Step, Programmed, Erased, at_of, header, range_of, spelled}
 
 -- ---- an entry, by whether it is a program
 
@@ -283,23 +283,6 @@ appended_asked size total at asked base journal entry rest used writes is long w
     let inside = range_inside size at asked (replayed base journal writes) is in
     appended base journal entry rest used writes (step_of at asked) fits end are
     (omega (arith, inside, long, whole)) (omega (arith, whole, small)) spells
-
--- The journal records one more write.
-pub recorded_asked : (size at room : ℕ) (asked : Asked) (base journal entry after : List ℕ) (used writes : ℕ)
-    → IsAccepted size (step_of at asked) (replayed base journal writes) → room ≡ room_of asked → used ≤ length journal
-    → entry ≡ spelled (step_of at asked)
-    → after ≡ replaced (at_of (step_of at asked)) (range_of (step_of at asked)) (replayed base journal writes)
-    → ∥ IsRecordedBy size base (replayed base journal writes) (take used journal) writes ∥₁
-    → ∥ IsRecordedBy size base after (take (used + room) (take used journal ++ (entry ++ drop (used + room - used) (drop used journal))))
-    (writes + 1) ∥₁
-recorded_asked size at room asked base journal entry after used writes is wide fits spells grows was =
-    let step : Step = step_of at asked in
-    let bytes : List ℕ = replayed base journal writes in
-    let all : List ℕ = take (used + room) (take used journal ++ (entry ++ drop (used + room - used) (drop used journal))) in
-    subst (λ (b : List ℕ). ∥ IsRecordedBy size base b all (writes + 1) ∥₁)
-    (put_back at (length_of asked) bytes (range_of step) (range_of step) refl (length_is at asked)
-    ∙ ap (λ a. replaced a (range_of step) bytes) (at_is at asked) ∙ sym grows)
-    (one_recorded size at (length_of asked) used room base bytes journal entry (range_of step) writes asked is refl wide fits spells refl was)
 
 -- What an index needs to know of the journal.
 pub one_more_asked : (size total at : ℕ) (asked : Asked) (base journal entry rest : List ℕ) (used writes : ℕ)

@@ -17,9 +17,8 @@ use Rattle.flash_model.proofs.WrittenLaws.{leaves_done}
 use Rattle.slice_flash.specs.declared.steps.Asked.{Asked}
 use Rattle.slice_flash.specs.declared.steps.Asked.TheVariants as asked
 use Rattle.slice_flash.specs.Asked.{length_of, room_of, step_of}
-use Rattle.slice_flash.specs.JournalFlash.{Recording, Records, recorded, refused}
+use Rattle.slice_flash.specs.Recording.{Recording, Records, recorded, refused}
 use Rattle.slice_flash.proofs.Refused.{ends_off, fails_program}
-use Rattle.slice_flash.proofs.Writes.{put_back}
 use Rattle.slice_flash.specs.Steps.{AreAccepted, IsAccepted, IsRecordedBy, Step, Programmed, Erased, after_steps, at_of, fixed_over, range_of, spelled, spelling}
 
 -- No number is on the empty list.
@@ -122,24 +121,22 @@ rest_kept used room journal first new fits long same =
     ∙ ap (λ (l : List ℕ). drop (used + room - used) l) same
     ∙ drop-drop (used + room - used) used first ∙ ap (λ k. drop k first) (omega arith)
 
--- A write that was recorded and done.
-pub one_recorded : (size at n used room : ℕ) (first bytes journal entry range : List ℕ) (writes : ℕ) (asked : Asked)
-    → IsAccepted size (step_of at asked) bytes → n ≡ length_of asked → room ≡ room_of asked → used ≤ length journal
-    → entry ≡ spelled (step_of at asked) → range ≡ range_of (step_of at asked)
+-- The journal records one more write.
+pub one_recorded : (size at used room : ℕ) (first bytes journal entry after : List ℕ) (writes : ℕ) (asked : Asked)
+    → IsAccepted size (step_of at asked) bytes → room ≡ room_of asked → used ≤ length journal
+    → entry ≡ spelled (step_of at asked) → after ≡ replaced (at_of (step_of at asked)) (range_of (step_of at asked)) bytes
     → ∥ IsRecordedBy size first bytes (take used journal) writes ∥₁
-    → ∥ IsRecordedBy size first (take at bytes ++ (range ++ drop (at + n - at) (drop at bytes)))
+    → ∥ IsRecordedBy size first after
     (take (used + room) (take used journal ++ (entry ++ drop (used + room - used) (drop used journal)))) (writes + 1) ∥₁
-one_recorded size at n used room first bytes journal entry range writes asked taken long wide fits spells leaves was =
+one_recorded size at used room first bytes journal entry after writes asked taken wide fits spells grows was =
     let step : Step = step_of at asked in
     let tall : length entry ≡ room = ap (λ (l : List ℕ). length l) spells ∙ sym (room_is at asked) ∙ sym wide in
-    let done = put_back at n bytes range (range_of step) leaves (length_is at asked ∙ sym long) in
     ∥∥₁_map was (λ is. record {
       steps = step ∷ is.steps;
       spells = entry_taken used room journal entry _ fits tall
           ∙ ap (λ (l : List ℕ). l ++ entry) is.spells ∙ ap (λ (l : List ℕ). spelling is.steps ++ l) spells;
       counted = omega (arith, is.counted);
-      makes = done ∙ ap (λ (l : List ℕ). replaced at (range_of step) l) is.makes
-          ∙ ap (λ a. replaced a (range_of step) (after_steps first is.steps)) (at_is at asked);
+      makes = grows ∙ ap (λ (l : List ℕ). replaced (at_of step) (range_of step) l) is.makes;
       accepted = (subst (λ (l : List ℕ). IsAccepted size step l) is.makes taken, is.accepted);
     })
 

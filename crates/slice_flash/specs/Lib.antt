@@ -2,7 +2,7 @@ pub mod Rows
 pub mod SliceFlash
 pub mod Steps
 pub mod Asked
-pub mod JournalFlash
+pub mod Recording
 pub mod ReadOnly
 pub mod Overlay
 pub mod OverlayFlash

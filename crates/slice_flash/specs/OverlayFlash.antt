@@ -3,7 +3,7 @@ use Rattle.std.specs.Prelude.{◌≡◌, ℕ, ◌+◌, ◌/◌, List, length}
 use Rattle.std.specs.Borrow.{MutBor}
 use Rattle.flash_model.specs.Chip.{Chip}
 use Rattle.flash_model.specs.Memory.{new_chip, with_counts}
-use Rattle.slice_flash.specs.JournalFlash.{Recording}
+use Rattle.slice_flash.specs.Recording.{Recording}
 use Rattle.slice_flash.specs.Overlay.{replayed}
 use Rattle.slice_flash.specs.Steps.{fixed_over}
 use Rattle.slice_flash.specs.declared.overlay.OverlayFlash.{OverlayFlash}

@@ -82,8 +82,8 @@ pub record IsTooShort (size : ℕ) (bytes : List ℕ) (room used : ℕ) : Type 0
   pub accepted : IsAccepted size step bytes
   pub long : room < used + length (spelled step)
 
--- What no call changes of a flash that had the first bytes and whose journal had the others. Both
--- are borrowed, and the borrows have these names.
+-- What no call changes of a flash that had the first bytes and whose journal had the others. The
+-- borrows of both have these names. That of bytes that are only read has the name 0.
 abbrev pub fixed_over : List ℕ → ℕ → List ℕ → ℕ → Fixed
 fixed_over first name journal_first journal_name = record unarmed {
   first = first;

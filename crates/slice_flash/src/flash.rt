@@ -92,7 +92,7 @@ impl<'a, L: Ledger> Drop for SliceFlash<'a, L> {
 
 /// Reads the bytes from offset `at` into `out`. The bytes are borrowed as `&mut`, because a `&mut`
 /// field that is passed as `&` isn't known to be unchanged.
-pub(crate) fn read_from(bytes: &mut [u8], at: usize, out: &mut [u8])
+fn read_from(bytes: &mut [u8], at: usize, out: &mut [u8])
     requires { at + length out.old ≤ length bytes.old }
     ensures same { bytes.new ≡ bytes.old }
     ensures read { out.new ≡ slice_range bytes.old at (at + length out.old) }

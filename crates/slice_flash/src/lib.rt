@@ -1,19 +1,19 @@
 //! A flash over the caller's bytes, without a heap: the example for authors of drivers.
 //!
 //! - Promises: A flash over the caller's bytes keeps the trait `Flash`, and is interrupted exactly
-//!   as its table says. The caller knows the bytes afterwards. A flash with a journal records each
-//!   write before it is done: the recorded writes, performed one by one on the bytes from before,
-//!   make the bytes afterwards. If the journal is as long as what the writes ask for, none is
-//!   refused. A flash over bytes that are only read does the same, and reads show its writes.
-//! - Main calls: `SliceFlash`, `JournalFlash`, `OverlayFlash`, `ReadOnlyFlash`
+//!   as its table says. The caller knows the bytes afterwards. A flash over bytes that are only read
+//!   records each write in a journal, and reads show the writes: performed one by one on these bytes,
+//!   the recorded writes make those of the flash. If the journal is as long as what the writes ask
+//!   for, none is refused.
+//! - Main calls: `SliceFlash`, `OverlayFlash`, `ReadOnlyFlash`
 //! - Allocates: no.
 //! - Callers: any program without a heap, and tests.
 //!
-//! The caller passes a `&mut` to the bytes. For a `SliceFlash` it also passes a table of the writes
-//! that are to be interrupted, for a `JournalFlash` a `&mut` to the bytes of a journal. For an
-//! `OverlayFlash` it passes such a journal, and only a `&` to the bytes. When the flash is dropped,
-//! the caller knows about the borrowed bytes what the contracts of the flash said. This holds even
-//! if generic calls borrowed the flash in between.
+//! For a `SliceFlash` the caller passes a `&mut` to the bytes, and a table of the writes that are to
+//! be interrupted. For an `OverlayFlash` it passes a `&` to the bytes, and a `&mut` to those of a
+//! journal. For a `ReadOnlyFlash` it passes only a `&` to the bytes. When the flash is dropped, the
+//! caller knows about the bytes behind a `&mut` what the contracts of the flash said. This holds
+//! even if generic calls borrowed the flash in between.
 //!
 //! A driver has these parts, with `SliceFlash` as the example:
 //! - a `Chip` for contracts, `chip_of`, and the laws of `Flash`, as ghost fields of the struct;
@@ -27,14 +27,12 @@
 
 mod flash;
 mod index;
-mod journal;
 mod overlay;
 mod read_only;
 mod steps;
 mod table;
 
 pub use flash::SliceFlash;
-pub use journal::JournalFlash;
 pub use overlay::OverlayFlash;
 pub use read_only::ReadOnlyFlash;
 pub use table::{ArmedCut, Left};

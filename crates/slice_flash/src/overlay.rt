@@ -16,7 +16,16 @@ use flash_model::{Flash, FlashError, Origin, Result};
 use std::sync::ledger::{Blank, Book, Ledger, Share};
 
 /// A flash over bytes that are only read, such as a part that is mapped into memory. It records each
-/// write in a borrowed journal, in the form of that of a `JournalFlash`.
+/// write in a borrowed journal.
+///
+/// A *write* is a program or an erase. It takes 12 bytes of the journal: three numbers of 4 bytes,
+/// the lowest byte first. The first is the kind, 0 for a program and 1 for an erase. The second is
+/// the address. The third is the length of the range in bytes. After a program its bytes follow.
+/// Nothing lies between two writes.
+///
+/// A write that doesn't fit in the rest of the journal is refused. It returns `Cut`, no byte of the
+/// journal changes, it isn't counted as a write, and the flash is off until `restart`. Every other
+/// write is recorded.
 ///
 /// The bytes of the flash are those of the base with the recorded writes performed, one by one. A
 /// read copies its range of the base, and performs on the copy what the writes change there. Its
@@ -36,16 +45,28 @@ use std::sync::ledger::{Blank, Book, Ledger, Share};
 /// A caller that performs the journal on the part begins with an empty one, and so with reads that
 /// walk no writes.
 ///
-/// A write that doesn't fit in the rest of the journal is refused. It returns `Cut`, no byte of the
-/// journal changes, it isn't counted as a write, and the flash is off until `restart`.
-///
 /// No call allocates. When the flash is dropped, the caller knows the bytes of the journal. If
 /// functions borrowed the flash, it knows that the used ones record exactly the counted writes, and
 /// so what the part holds once they are performed.
 ///
-/// Contracts see it as a `Recording` (`recording_of`), like a `JournalFlash`: the chip, the journal,
-/// and how many bytes of it are used. A flash is made as a `JournalFlash` is, in a function that is
-/// generic in a ledger of three parts.
+/// Contracts see it as a `Recording` (`recording_of`): the chip, the journal, and how many bytes of
+/// it are used. The used bytes record exactly the counted writes. Performed one by one on the base,
+/// these writes make the bytes of the flash. The bytes after the used ones stay as they were.
+///
+/// A flash is made in a function that is generic in the ledger, like a `MemFlash`, but with a
+/// ledger of three parts:
+///
+/// ```text
+/// fn helper<L: Ledger>(blank: Blank, base: &[u8], journal: &mut [u8])
+///     requires blank { IsBlankOf blank L.name L.parts 3 }
+///     requires whole { length base.now ≡ 8192 }
+/// {
+///     let mut flash = OverlayFlash::<L>::new(blank, base, 512, journal);
+///     ..
+/// }
+///
+/// helper::<Brand>(Blank::new(3), &base, &mut journal);
+/// ```
 pub struct OverlayFlash<'a, 'b, L: Ledger> {
     base: &'a [u8],
     journal: &'b mut [u8],
@@ -208,7 +229,7 @@ fn read_through(
 
 impl<'a, 'b, L: Ledger> OverlayFlash<'a, 'b, L> {
     ghost use Rattle.slice_flash.specs.Steps.{IsAccepted, spelled};
-    ghost use Rattle.slice_flash.specs.JournalFlash.{recorded, refused, IsKept, Records};
+    ghost use Rattle.slice_flash.specs.Recording.{recorded, refused, IsKept, Records};
     ghost use Rattle.slice_flash.specs.OverlayFlash.{chip_of, new_recording, recording_of, ShowsJournal};
     ghost use Rattle.slice_flash.specs.Asked.{step_of};
 
@@ -216,6 +237,21 @@ impl<'a, 'b, L: Ledger> OverlayFlash<'a, 'b, L> {
     /// 4294967295 bytes together. The flash is on, and no byte of the journal is used.
     ///
     /// `blank` is a token of the ledger with three parts, as `Blank::new(3)` makes it.
+    ///
+    /// # Examples
+    ///
+    /// ```text
+    /// // `base` has two sectors of 512 bytes, each byte 7, and `journal` has 32 bytes.
+    /// let mut flash = OverlayFlash::<L>::new(blank, base, 512, journal);
+    /// flash.erase(1)?;
+    /// assert!(rt; flash.used() == 12);
+    /// let answer = flash.program(512, &[7; 24]);
+    /// assert!(rt; answer == Err(FlashError::Cut) && flash.used() == 12);
+    /// flash.restart();
+    /// let mut bytes = [0; 4];
+    /// flash.read(510, &mut bytes)?;
+    /// assert!(rt; bytes == [7, 7, 0xff, 0xff]);
+    /// ```
     pub fn new(blank: Blank, base: &'a [u8], sector_size: u32, journal: &'b mut [u8]) -> Self
         requires blank { IsBlankOf blank L.name L.parts 3 }
         requires some { 0 < sector_size }
@@ -310,7 +346,7 @@ impl<'a, 'b, L: Ledger> Flash for OverlayFlash<'a, 'b, L> {
     ghost use Rattle.flash_model.specs.Chip.{size_of};
     ghost use Rattle.flash_model.specs.Calls.{CanProgram, Erases, Programs, ReadsBytes};
     ghost use Rattle.slice_flash.specs.Steps.{Erased, Programmed};
-    ghost use Rattle.slice_flash.specs.JournalFlash.{erased, recorded, Records};
+    ghost use Rattle.slice_flash.specs.Recording.{erased, recorded, Records};
     ghost use Rattle.slice_flash.specs.OverlayFlash.{chip_of, recording_of};
 
     ghost chip = { chip_of };

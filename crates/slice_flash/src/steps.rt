@@ -1,7 +1,7 @@
-//! The writes that a journal records: their bytes there, and what each leaves in its range.
+//! The writes that a journal records, and their bytes there.
 
 ghost use Rattle.std.specs.Prelude.{◌≡◌, ◌+◌, ◌^◌, ◌<◌, ℕ, length, slice_index};
-ghost use Rattle.slice_flash.specs.Steps.{header, range_of, spelled};
+ghost use Rattle.slice_flash.specs.Steps.{header, spelled};
 ghost use Rattle.slice_flash.specs.Asked.{length_of, room_of, step_of};
 
 /// The length of an entry in bytes, without the bytes that a program writes.
@@ -14,16 +14,6 @@ pub(crate) enum Asked<'a> {
     Program(&'a [u8]),
     /// Erase this number of bytes.
     Erase(u32),
-}
-
-/// Returns the length of the range of a write in bytes.
-pub(crate) fn length_of(asked: Asked<'_>) -> usize
-    ensures { result ≡ length_of asked.entry }
-{
-    match asked {
-        Asked::Program(bytes) => bytes.len(),
-        Asked::Erase(n) => n as usize,
-    }
 }
 
 /// Returns how many bytes of a journal a write takes.
@@ -60,17 +50,5 @@ pub(crate) fn record(entry: &mut [u8], at: u32, asked: Asked<'_>)
             entry[HEADER..].copy_from_slice(bytes);
         }
         Asked::Erase(n) => put_header(entry, 1, at, n),
-    }
-}
-
-/// Does a write in its range.
-pub(crate) fn perform(range: &mut [u8], at: u32, asked: Asked<'_>)
-    requires { length range.old ≡ length_of asked }
-    ensures bytes { range.new ≡ range_of (step_of at asked.entry) }
-    ensures are_bytes { (k : ℕ) → slice_index range.new k < 256 }
-{
-    match asked {
-        Asked::Program(bytes) => range.copy_from_slice(bytes),
-        Asked::Erase(_) => range.fill(0xff),
     }
 }

@@ -8,7 +8,7 @@ use flash_model::{Flash, FlashError, MemFlash, Torn};
 use manifest::{Component, Manifest};
 use sector_map::{SectorMap, Side, is_within};
 use set_log::{State, append, read_state, start};
-use slice_flash::{ArmedCut, JournalFlash, Left, SliceFlash};
+use slice_flash::{ArmedCut, Left, OverlayFlash, SliceFlash};
 use std::marker::Brand;
 use std::process::Abort;
 use std::sync::ledger::{Blank, Ledger};
@@ -76,43 +76,45 @@ fn cut_in_these_bytes(rt: &impl Abort, bytes: &mut [u8; 1024]) -> Result<(), Fla
     cut_in_bytes::<Brand>(rt, Blank::new(2), bytes)
 }
 
-fn record_in_bytes<L: Ledger>(
+/// Records an erase of a flash over bytes that are only read.
+fn record_over_bytes<L: Ledger>(
     rt: &impl Abort,
     blank: Blank,
-    bytes: &mut [u8; 1024],
+    base: &[u8; 1024],
     journal: &mut [u8; 32],
 ) -> Result<(), FlashError>
     requires blank { IsBlankOf blank L.name L.parts 3 }
 {
-    // example: slice_flash::JournalFlash::new
-    // `bytes` are two sectors of 512 bytes, and `journal` has 32 bytes.
-    let mut flash = JournalFlash::<L>::new(blank, bytes, 512, journal);
+    // example: slice_flash::OverlayFlash::new
+    // `base` has two sectors of 512 bytes, each byte 7, and `journal` has 32 bytes.
+    let mut flash = OverlayFlash::<L>::new(blank, base, 512, journal);
     flash.erase(1)?;
     assert!(rt; flash.used() == 12);
     let answer = flash.program(512, &[7; 24]);
     assert!(rt; answer == Err(FlashError::Cut) && flash.used() == 12);
+    flash.restart();
+    let mut bytes = [0; 4];
+    flash.read(510, &mut bytes)?;
+    assert!(rt; bytes == [7, 7, 0xff, 0xff]);
     // end of example
     Ok(())
 }
 
-fn record_in_these_bytes(
+fn record_over_these_bytes(
     rt: &impl Abort,
-    bytes: &mut [u8; 1024],
+    base: &[u8; 1024],
     journal: &mut [u8; 32],
 ) -> Result<(), FlashError> {
-    record_in_bytes::<Brand>(rt, Blank::new(3), bytes, journal)
+    record_over_bytes::<Brand>(rt, Blank::new(3), base, journal)
 }
 
 #[test]
 fn writes_are_recorded(rt: HostRuntime) -> Result<(), Fail> {
-    let mut bytes = [7; 1024];
     let mut journal = [0xee; 32];
-    record_in_these_bytes(&rt, &mut bytes, &mut journal)?;
-    let mut erased = [7; 1024];
-    erased[512..].fill(0xff);
+    record_over_these_bytes(&rt, &[7; 1024], &mut journal)?;
     let mut recorded = [0xee; 32];
     recorded[..12].copy_from_slice(&[1, 0, 0, 0, 0, 2, 0, 0, 0, 2, 0, 0]);
-    assert!(rt; bytes == erased && journal == recorded);
+    assert!(rt; journal == recorded);
     Ok(())
 }
 

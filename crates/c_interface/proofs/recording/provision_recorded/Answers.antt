@@ -1,7 +1,7 @@
 use Rattle.std.proofs.Common.{◌≡◌, rules, refl, ap, ◌∙◌}
 use Rattle.boot_core.specs.Answers.{reply_of_result}
 use Rattle.flash_model.specs.Chip.{Chip}
-use Rattle.slice_flash.specs.JournalFlash.{Recording}
+use Rattle.slice_flash.specs.Recording.{Recording}
 use Rattle.slice_flash.specs.OverlayFlash.{recording_of}
 use Rattle.slice_flash.specs.Steps.{fixed_over}
 use Rattle.c_interface.proofs.Asked.{dark_provided}

@@ -1,6 +1,6 @@
 use Rattle.std.proofs.Common.{◌≡◌, rules, refl, ap, ◌∙◌}
 use Rattle.flash_model.specs.Chip.{Chip}
-use Rattle.slice_flash.specs.JournalFlash.{Recording}
+use Rattle.slice_flash.specs.Recording.{Recording}
 use Rattle.slice_flash.specs.OverlayFlash.{recording_of}
 use Rattle.slice_flash.specs.Steps.{fixed_over}
 use Rattle.c_interface.proofs.Recorded.{cut_if_short, cut_over, enough_for, journal_of, shown}

@@ -1,4 +1,4 @@
-use Rattle.std.proofs.Common.{ℕ, ◌%◌, ◌/◌, arith}
+use Rattle.std.proofs.Common.{ℕ, ◌/◌, arith}
 use Rattle.std.proofs.lemmas.List.{length-replicate}
 use Rattle.slice_flash.specs.Steps.{Erased}
 use Rattle.slice_flash.proofs.Indexed.{erase_place, erased_row, index_grown, rows_with}

@@ -1,4 +1,4 @@
-use Rattle.std.proofs.Common.{◌%◌, ◌/◌, arith}
+use Rattle.std.proofs.Common.{◌/◌, arith}
 use Rattle.slice_flash.specs.Steps.{Programmed}
 use Rattle.slice_flash.proofs.Indexed.{first_row, index_grown, rows_kept, rows_with}
 use Rattle.slice_flash.proofs.index.Index.add_program.Goals as goal

@@ -1,7 +1,7 @@
 use Rattle.std.proofs.Common.{◌≡◌, ◌+◌, ◌≤◌, ◌<◌, ◌*◌, ℕ, List, length, slice_index, sym, ◌∙◌, ap, subst, arith, rules, true}
 use Rattle.flash_model.proofs.TornBytes.{length-replaced}
-use Rattle.slice_flash.proofs.Appended.{appended_asked, one_more_asked, range_inside, recorded_asked, records_done, step_bytes}
-use Rattle.slice_flash.proofs.Recorded.{is_written, rest_kept, room_is}
+use Rattle.slice_flash.proofs.Appended.{appended_asked, one_more_asked, range_inside, records_done, step_bytes}
+use Rattle.slice_flash.proofs.Recorded.{is_written, one_recorded, rest_kept, room_is}
 use Rattle.slice_flash.proofs.Writes.{put_back}
 use Rattle.slice_flash.specs.Asked.{step_of}
 use Rattle.slice_flash.specs.OverlayFlash.{bytes_of, recording_of}
@@ -53,8 +53,8 @@ invariant_of-self-clause-are_bytes g c =
 pub invariant_of-self-clause-recorded : goal.invariant_of-self-clause-recorded
 invariant_of-self-clause-recorded g c =
     let flash = c.args.self.now in
-    recorded_asked flash.sector_size c.args.at c.room_of-room.result c.args.asked flash.base.now flash.journal.now c.record.new.entry _
-    flash.used flash.writes c.requires c.room_of-room.ensures flash.fits c.record.ensures.entry
+    one_recorded flash.sector_size c.args.at flash.used c.room_of-room.result flash.base.now (bytes_of flash) flash.journal.now
+    c.record.new.entry _ flash.writes c.args.asked c.requires c.room_of-room.ensures flash.fits c.record.ensures.entry
     (appended_asked flash.sector_size (flash.sectors * flash.sector_size) c.args.at c.args.asked flash.base.now flash.journal.now
     c.record.new.entry _ flash.used flash.writes c.requires flash.whole flash.sized flash.addressed flash.fits flash.end flash.entries
     c.record.ensures.entry).bytes flash.recorded

@@ -2,7 +2,7 @@ use Rattle.std.proofs.Common.{arith, refl, ◌*◌, ℕ, Ok}
 use Rattle.std.proofs.lemmas.List.{length-replicate}
 use Rattle.flash_model.proofs.Frame.{product_le}
 use Rattle.slice_flash.specs.Steps.{Step, Erased}
-use Rattle.slice_flash.specs.JournalFlash.{Recording}
+use Rattle.slice_flash.specs.Recording.{Recording}
 use Rattle.slice_flash.specs.OverlayFlash.{recording_of}
 use Rattle.slice_flash.proofs.Writes.{erase_done}
 use Rattle.slice_flash.proofs.Recorded.{asked_recorded, programs_recorded}

@@ -1,14 +1,11 @@
 -- A flash that records its writes: what a contract sees of it, and what each of its writes leaves.
-use Rattle.std.specs.Prelude.{◌≡◌, ℕ, ◌+◌, ◌/◌, ◌<◌, ◌≤◌, List, true, false, length, drop, take}
+use Rattle.std.specs.Prelude.{◌≡◌, ℕ, ◌+◌, ◌<◌, ◌≤◌, List, true, false, length, drop, take}
 use Rattle.std.specs.Prelude.{Result, IsOk, IsErrOf}
-use Rattle.std.specs.Borrow.{MutBor}
 use Rattle.flash_model.specs.declared.error.FlashError.{FlashError}
 use Rattle.flash_model.specs.declared.error.FlashError.TheVariants.{Cut, Off}
 use Rattle.flash_model.specs.Chip.{Chip}
-use Rattle.flash_model.specs.Memory.{new_chip, with_counts}
 use Rattle.flash_model.specs.Torn.{replaced}
-use Rattle.slice_flash.specs.Steps.{IsRecordedBy, IsTooShort, Step, at_of, fixed_over, range_of, spelled}
-use Rattle.slice_flash.specs.declared.journal.JournalFlash.{JournalFlash}
+use Rattle.slice_flash.specs.Steps.{IsRecordedBy, IsTooShort, Step, at_of, range_of, spelled}
 
 -- A flash with a journal: its chip, how many bytes of the journal are used, and the bytes of the
 -- complete journal.
@@ -16,34 +13,6 @@ pub record Recording : Type 0 where
   pub chip : Chip
   pub used : ℕ
   pub journal : List ℕ
-
--- The chip of the flash. No write is armed, so each cut is a fault.
-abbrev pub chip_of : {L : Type 0} → JournalFlash L → Chip
-chip_of flash = record (with_counts flash.is_on flash.cuts.amount flash.erases.amount flash.writes
-    (new_chip flash.sector_size flash.sectors flash.bytes.now)) {
-      faults = flash.cuts.amount;
-      journaled = flash.used + flash.refused.amount;
-      fixed = fixed_over flash.origin.first flash.bytes.ghost_name flash.journal_origin.first
-          flash.journal.ghost_name;
-    }
-
--- The chip of the flash, with the journal.
-abbrev pub recording_of : {L : Type 0} → JournalFlash L → Recording
-recording_of flash = record {
-  chip = chip_of flash;
-  used = flash.used;
-  journal = flash.journal.now;
-}
-
--- A new flash over these bytes, in sectors of this size, with this journal.
-abbrev pub new_recording : ℕ → MutBor (List ℕ) → MutBor (List ℕ) → Recording
-new_recording size bytes journal = record {
-  chip = record (new_chip size (length bytes.now / size) bytes.now) {
-    fixed = fixed_over bytes.now bytes.ghost_name journal.now journal.ghost_name;
-  };
-  used = 0;
-  journal = journal.now;
-}
 
 -- What a journal says of its flash.
 pub record IsKept (recording : Recording) : Type 0 where
