@@ -44,8 +44,7 @@ fn record_and_report<C: Call>(
 }
 
 /// Provisions bytes as the flash of a device, as `bootswap_simulate_provision` does, and records
-/// the writes in the journal. The journal has room for them if it has 144 bytes, and 24 for each
-/// image.
+/// the writes in the journal. A journal of `BOOTSWAP_JOURNAL_PROVISION` bytes has room for them.
 ///
 /// Returns `DONE`, `REFUSED`, or why no call was made; or `CUT`, only if the journal was too short.
 /// After `CUT` it may be called again.
@@ -141,9 +140,8 @@ pub extern "C" fn bootswap_journal_boot_with_texts(
     }
 }
 
-/// Accepts a manifest, as `bootswap_simulate_accept` does, and records the writes in the journal.
-/// The journal has room for them if it has 120 bytes, and for each component 44 bytes, and 12 for
-/// each sector of its slot.
+/// Accepts a manifest, as `bootswap_simulate_accept` does, and records the writes in the journal. A
+/// journal of `BOOTSWAP_JOURNAL_ACCEPT` bytes has room for them.
 ///
 /// Returns `DONE`, `REFUSED`, or why no call was made, which includes `TOO_MANY` components: then
 /// nothing changed; or `CUT`, only if the journal was too short.
@@ -171,8 +169,8 @@ pub extern "C" fn bootswap_journal_accept(
 }
 
 /// Adds bytes to the upload of an image, as `bootswap_simulate_piece` does, and records the writes
-/// in the journal. The journal has room for them if it is 31 bytes longer than the added bytes.
-/// Images are numbered from 0.
+/// in the journal. A journal of `BOOTSWAP_JOURNAL_PIECE` bytes has room for them. Images are
+/// numbered from 0.
 ///
 /// Returns `DONE`, `REFUSED`, or why no call was made; or `CUT`, only if the journal was too short.
 #[unsafe(no_mangle)]
@@ -195,7 +193,8 @@ pub extern "C" fn bootswap_journal_piece(
 }
 
 /// Finishes the upload of an image, as `bootswap_simulate_finish` does, and records the writes in
-/// the journal. A journal of 68 bytes has room for them. Images are numbered from 0.
+/// the journal. A journal of `BOOTSWAP_JOURNAL_FINISH` bytes has room for them. Images are numbered
+/// from 0.
 ///
 /// Returns `DONE`, `REFUSED`, or why no call was made; or `CUT`, only if the journal was too short.
 #[unsafe(no_mangle)]
@@ -217,7 +216,8 @@ pub extern "C" fn bootswap_journal_finish(
 }
 
 /// Withdraws the request of an image, as `bootswap_simulate_withdraw` does, and records the writes
-/// in the journal. A journal of 44 bytes has room for them. Images are numbered from 0.
+/// in the journal. A journal of `BOOTSWAP_JOURNAL_WITHDRAW` bytes has room for them. Images are
+/// numbered from 0.
 ///
 /// Returns `DONE`, `REFUSED`, or why no call was made; or `CUT`, only if the journal was too short.
 #[unsafe(no_mangle)]
@@ -239,7 +239,8 @@ pub extern "C" fn bootswap_journal_withdraw(
 }
 
 /// Confirms an image of the set on trial, as `bootswap_simulate_confirm` does, and records the
-/// writes in the journal. A journal of 20 bytes has room for them. Images are numbered from 0.
+/// writes in the journal. A journal of `BOOTSWAP_JOURNAL_CONFIRM` bytes has room for them. Images
+/// are numbered from 0.
 ///
 /// Returns `DONE`, `REFUSED`, or why no call was made; or `CUT`, only if the journal was too short.
 #[unsafe(no_mangle)]
