@@ -20,7 +20,7 @@ CRATES = ["common", "version_order", "certificate", "chooser"]
 CHECKER = ["certificate::checking::check"]
 
 CHOICE = ["chooser::choice::choose", "chooser::choice::choose_counted"]
-CHOICE += ["certificate::validity::is_valid", "certificate::depending::dependants"]
+CHOICE += ["certificate::validity::is_valid", "certificate::validity::can_run_together", "certificate::depending::dependants"]
 
 # Functions that both may call, and why.
 SHARED = {
@@ -36,7 +36,7 @@ KNOWN = {
     "chooser::needs::newest_version": CHOICE,
     "chooser::own_reasons::is_missing": CHOICE,
     "version_order::group::Group::copied": CHOICE,
-    "certificate::validity::is_met_by_running": CHOICE,
+    "certificate::validity::is_met": CHOICE,
     "certificate::depending::has_alternative": CHOICE,
 }
 
@@ -50,7 +50,7 @@ SHARING = [
       "depends_on(entry, *number) &&": "asking(table, *number) > 0 &&"}),
     ("certificate/src/validity.rt", "certificate::checking::images::entry_in",
      {"use crate::table::": "use crate::checking::{self as test, reasons};\nuse crate::table::",
-      "meets_dependencies(table, &image.running": "meets_dependencies(table, &test::images::entry_in(image, false)"}),
+      "meets_all(table, &image.running)": "meets_all(table, &test::images::entry_in(image, false))"}),
     ("certificate/src/depending.rt", "certificate::checking::images::is_taken",
      {"use crate::table::": "use crate::checking::images::*;\nuse crate::table::",
       "has_image(&entry.dependencies, number)": "(0..8).any(is_taken)"}),

@@ -6,6 +6,7 @@ pub mod Reasons
 pub mod ReportReading
 pub mod ReportText
 pub mod Rightness
+pub mod Running
 pub mod StandardOrder
 pub mod TableReading
 pub mod TableText
