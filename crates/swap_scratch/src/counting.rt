@@ -26,9 +26,9 @@ pub(crate) struct KnownUnits {
 /// Finds the status count, and erased units from there on. The caller knows that the units before
 /// number `from` are set. `from` is the number of a unit of the trailer.
 ///
-/// One read finds whether the next units are all erased. If one of them is set, the units are read
-/// one by one, as at the start of a swap that was interrupted. On a flash that holds no valid state
-/// an erased unit may also precede a set one.
+/// One read finds whether the next units are all erased. If one of them is set, the count is found
+/// by reading on, as at the start of a swap that was interrupted. On a flash that holds no valid
+/// state an erased unit may also precede a set one.
 pub(crate) fn count_from<F: Flash>(
     flash: &mut F,
     map: &SectorMap,

@@ -11,7 +11,7 @@ use Rattle.sector_map.specs.Map.{first_of, count_of, start_of, length_of, sector
 use Rattle.sector_map.proofs.Places.{first_within}
 use Rattle.sector_map.proofs.Products.{mul_le}
 use Rattle.sector_map.proofs.PartBytes.{part_inside, part_kept_at, range_of_part, keeps_write, keeps_erase}
-use Rattle.trailer.specs.Fields.{bytes_at, place_of}
+use Rattle.trailer.specs.Fields.{bytes_at, place_of, trailer_bytes}
 
 pub some_slot : (map : SectorMap) (image : ℕ) (side : Side) → IsMap map → image < map.images
     → 0 < count_of map (Slot image side)
@@ -105,20 +105,27 @@ place_aligned map image from_end side fits le unit =
     let units : 8 * (map.sector_size / 8) ≡ map.sector_size = omega (arith, fits.sector.blocks) in
     omega (arith, aligned (first_of map (TrailerOf image side)) map.sector_size units, units)
 
+-- The bytes that are read in a trailer's sector, from an offset on.
+pub range_of_trailer : (map : SectorMap) (chip : Chip) (image at offset n : ℕ) (side : Side) (bytes : List ℕ)
+    → Reads chip at bytes → at ≡ start_of map (TrailerOf image side) + offset
+    → n ≡ length bytes → offset + n ≤ map.sector_size → IsLaidOut map chip → image < map.images
+    → slice_range (trailer_bytes map chip image side) offset (offset + n) ≡ bytes
+range_of_trailer map chip image at offset n side bytes reads is long within laid lt =
+    let start = start_of map (TrailerOf image side) in
+    range_of_part map chip (TrailerOf image side) offset (offset + n) laid
+    (omega (arith, within, trailer_size map image side laid.is_map lt))
+    ∙ ap (λ k. slice_range chip.bytes (start + offset) k)
+    (let e : start + (offset + n) ≡ start + offset + length bytes = omega arith in e)
+    ∙ ap (λ k. slice_range chip.bytes k (k + length bytes)) (sym is)
+    ∙ range_of_reads chip at bytes reads (omega (arith, trailer_fits map chip image side laid lt, laid.whole))
+
 -- The bytes that are read at a place of a trailer.
 pub read_of_trailer : (map : SectorMap) (chip : Chip) (image at from_end n : ℕ) (side : Side) (bytes : List ℕ)
     → Reads chip at bytes → at ≡ place_of map image side from_end
     → n ≡ length bytes → n ≤ from_end → from_end ≤ map.sector_size → IsLaidOut map chip → image < map.images → bytes_at
     map chip image side from_end n ≡ bytes
 read_of_trailer map chip image at from_end n side bytes reads is long within_end le laid lt =
-    let start = start_of map (TrailerOf image side) in
-    range_of_part map chip (TrailerOf image side) (map.sector_size - from_end) (map.sector_size - from_end + n) laid
-    (omega (arith, trailer_size map image side laid.is_map lt))
-    ∙ ap (λ k. slice_range chip.bytes (start + (map.sector_size - from_end)) k)
-    (let e : start + (map.sector_size - from_end + n) ≡ start + (map.sector_size - from_end) + length bytes = omega
-    arith in e)
-    ∙ ap (λ k. slice_range chip.bytes k (k + length bytes)) (sym is)
-    ∙ range_of_reads chip at bytes reads (omega (arith, trailer_fits map chip image side laid lt, laid.whole))
+    range_of_trailer map chip image at (map.sector_size - from_end) n side bytes reads is long (omega arith) laid lt
 
 -- A write of units of a trailer leaves all other parts unchanged.
 pub units_alone : (map : SectorMap) (old new : Chip) (image at from_end n : ℕ) (side : Side) → SameOutside at n old new

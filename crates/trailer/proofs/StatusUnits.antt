@@ -1,7 +1,7 @@
 -- Lemmas about status units, and about how many of them are set.
-use Rattle.std.proofs.Common.{◌≡◌, ℕ, zero, suc, ◌+◌, ◌-◌, ◌*◌, ◌/◌, ◌%◌, ◌<◌, ◌≤◌, Bool, true, false, arith, sym, ◌∙◌, ap, refl, inl, inr, ⊎_elim, List, take, drop, slice_index, slice_range, if◌then◌else◌}
-use Rattle.std.proofs.lemmas.Bool.{cases_lt}
-use Rattle.std.proofs.lemmas.List.{drop-drop}
+use Rattle.std.proofs.Common.{◌==◌, ◌≡◌, ℕ, zero, suc, ◌+◌, ◌-◌, ◌*◌, ◌/◌, ◌%◌, ◌<◌, ◌≤◌, Bool, true, false, arith, sym, ◌∙◌, ap, refl, inl, inr, ⊎_elim, List, take, drop, slice_index, slice_range, if◌then◌else◌}
+use Rattle.std.proofs.lemmas.Bool.{cases_lt, eqb-true, ne_eqb}
+use Rattle.std.proofs.lemmas.List.{drop-drop, ext_get_or}
 use Rattle.flash_model.specs.Chip.{Chip, IsErased, SameOutside}
 use Rattle.flash_model.specs.Units.{IsSet}
 use Rattle.flash_model.proofs.Erased.{each_erased, erased_each}
@@ -15,7 +15,7 @@ use Rattle.sector_map.proofs.Parts.{laid_out_kept}
 use Rattle.sector_map.proofs.PartBytes.{keeps_write}
 use Rattle.flash_model.specs.Units.{are_erased}
 use Rattle.trailer.specs.Fields.{is_set, magic_in, size_in, trailer_bytes, fields_in, fields_at}
-use Rattle.trailer.specs.Status.{are_units_erased, status_unit, set_units, status_count_of}
+use Rattle.trailer.specs.Status.{are_units_erased, is_block_set, status_unit, set_units, status_count_of}
 use Rattle.trailer.proofs.Places.{trailer_size, range_besides}
 use Rattle.trailer.proofs.Erased.{not_true, range_is_erased}
 use Rattle.trailer.proofs.OwnFields.{same_fields}
@@ -149,6 +149,53 @@ free_at bytes (suc n) lt = by (λ lt. free_at (drop 8 bytes) n lt) (are_erased (
         ap (λ k. are_erased (status_unit bytes k)) count ∙ ap (λ (xs : List ℕ). are_erased xs)
         (sym (unit_behind bytes (set_units (drop 8 bytes) n)))
         ∙ behind (omega (arith, lt, count))
+
+-- A unit of a block of eight is a unit of the trailer.
+block_unit : (bytes : List ℕ) (from i : ℕ) → i < 8
+    → status_unit (slice_range bytes (8 * from) (8 * from + 64)) i ≡ status_unit bytes (from + i)
+block_unit bytes from i lt =
+    let block = slice_range bytes (8 * from) (8 * from + 64) in
+    ext_get_or 0 (status_unit block i) (status_unit bytes (from + i))
+    (length_range block (8 * i) (8 * i + 8) ∙ omega (
+      arith,
+      lt,
+      length_range bytes (8 * from) (8 * from + 64),
+      length_range bytes (8 * (from + i)) (8 * (from + i) + 8),
+    ))
+    (λ k small.
+    let in_unit : k < 8 * i + 8 - 8 * i = omega (arith, small, length_range block (8 * i) (8 * i + 8)) in
+    let in_block : 8 * i + k < 8 * from + 64 - 8 * from = omega (arith, in_unit, lt) in
+    let in_other : k < 8 * (from + i) + 8 - 8 * (from + i) = omega (arith, in_unit) in
+    range_at block (8 * i) (8 * i + 8) k in_unit
+    ∙ range_at bytes (8 * from) (8 * from + 64) (8 * i + k) in_block
+    ∙ ap (λ n. slice_index bytes n) (let e : 8 * from + (8 * i + k) ≡ 8 * (from + i) + k = omega arith in e)
+    ∙ sym (range_at bytes (8 * (from + i)) (8 * (from + i) + 8) k in_other))
+
+-- If the units before number `from` are set, and the eight from there on, the count is past these.
+pub passed_block : (bytes : List ℕ) (n from : ℕ) → from ≤ set_units bytes n → from + 8 ≤ n
+    → is_block_set bytes from ≡ true → from + 8 ≤ set_units bytes n
+passed_block bytes n from before within all = counts_past bytes n (from + 8) within (λ j lt. ⊎_elim
+    (λ (below : j < from). set_below bytes n j (omega (arith, below, before)))
+    (λ (above : from ≤ j).
+    let i : j - from < 8 = omega (arith, lt, above) in
+    let place : from + (j - from) ≡ j = omega (arith, above) in
+    let counted : set_units (slice_range bytes (8 * from) (8 * from + 64)) 8 ≡ 8 = eqb-true _ _ all in
+    ap (λ k. are_erased (status_unit bytes k)) (sym place)
+    ∙ ap (λ (xs : List ℕ). are_erased xs) (sym (block_unit bytes from (j - from) i))
+    ∙ set_below (slice_range bytes (8 * from) (8 * from + 64)) 8 (j - from) (omega (arith, i, counted)))
+    (cases_lt j from))
+
+-- Eight units are all set exactly if they are counted.
+pub block_is_set : (block : List ℕ) → ((j : ℕ) → j < 8 → are_erased (status_unit block j) ≡ false)
+    → (set_units block 8 == 8) ≡ true
+block_is_set block set = ap (λ n. n == 8) (units_are block 8 8 (omega arith) set (λ lt. absurd (omega (arith, lt))))
+
+pub block_is_not_set : (block : List ℕ) (unit : ℕ) → unit < 8
+    → ((j : ℕ) → j < unit → are_erased (status_unit block j) ≡ false) → are_erased (status_unit block unit) ≡ true
+    → (set_units block 8 == 8) ≡ false
+block_is_not_set block unit lt set free =
+    ap (λ n. n == 8) (units_are block 8 unit (omega (arith, lt)) set (λ below. free))
+    ∙ ne_eqb unit 8 (λ e. absurd (omega (arith, e, lt)))
 
 -- The first erased status unit of a trailer is erased on the flash.
 pub status_is_erased : (map : SectorMap) (chip : Chip) (image at count : ℕ) (side : Side) → IsLaidOut map chip

@@ -1,16 +1,19 @@
 //! Counts and sets the status units of a trailer, one for each completed step of a swap.
 
-ghost use Rattle.std.specs.Prelude.{◌≡◌, ◌+◌, ◌*◌, ◌<◌, ◌≤◌};
+ghost use Rattle.std.specs.Prelude.{◌≡◌, ◌+◌, ◌*◌, ◌==◌, ◌<◌, ◌≤◌};
 ghost use Rattle.sector_map.specs.Map.{HasImage, slot_sectors};
 ghost use Rattle.trailer.specs.Places.{withdrawn_place};
 ghost use Rattle.trailer.specs.Fields.{trailer_bytes};
-ghost use Rattle.trailer.specs.Status.{are_units_erased, status_count_of};
-ghost use Rattle.trailer.specs.Reads.{Tells};
+ghost use Rattle.trailer.specs.Status.{are_units_erased, is_block_set, set_units, status_count_of};
+ghost use Rattle.trailer.specs.Reads.{PassesSet, Tells};
 ghost use Rattle.trailer.specs.Writes.{PushesStatus};
 
-use crate::units::is_range_erased;
-use flash_model::{Flash, Result, UNIT, set_unit};
+use crate::units::{is_range_erased, read_range};
+use flash_model::{Flash, Result, UNIT, are_erased, set_unit};
 use sector_map::{SectorMap, Side};
+
+/// The number of status units that are read at once, to find the first erased one.
+const BLOCK: u32 = 8;
 
 /// Returns the number of status units of a trailer: three for each sector of the slot. Images are
 /// numbered from 0, and the map has this image.
@@ -62,12 +65,66 @@ pub fn status_count_from<F: Flash>(
         (F.chip flash.old) (F.chip flash.new) result }
 {
     let all = status_units(map, image);
-    for status in known..all {
+    let set = pass_set(flash, map, image, side, known)?;
+    for status in set..all {
         if is_range_erased(flash, map, image, side, UNIT * status, UNIT)? {
             return Ok(status);
         }
     }
     Ok(all)
+}
+
+/// Passes over blocks of units that are all set, from number `known` on, with one read for a block.
+/// Returns the number after them.
+fn pass_set<F: Flash>(
+    flash: &mut F,
+    map: &SectorMap,
+    image: u8,
+    side: Side,
+    known: u32,
+) -> Result<u32>
+    requires image { HasImage map.now image (F.chip flash.old) }
+    requires known { known ≤ status_count_of map.now (F.chip flash.old) image side }
+    requires unit { known ≤ 3 * slot_sectors map.now image }
+    ensures { PassesSet map.now image side known (F.chip flash.old) (F.chip flash.new) result }
+{
+    let blocks = (status_units(map, image) - known) / BLOCK;
+    for block in 0..blocks {
+        let from = known + BLOCK * block;
+        if !is_block_set(flash, map, image, side, from)? {
+            return Ok(from);
+        }
+    }
+    Ok(known + BLOCK * blocks)
+}
+
+/// Returns whether eight status units of a trailer, from number `from` on, are all set.
+fn is_block_set<F: Flash>(
+    flash: &mut F,
+    map: &SectorMap,
+    image: u8,
+    side: Side,
+    from: u32,
+) -> Result<bool>
+    requires image { HasImage map.now image (F.chip flash.old) }
+    requires within { from + 8 ≤ 3 * slot_sectors map.now image }
+    ensures { Tells (is_block_set (trailer_bytes map.now (F.chip flash.old) image side) from)
+        (F.chip flash.old) (F.chip flash.new) result }
+{
+    let block: [u8; 64] = read_range(flash, map, image, side, UNIT * from)?;
+    Ok(are_all_set(&block))
+}
+
+/// Returns whether each of eight units is set.
+fn are_all_set(block: &[u8; 64]) -> bool
+    ensures { result ≡ (set_units block.now 8 == 8) }
+{
+    for unit in 0..8 {
+        if are_erased(&block[8 * unit..8 * unit + 8]) {
+            return false;
+        }
+    }
+    true
 }
 
 /// Returns whether `units` status units of a trailer, from number `from` on, are all erased. Units

@@ -53,6 +53,24 @@ pub(crate) fn is_unit_set<F: Flash>(
     Ok(!are_erased(&unit))
 }
 
+/// Reads the `N` bytes of a trailer from `offset` in its sector on.
+pub(crate) fn read_range<F: Flash, const N: usize>(
+    flash: &mut F,
+    map: &SectorMap,
+    image: u8,
+    side: Side,
+    offset: u32,
+) -> Result<[u8; N]>
+    requires { HasRange map.now image offset N (F.chip flash.old) }
+    ensures { Tells (slice_range
+        (trailer_bytes map.now (F.chip flash.old) image side) offset (offset + N))
+        (F.chip flash.old) (F.chip flash.new) result }
+{
+    let mut bytes = [0u8; N];
+    flash.read(map.trailer_start(image, side) + offset, &mut bytes)?;
+    Ok(bytes)
+}
+
 /// Returns whether `length` bytes of a trailer are erased, from `offset` in its sector on.
 pub(crate) fn is_range_erased<F: Flash>(
     flash: &mut F,

@@ -11,9 +11,9 @@ pub loop-status-init : goal.loop-status-init
 loop-status-init g c = record {
   same = search rules;
   set = λ j lt. set_below (trailer_bytes c.args.map.now (g.F.Flash.chip c.args.flash.now) c.args.image c.args.side)
-      (3 * slot_sectors c.args.map.now c.args.image) j (omega (arith, lt, c.requires.known));
-  past = omega arith;
-  on = λ lt. absurd (omega (arith, lt));
+      (3 * slot_sectors c.args.map.now c.args.image) j (omega (arith, lt, c.in_ok-set.ensures.set));
+  past = c.in_ok-set.ensures.past;
+  on = c.in_ok-set.ensures.on;
 }
 
 pub returns-then-branch : goal.returns-then-branch
