@@ -1,17 +1,20 @@
 -- Lemmas for provisioning: what its result says of the flash before and after.
-use Rattle.std.proofs.Common.{◌≡◌, ◌⊎◌, ℕ, ◌+◌, ◌<◌, ◌≤◌, ◌==◌, max, Bool, true, false, List, [], ◌∷◌, ◌++◌, length, Option, Some, None, Result, Ok, Err}
+use Rattle.std.proofs.Common.{◌≡◌, ◌⊎◌, ℕ, ◌+◌, ◌<◌, ◌≤◌, ◌==◌, Bool, true, false, List, [], ◌∷◌, ◌++◌, length, Option, Some, None, Result, Ok, Err}
 use Rattle.std.proofs.Common.{refl, sym, ◌∙◌, ap, subst, arith, slice_get, slice_index, get_or, ⊎_elim, inl, inr, zero, suc, replicate, length-append}
+use Rattle.std.proofs.Common.{◌≢◌, map as list_map, set, length-set, get_or-set_same, get_or-set_other}
+use Rattle.std.specs.Option.{option_map}
 use Rattle.std.proofs.Math.Bool.{and-false}
-use Rattle.std.proofs.lemmas.Bool.{cases_lt}
-use Rattle.std.proofs.lemmas.List.{same_lists}
-use Rattle.std.proofs.lemmas.Option.{slice_get-get_or, slice_get_cases, slice_get_within, none-some}
+use Rattle.std.proofs.lemmas.Bool.{cases_eq, cases_lt}
+use Rattle.std.proofs.lemmas.List.{length-map, map-append, same_lists}
+use Rattle.std.proofs.lemmas.Option.{get_or_from_slice_get, slice_get-get_or, slice_get-map}
+use Rattle.std.proofs.lemmas.Option.{slice_get_cases, slice_get_within, none-some}
 use Rattle.std.proofs.Common.{true≢false}
 use Rattle.flash_model.specs.Chip.{Chip}
 use Rattle.flash_model.specs.declared.error.FlashError.TheVariants as flash
 use Rattle.sector_map.specs.declared.layout.SectorMap.{SectorMap}
 use Rattle.sector_map.specs.declared.layout.Side.{Side}
 use Rattle.sector_map.specs.declared.layout.Side.TheVariants.{Primary, Secondary}
-use Rattle.sector_map.specs.Part.{Part, Slot, TrailerOf, Scratch, Log, is_member, only, trailers_of}
+use Rattle.sector_map.specs.Part.{Part, Slot, TrailerOf, Scratch, Log, only, trailers_of}
 use Rattle.sector_map.specs.Map.{Keeps}
 use Rattle.sector_map.proofs.Parts.{keeps_trans, keeps_wider}
 use Rattle.flash_model.specs.Units.{are_erased}
@@ -19,14 +22,15 @@ use Rattle.set_log.specs.Log.{state_of}
 use Rattle.set_log.specs.Record.{fits}
 use Rattle.set_log.proofs.Table.{fits_of}
 use Rattle.image_reading.specs.declared.desc.Desc.{Desc}
-use Rattle.image_reading.specs.Image.{IsIntact}
+use Rattle.image_reading.specs.Image.{BeginsIntact, IsIntact}
 use Rattle.image_reading.proofs.Descriptions.{front-unique}
 use Rattle.certificate.specs.declared.table.Table.{Table}
 use Rattle.certificate.specs.declared.table.Image.{Image}
 use Rattle.certificate.specs.declared.table.Entry.{Entry}
 use Rattle.certificate.specs.declared.table.Request.{Request}
 use Rattle.certificate.specs.declared.table.Request.TheVariants as request
-use Rattle.certificate.specs.Combination.{entry_in, IsValid, running_set}
+use Rattle.certificate.specs.Combination.{IsValid, running_set}
+use Rattle.certificate.specs.Running.{running_row}
 use Rattle.upload.specs.View.{view}
 use Rattle.upload.proofs.Views.{view_kept}
 use Rattle.upload.specs.Device.{DeviceState}
@@ -34,13 +38,11 @@ use Rattle.common.specs.Bytes.{Starts}
 use Rattle.upload.specs.Steady.{IsFront, IsSteadyAt}
 use Rattle.machine.specs.States.{entry_of}
 use Rattle.machine.specs.Boots.{IsEntryOf, IsSound, IsTableOf}
-use Rattle.machine.specs.Reading.{AreRaisedBy}
 use Rattle.machine.specs.declared.error.Fault.{Fault}
 use Rattle.machine.specs.declared.error.Fault.TheVariants as no
 use Rattle.machine.proofs.Ending.{none_asked}
 use Rattle.machine.proofs.Preparing.{eqb_no}
 use Rattle.machine.proofs.SoundBoots.{all_sound}
-use Rattle.machine.proofs.Steadying.{no_member}
 use Rattle.machine.proofs.Unique.{one_description}
 use Rattle.boot_core.proofs.Records.{none_within}
 use Rattle.boot_core.specs.Provisioned.{AnswersMaking, AreCleared, AreCounters, AreRunningRows, HasCounters}
@@ -78,6 +80,25 @@ rows_more map chip n rows row before next = record {
       (push_cases rows row k found e);
 }
 
+-- What is read of an image is its row.
+pub read_entry_is : (whole : List ℕ) (entry : Entry) (description : Desc) → BeginsIntact whole description
+    → entry ≡ entry_of description → IsRunningRow whole (running_row entry)
+read_entry_is whole entry description begins is = record {
+  description = description;
+  begins = begins;
+  running = is;
+  request = refl;
+  floor = ap (λ (e : Entry). e.counter) is;
+}
+
+pub entries_more : (map : SectorMap) (chip : Chip) (n : ℕ) (entries : List Entry) (entry : Entry)
+    → AreRunningRows map chip n (list_map running_row entries)
+    → IsRunningRow (running_bytes map chip n) (running_row entry)
+    → AreRunningRows map chip (n + 1) (list_map running_row (entries ++ entry ∷ []))
+entries_more map chip n entries entry before next =
+    subst (λ rows. AreRunningRows map chip (n + 1) rows) (sym (map-append running_row entries (entry ∷ [])))
+    (rows_more map chip n (list_map running_row entries) (running_row entry) before next)
+
 -- Each image below n has a row.
 pub row_there : (map : SectorMap) (chip : Chip) (n : ℕ) (rows : List Image) (i : ℕ)
     → AreRunningRows map chip n rows → i < n
@@ -110,19 +131,55 @@ zeros_at i = zeros 8 i where
   zeros (suc n) zero = refl
   zeros (suc n) (suc i) = zeros n i
 
--- Floors that are raised from 0 are the counters.
-pub counters_of : (rows : List Image) (zeros floors : List ℕ) → ((i : ℕ) → slice_index zeros i ≡ 0)
-    → AreRaisedBy rows 0 (length rows) zeros floors → AreCounters rows floors
-counters_of rows zeros floors none raised = record {
-  each = λ i row at.
-      raised.each i row (slice_get_within rows i row at) at
-      ∙ ap (λ n. max n (entry_in row (is_member 0 i)).counter) (none i)
-      ∙ from_zero (entry_in row (is_member 0 i)).counter
-      ∙ ap (λ b. (entry_in row b).counter) (no_member i);
-  rest = λ i le. raised.rest i le ∙ none i;
+-- The counters of the entries below n are written.
+pub record AreWritten (entries : List Entry) (n : ℕ) (counters : List ℕ) : Type 0 where
+  pub size : length counters ≡ 8
+  pub each : (i : ℕ) (entry : Entry) → i < n → slice_get entries i ≡ Some entry → slice_index counters i ≡ entry.counter
+  pub rest : (i : ℕ) → n ≤ i → slice_index counters i ≡ 0
+
+pub none_written : (entries : List Entry) → AreWritten entries 0 (replicate 8 0)
+none_written entries = record {
+  size = refl;
+  each = λ i entry below at. absurd (omega (arith, below));
+  rest = λ i past. zeros_at i;
+}
+
+pub one_written : (entries : List Entry) (n : ℕ) (counters : List ℕ) (entry : Entry) → n < 8
+    → entry ≡ get_or entries n entry → AreWritten entries n counters
+    → AreWritten entries (n + 1) (set counters n entry.counter)
+one_written entries n counters entry few at was = record {
+  size = length-set counters n entry.counter ∙ was.size;
+  each = λ i found below there. ⊎_elim
+      (λ (here : i ≡ n). written i found here there)
+      (λ (away : i ≢ n). get_or-set_other counters n i entry.counter 0 away ∙ was.each i found (omega (arith, below, away)) there)
+      (cases_eq i n);
+  rest = λ i past.
+      let away : i ≢ n = omega (arith, past) in
+      get_or-set_other counters n i entry.counter 0 away ∙ was.rest i (omega (arith, past));
 } where
-  from_zero : (n : ℕ) → max 0 n ≡ n
-  from_zero n = omega arith
+  within : n < length counters
+  within = omega (arith, few, was.size)
+
+  written : (i : ℕ) (found : Entry) → i ≡ n → slice_get entries i ≡ Some found
+      → slice_index (set counters n entry.counter) i ≡ found.counter
+  written i found here there =
+      ap (λ k. slice_index (set counters n entry.counter) k) here
+      ∙ get_or-set_same counters n entry.counter 0 within
+      ∙ ap (λ (e : Entry). e.counter) (at ∙ get_or_from_slice_get entries n found entry (ap (λ k. slice_get entries k) (sym here) ∙ there))
+
+-- All written, they are the counters of the images that run.
+pub all_written : (entries : List Entry) (counters : List ℕ) → AreWritten entries (length entries) counters
+    → AreCounters (list_map running_row entries) counters
+all_written entries counters written = record {
+  each = λ i row at. of_row i row (slice_get entries i) refl (sym (slice_get-map running_row entries i) ∙ at);
+  rest = λ i past. written.rest i (rw (← length-map entries running_row) past);
+} where
+  of_row : (i : ℕ) (row : Image) (found : Option Entry) → slice_get entries i ≡ found
+      → option_map running_row found ≡ Some row → slice_index counters i ≡ row.running.counter
+  of_row i row None is e = absurd (none-some row e)
+  of_row i row (Some entry) is e =
+      written.each i entry (slice_get_within entries i entry is) is
+      ∙ ap (λ (r : Image). r.running.counter) (the_one (running_row entry) row e)
 
 -- ---- trailers are erased
 

@@ -7,7 +7,9 @@ use Rattle.sector_map.specs.declared.layout.SectorMap.{SectorMap}
 use Rattle.sector_map.specs.declared.layout.Side.{Side}
 use Rattle.sector_map.specs.Map.{IsLaidOut, Keeps}
 use Rattle.sector_map.specs.Part.{Part}
+use Rattle.certificate.specs.declared.table.Entry.{Entry}
 use Rattle.certificate.specs.declared.table.Image.{Image}
+use Rattle.certificate.specs.Running.{running_row}
 use Rattle.machine.specs.declared.error.Fault.{Fault}
 use Rattle.flash_model.specs.declared.error.FlashError.TheVariants.{Off}
 use Rattle.machine.specs.declared.error.Fault.TheVariants.{Flash, InvalidSet, RunningDamaged}
@@ -24,13 +26,13 @@ use Rattle.boot_core.specs.Provisioned.{provided, running_bytes}
 abbrev pub IsRowIn : SectorMap → ℕ → Chip → Option Image → Type 0
 IsRowIn map image chip row = IsRowThere (running_bytes map chip image) row
 
--- A call adds the row of the image that a primary slot begins with.
-pub record PushesRunning (map : SectorMap) (image : ℕ) (old new : Chip) (before after : List Image)
+-- A call adds what is known of the image that a primary slot begins with.
+pub record PushesRunning (map : SectorMap) (image : ℕ) (old new : Chip) (before after : List Entry)
     (result : Result Bool FlashError) : Type 0 where
-  pub row : Image
-  -- One row is added.
-  pub pushed : after ≡ before ++ row ∷ []
-  pub reads : TellsUnlessOff (IsRowIn map image) old new (read_as (some_if row) result)
+  pub entry : Entry
+  -- One entry is added.
+  pub pushed : after ≡ before ++ entry ∷ []
+  pub reads : TellsUnlessOff (IsRowIn map image) old new (read_as (some_if (running_row entry)) result)
 
 -- A call checks the images in the primary slots.
 pub record Judges (map : SectorMap) (old new : Chip) (result : Result (List ℕ) Fault)

@@ -1,23 +1,23 @@
 //! Provisions a flash: makes it a device's.
 
-ghost use Rattle.std.specs.Prelude.{◌≡◌, ℕ, ◌*◌, ◌<◌, ◌≤◌, List, OnOk, length, slice_index};
+ghost use Rattle.std.specs.Prelude.{◌≡◌, ℕ, ◌*◌, ◌<◌, ◌≤◌, ◌++◌, ◌∷◌, [], OnOk, length, slice_index};
 ghost use Rattle.common.specs.Limits.{MOST_IMAGES};
 ghost use Rattle.sector_map.specs.Map.{HasImage, IsLaidOut};
 ghost use Rattle.sector_map.specs.Part.{trailers_of};
-ghost use Rattle.image_reading.specs.Image.{BeginsIntact};
+ghost use Rattle.certificate.specs.declared.table.Entry.{Entry};
+ghost use Rattle.certificate.specs.Running.{running_row, running_table};
 ghost use Rattle.boot_core.specs.FirstState.{HoldsFirst};
 ghost use Rattle.boot_core.specs.Provisioned.{AreCounters, IsReadThere};
-ghost use Rattle.boot_core.specs.Provisioned.{IsRunningRow, any_trailer};
+ghost use Rattle.boot_core.specs.Provisioned.{any_trailer};
 ghost use Rattle.boot_core.specs.Provisions.{AreClearedIn, BeginsAfresh, IsClearedIn, IsRowIn};
 ghost use Rattle.boot_core.specs.Provisions.{Judges, Leaves, MakesDevice, Provisions, PushesRunning};
 ghost use Rattle.decision.specs.Places.{read_as, reading_in, some_if};
 ghost use Rattle.decision.specs.Telling.{TellsUnlessOff};
 
-use crate::deciding::raised_floors;
 use arrayvec::ArrayVec;
-use certificate::{Image, Request, Table, is_valid};
+use certificate::{Entry, can_run_together};
 use common::limits::MOST_IMAGES;
-use decision::{push_blank_row, put_entry};
+use decision::put_entry;
 use flash_model::{Flash, Result};
 use image_reading::{Desc, intact_image_into};
 use machine::Fault;
@@ -25,87 +25,100 @@ use sector_map::{SectorMap, Side};
 use set_log::{State, start};
 use trailer::clear;
 
-/// Fills the row of a running image, from its description: it has no request, and its own security
-/// counter is the floor.
-fn put_running(description: Desc, row: &mut Image)
-    ensures { (whole : List ℕ) → BeginsIntact whole description → IsRunningRow whole row.new }
-{
-    row.floor = description.counter;
-    row.request = Request::None;
-    put_entry(description, &mut row.running);
-}
-
-/// Reads the row of the image that a primary slot begins with into a place. Returns whether the
+/// Reads what is known of the image that a primary slot begins with into a place. Returns whether the
 /// image is intact.
-fn read_row<F: Flash>(flash: &mut F, map: &SectorMap, image: u8, row: &mut Image) -> Result<bool>
+fn read_entry<F: Flash>(
+    flash: &mut F,
+    map: &SectorMap,
+    image: u8,
+    entry: &mut Entry,
+) -> Result<bool>
     requires { HasImage map.now image (F.chip flash.old) }
     ensures { TellsUnlessOff (IsRowIn map.now image) (F.chip flash.old) (F.chip flash.new)
-        (read_as (some_if row.new) result) }
+        (read_as (some_if (running_row entry.new)) result) }
 {
     let mut description = Desc::default();
     if !intact_image_into(flash, map, image, Side::Primary, &mut description)? {
         return Ok(false);
     }
-    put_running(description, row);
+    put_entry(description, entry);
     Ok(true)
 }
 
-/// Adds the row of the image that a primary slot begins with. Returns whether the image is intact.
-/// Otherwise the row may be any.
-fn push_row<F: Flash>(
+/// Adds an entry to fill. The temporary one takes stack only here.
+#[inline(never)]
+fn push_blank(running: &mut ArrayVec<Entry, MOST_IMAGES>)
+    requires { length running.old.items < MOST_IMAGES }
+    ensures { (blank : Entry) × (running.new.items ≡ running.old.items ++ blank ∷ []) }
+{
+    running.push(Entry::default());
+}
+
+/// Adds what is known of the image that a primary slot begins with. Returns whether the image is
+/// intact. Otherwise the entry may be any.
+fn push_entry<F: Flash>(
     flash: &mut F,
     map: &SectorMap,
     image: u8,
-    images: &mut ArrayVec<Image, MOST_IMAGES>,
+    running: &mut ArrayVec<Entry, MOST_IMAGES>,
 ) -> Result<bool>
     requires there { HasImage map.now image (F.chip flash.old) }
-    requires few { length images.old.items < MOST_IMAGES }
+    requires few { length running.old.items < MOST_IMAGES }
     ensures { PushesRunning map.now image (F.chip flash.old) (F.chip flash.new)
-        images.old.items images.new.items result }
+        running.old.items running.new.items result }
 {
-    let last = images.len();
-    push_blank_row(images);
-    read_row(flash, map, image, &mut images[last])
+    let last = running.len();
+    push_blank(running);
+    read_entry(flash, map, image, &mut running[last])
 }
 
-/// Reads the table of the images that the primary slots begin with into a place. Returns the lowest
-/// image that isn't intact, if there is one.
-fn read_running<F: Flash>(flash: &mut F, map: &SectorMap, table: &mut Table) -> Result<Option<u8>>
+/// Reads what is known of the images that the primary slots begin with into a place. Returns the
+/// lowest image that isn't intact, if there is one.
+fn read_running<F: Flash>(
+    flash: &mut F,
+    map: &SectorMap,
+    running: &mut ArrayVec<Entry, MOST_IMAGES>,
+) -> Result<Option<u8>>
     requires laid_out { IsLaidOut map.now (F.chip flash.old) }
     ensures { TellsUnlessOff (IsReadThere map.now) (F.chip flash.old) (F.chip flash.new)
-        (read_as (reading_in table.new) result) }
+        (read_as (reading_in (running_table running.new.items)) result) }
 {
-    table.images.clear();
+    running.clear();
     for image in 0..map.images {
-        if !push_row(flash, map, image, &mut table.images)? {
+        if !push_entry(flash, map, image, running)? {
             return Ok(Some(image));
         }
     }
     Ok(None)
 }
 
-/// The security counters of the running images of a table.
-fn running_counters(table: &Table) -> [u32; MOST_IMAGES]
-    ensures { AreCounters table.now.images.items result }
+/// The security counters of running images.
+fn counters_of(running: &[Entry]) -> [u32; MOST_IMAGES]
+    requires { length running.now ≤ MOST_IMAGES }
+    ensures { AreCounters (running_table running.now).images.items result }
 {
-    raised_floors(table, 0, &[0; MOST_IMAGES])
+    let mut counters = [0; MOST_IMAGES];
+    for image in 0..running.len() {
+        counters[image] = running[image].counter;
+    }
+    counters
 }
 
-/// The security counters of the running images, if these are intact and valid. The table takes
-/// stack only here.
+/// The security counters of the running images, if these are intact and valid. What is known of
+/// these images takes stack only here: half of what a table of them takes.
 #[inline(never)]
 fn judge<F: Flash>(flash: &mut F, map: &SectorMap) -> Result<[u32; MOST_IMAGES], Fault>
     requires laid_out { IsLaidOut map.now (F.chip flash.old) }
     ensures { Judges map.now (F.chip flash.old) (F.chip flash.new) result }
 {
-    let mut table = Table::default();
-    match read_running(flash, map, &mut table)? {
+    let mut running = ArrayVec::new();
+    match read_running(flash, map, &mut running)? {
         Some(image) => Err(Fault::RunningDamaged(image)),
         None => {
-            if !is_valid(&table) {
+            if !can_run_together(&running) {
                 return Err(Fault::InvalidSet);
             }
-            Ok(running_counters(&table))
+            Ok(counters_of(&running))
         }
     }
 }

@@ -202,7 +202,7 @@ fn read_row_into<F: Flash>(
 
 /// Adds a row to fill: an empty one. The temporary one takes stack only here.
 #[inline(never)]
-pub fn push_blank_row(images: &mut ArrayVec<Image, MOST_IMAGES>)
+fn push_blank_row(images: &mut ArrayVec<Image, MOST_IMAGES>)
     requires { length images.old.items < MOST_IMAGES }
     ensures { (blank : Image) × (images.new.items ≡ images.old.items ++ blank ∷ []) }
 {

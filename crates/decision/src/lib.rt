@@ -14,6 +14,6 @@ mod places;
 
 pub use deciding::{find, find_into};
 pub use device_table::{
-    entry_of, push_blank_row, put_entry, read_slot, read_slot_into, read_table, read_table_into,
+    entry_of, put_entry, read_slot, read_slot_into, read_table, read_table_into,
 };
 pub use places::Verdict;

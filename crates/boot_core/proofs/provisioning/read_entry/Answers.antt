@@ -1,7 +1,8 @@
 use Rattle.std.proofs.Common.{rules}
 use Rattle.image_reading.proofs.Descriptions.{front_has_no_fault}
 use Rattle.boot_core.specs.Provisioned.{running_bytes}
-use Rattle.boot_core.proofs.provisioning.read_row.Goals as goal
+use Rattle.boot_core.proofs.Afresh.{read_entry_is}
+use Rattle.boot_core.proofs.provisioning.read_entry.Goals as goal
 
 pub returns-then-not-branch : goal.returns-then-not-branch
 returns-then-not-branch g c =
@@ -19,7 +20,7 @@ returns-then-not-branch g c =
 pub returns : goal.returns
 returns g c = record {
   same = c.intact_image_into.ensures.same;
-  ok = c.put_running.ensures _ (rw c.if-not-branch.false at c.in_ok-intact_image_into.ensures.found);
+  ok = read_entry_is _ _ _ (rw c.if-not-branch.false at c.in_ok-intact_image_into.ensures.found) c.put_entry.ensures;
   ends = search rules;
   on = c.in_ok-intact_image_into.ensures.on;
   off = tt;

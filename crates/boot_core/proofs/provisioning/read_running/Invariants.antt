@@ -1,5 +1,6 @@
-use Rattle.std.proofs.Common.{◌≡◌, ◌<◌, ◌≤◌, true}
+use Rattle.std.proofs.Common.{◌≡◌, ◌<◌, ◌≤◌, true, map}
 use Rattle.sector_map.specs.Map.{IsLaidOut}
+use Rattle.certificate.specs.Running.{running_row}
 use Rattle.boot_core.specs.Provisioned.{AreRunningRows}
 use Rattle.boot_core.proofs.provisioning.read_running.Given as goal
 
@@ -9,5 +10,5 @@ invariant-loop-image g l = record {
   few : l.image-end ≤ 8;
   same : g.F.Flash.chip l.flash ≡ g.F.Flash.chip l.initial.flash;
   on : 0 < l.image → (g.F.Flash.chip l.initial.flash).is_on ≡ true;
-  rows : AreRunningRows l.map (g.F.Flash.chip l.initial.flash) l.image l.table.images.items;
+  rows : AreRunningRows l.map (g.F.Flash.chip l.initial.flash) l.image (map running_row l.running.items);
 }
