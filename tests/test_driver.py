@@ -99,6 +99,11 @@ class DriverTest(CaseTest):
         return device
 
 
+def wide(number):
+    """A number of 8 bits in a register whose other bits are set."""
+    return c_uint64(0xA5A5_A5A5_A5A5_A500 | number)
+
+
 def performed(flash, journal):
     """The bytes of a flash after the writes that a journal records."""
     flash, at = bytearray(flash), 0
@@ -484,8 +489,8 @@ class JournalsTest(DriverTest):
             self.case(f"call {at + 1}, {name}, with {bound + 1} journals", faults[:5] + device.flash.wrong)
 
     def test_bounds(self):
-        """With a journal of its bound no call is cut. With a byte less one is cut that needs all of it: a piece, `finish`,
-        `withdraw` or `confirm`. No call here needs all that `provision` and `accept` may."""
+        """With a journal of its bound no call is cut. With a byte less one is cut that needs all of it. Each call needs that at
+        some time, except `accept`: its bound counts two erases of the first sector of a slot, and it makes one of them."""
         device, needed = self.new_device(capacity=LONG), {}
         for name, words, bound in self.calls_with_bounds(device):
             state = device.state()
@@ -496,27 +501,35 @@ class JournalsTest(DriverTest):
             needed.setdefault(name, set()).add(bound - used)
             is_right = number == 0 and less == (CUT if used == bound else 0)
             self.case(f"{name} with {bound} bytes", [(number, less, used)] * (not is_right) + device.flash.wrong)
-        reached = {name for name, left in needed.items() if 0 in left}
-        self.case("bounds that are reached", [needed] * (reached != {"piece", "finish", "withdraw", "confirm"}))
+        unused = {name: min(left) for name, left in needed.items()}
+        self.case("bounds that are reached", [unused] * (unused != {**dict.fromkeys(BOUNDS, 0), "accept": 2 * 12}))
 
     def calls_with_bounds(self, device):
-        """Yields calls of an upgrade, each with its bound, and makes it."""
-        file = image([], body=bytes(11), own=version(2))
-        manifest = self.library.manifest(1, [(0, file, False), (1, file, True)])
-        bounds = {**BOUNDS, "piece": None}
-        calls = [("provision", ()), ("boot", ()), ("accept", (manifest,))]
+        """Yields calls of a device, each with its bound, and makes it. Its trailers and its log hold something first. There are
+        uploads until the log has filled its three sectors."""
+        for sector in (2, 5, 8, 11, 13, 14, 15):
+            device.flash.bytes[sector * 512 : (sector + 1) * 512] = bytes(512)
+        self.assertEqual(device.open(), 0)
+        files = image([], body=bytes(11), own=version(2)), image([], body=bytes(600), own=version(2))
+        manifests = [self.library.manifest(at, [(0, files[at > 1], False), (1, files[at > 1], True)]) for at in range(32)]
+        calls = [("provision", ()), ("boot", ()), ("accept", (manifests[1],))]
         for number in (0, 1):
-            pieces = file[:7], file[7:24], file[24:33], file[33:]
+            pieces = files[0][:7], files[0][7:24], files[0][24:33], files[0][33:]
             calls += [*(("piece", (number, piece)) for piece in pieces), ("finish", (number,))]
-        calls += [("withdraw", (1,)), ("accept", (manifest,)), ("piece", (0, file)), ("finish", (0,)), ("boot", ())]
-        for name, words in [*calls, ("confirm", (0,))]:
+        calls += [("withdraw", (1,)), ("accept", (manifests[1],)), ("piece", (0, files[0])), ("finish", (0,)), ("boot", ())]
+        calls += [("confirm", (0,)), ("boot", ())]
+        for manifest in manifests[2:]:
+            calls += [("accept", (manifest,))]
+            calls += [(name, words) for it in (0, 1) for name, words in (("piece", (it, files[1])), ("finish", (it,)))]
+        bounds = {**BOUNDS, "piece": None}
+        for name, words in calls:
             if name in bounds:
                 yield name, words, bounds[name] or JOURNAL["PIECE"](len(words[1]))
             getattr(device, name)(*words)
 
-    def recorded(self, device, name, words, capacity):
+    def recorded(self, device, name, words, capacity, short=c_uint8):
         """Makes a call of the library with a journal of this length, and then the writes of the journal on what the library
-        reads. Returns the call's number and the bytes used."""
+        reads. An image's number is passed as `short`. Returns the call's number and the bytes used."""
         library, names = device.library.calls, device.library.names
         texts = [it for one in (device.table, device.report) for it in (one, c_size_t(len(one)))]
         given = {
@@ -524,8 +537,8 @@ class JournalsTest(DriverTest):
             "boot_with_texts": lambda: texts,
             "provision": lambda: [],
             "accept": lambda manifest: [byref(manifest)],
-            "piece": lambda number, file: [c_uint8(number), device.library.copy(file), c_size_t(len(file))],
-        }.get(name, lambda number: [c_uint8(number)])(*words)
+            "piece": lambda number, file: [short(number), device.library.copy(file), c_size_t(len(file))],
+        }.get(name, lambda number: [short(number)])(*words)
         saved, result = device.device.saved, device.library.new(names._CallResult)
         ctypes.memset(device.journal, 0xC5, device.capacity)
         journal = [device.journal, c_size_t(capacity)]
@@ -540,6 +553,27 @@ class JournalsTest(DriverTest):
             device.flash.wrong.append(f"{name} wrote after the used bytes of a journal of {capacity}")
         ctypes.memmove(device.memory, performed(before, used), len(before))
         return number, result.journal_length
+
+    def test_short_arguments(self):
+        """A call takes the number of an image, and the side of a slot, from the low 8 bits of a register."""
+        device, calls = self.prepared()
+        found, slot = self.library.new(self.library.names._Description), self.library.calls.bootswap_slot
+        first = byref(device.setup), device.memory, c_size_t(len(device.memory))
+        for name, words in calls:
+            if name in ("piece", "finish", "withdraw", "confirm"):
+                state, got = device.state(), []
+                for short in (c_uint8, wide):
+                    number, used = self.recorded(device, name, words, device.capacity, short)
+                    got += [(number, used, bytes(device.memory), bytes(device.journal[:used]), bytes(device.device.saved))]
+                    device.put(state)
+                self.case(f"{name}, with high bits", [f"{got[0][:2]}, {got[1][:2]}"] * (got[0] != got[1] or got[0][0] != 0))
+            getattr(device, name)(*words)
+        got = []
+        for short in (c_uint8, wide):
+            for image, side in ((0, 0), (1, 0), (0, 1), (1, 1)):
+                number = slot(*first, short(image), short(side), byref(found))
+                got += [(number, bytes(found))]
+        self.case("slot, with high bits", [f"{[it for it, _ in got]}"] * (got[:4] != got[4:] or len({*got[:4]}) != 2))
 
     def test_driver(self):
         """A call over a driver asks for its bound, and changes nothing with a shorter journal."""
