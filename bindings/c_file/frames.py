@@ -1,0 +1,105 @@
+"""Frames: the module's own stack on C's stack.
+
+A module has a stack in its memory: a function subtracts the size of its frame from the global `__stack_pointer`, and adds it
+again before it returns. In C each frame is an array of bytes of its function, so C's stack holds it, and the global is gone.
+
+This keeps the meaning: a frame is memory that no other object has while the function runs, aligned to 16 bytes, and its first
+contents are any. Both kinds of frames are that, if a stack is large enough. So addresses in frames are followed as what they
+are, the end of the frame minus a number (a FRAME of widths.py), and whatever can't be followed is refused: a frame whose size
+isn't constant, an address outside of it, and another number in the global.
+
+The module checks for each function that its stack has room, and traps otherwise: it compares an address of the frame with a
+small number. C's compiler decides where its stack lies and what happens when it is full. So these comparisons have the result
+that they have in a stack that is large enough. How much stack a processor needs has to be measured.
+"""
+
+from c_file.errors import NotTranslated
+from c_file.values import Value, constant, known
+from c_file.widths import ADDRESS, Fact, Kind
+
+# Each frame begins and ends at a multiple of this.
+ALIGNMENT = 16
+
+# The lowest bytes of the module's memory, in which no frame of a large stack lies. A check compares with less than this.
+LOWEST = 65536
+
+# The name of the frame in C.
+NAME = "frame"
+
+
+def size_of_frame(name, instructions):
+    """Returns the size of the frame of a function, or 0 if it has none: what it subtracts from the stack's pointer."""
+    sizes = set()
+    for i, it in enumerate(instructions):
+        names = [following.meaning.name for following in instructions[i : i + 3]]
+        if names == ["global.get", "i64.const", "i64.sub"]:
+            sizes.add(instructions[i + 1].value)
+    if len(sizes) > 1 or any(it % ALIGNMENT or not 0 < it < 2**31 for it in sizes):
+        raise NotTranslated(f"{name}: an unusual prologue, which makes frames of {sorted(sizes)} bytes")
+    return max(sizes, default=0)
+
+
+class Frame:
+    """The frame of a function: its size in bytes."""
+
+    def __init__(self, name, size):
+        self.name, self.size = name, size
+
+    def refuse(self, what):
+        raise NotTranslated(f"{self.name}: {what}: an unusual prologue or epilogue")
+
+    def at(self, offset):
+        """Returns an address in the frame, counted from its end."""
+        if not -self.size <= offset <= 0:
+            self.refuse(f"an address {offset} bytes from the end of a frame of {self.size} bytes")
+        place = Value(NAME, 64, ADDRESS, frozenset([NAME]))
+        return known(f"((uintptr_t){NAME} + {self.size + offset}u)", Fact(Kind.FRAME, offset), place)
+
+    def set(self, value):
+        """Checks what is written to the stack's pointer: where the frame begins, or ends. Nothing has to be done in C."""
+        if value.fact.kind is not Kind.FRAME or value.fact.offset not in (0, -self.size):
+            self.refuse("another number in the stack's pointer than the ends of the frame")
+
+    def sum(self, operator, one, other):
+        """Returns the sum or difference of an address in the frame and a constant, or None if these are something else.
+
+        The frame is aligned to 16 bytes. So `|` is a sum, if the bits of a constant below 16 are 0 in the address.
+        """
+        if other.fact.kind is Kind.FRAME and operator in "+|":
+            one, other = other, one
+        if one.fact.kind is not Kind.FRAME or other.number is None:
+            return None
+        offset, number = one.fact.offset, signed(other.number)
+        if operator in "+-":
+            return self.at(offset + number if operator == "+" else offset - number)
+        is_apart = operator == "|" and 0 <= number < ALIGNMENT and offset & number == 0
+        return self.at(offset + number) if is_apart else None
+
+    def comparison(self, operator, one, other):
+        """Returns the result of a check that the stack has room, or None if a comparison is something else: an address of a
+        frame is above each number that is below LOWEST."""
+        kinds = [it.fact is not None and it.fact.kind is Kind.FRAME for it in (one, other)]
+        if True not in kinds:
+            return None
+        number = other.number if kinds[0] else one.number
+        if number is None:
+            return None
+        if number >= LOWEST:
+            self.refuse(f"a comparison of the frame with {number}")
+        sign = operator.strip("su")
+        return constant(int(sign == "!=" or sign.startswith(">" if kinds[0] else "<")), 32)
+
+    def declaration(self):
+        """Returns the array in C. Its contents are any, as those of the module's stack are."""
+        if self.size == 0:
+            self.refuse("the stack's pointer is used in a function that has no frame")
+        return f"uint8_t {NAME}[{self.size}] BOOTSWAP_ALIGNED(BOOTSWAP_FRAME_ALIGNMENT);"
+
+
+def signed(number):
+    return number - 2**64 if number >= 2**63 else number
+
+
+def as_variable(fact):
+    """What is known of a value of another function or block: an address of a frame is only known to be an address."""
+    return ADDRESS if fact is not None and fact.kind is Kind.FRAME else fact

@@ -1,0 +1,87 @@
+"""Which values of 64 bits are kept in C's `uintptr_t`, which has 32 bits on a small processor.
+
+An address has 64 bits in the module, and `usize` too. On a processor of 32 bits most of these values are below 2^32. What is
+known of a value says whether it is, and why that keeps the meaning:
+
+SMALL    a constant below 2^32.
+NUMBER   a number below 2^32: an unsigned load of at most 32 bits, an extended i32, a length that C passes as `size_t`, a
+         comparison with a mask, a remainder by such a number. Each rule of arithmetic.py is a bound of the result.
+ADDRESS  an address of the machine: a pointer that C passes, the address of data or of a frame, or one of these plus or minus a
+         number. The machine's addresses are below 2^32, and so is the one after the last byte of an object. The module is
+         proved to access only objects that it was given, and its own. So an address plus or minus a number is below 2^32
+         where the number leads into an object. Before that sums and differences may wrap, and wrap alike in 32 and in 64 bits.
+FRAME    an ADDRESS whose place in the function's own frame is known, see frames.py.
+WIDE     any number: it is kept in `uint64_t`.
+
+A sum of two numbers, a difference, a product or a number shifted left may not fit 32 bits. So these are WIDE. So is the
+difference of two addresses, which may be below 0.
+
+On a processor of 64 bits `uintptr_t` holds every value, and nothing is cut off.
+"""
+
+import enum
+from dataclasses import dataclass
+
+
+class Kind(enum.Enum):
+    """What is known of a value of 64 bits. UNSEEN is a variable that no instruction was seen to write yet."""
+
+    UNSEEN, SMALL, FRAME, ADDRESS, NUMBER, WIDE = range(6)
+
+
+@dataclass(frozen=True)
+class Fact:
+    """What is known of a value of 64 bits. `offset` is the place of a FRAME, counted from the end of the frame: it isn't
+    above 0."""
+
+    kind: Kind
+    offset: int = 0
+
+    @property
+    def is_narrow(self):
+        return self.kind is not Kind.WIDE
+
+    @property
+    def is_address(self):
+        return self.kind in (Kind.ADDRESS, Kind.FRAME)
+
+
+UNSEEN, SMALL, ADDRESS, NUMBER, WIDE = map(Fact, (Kind.UNSEEN, Kind.SMALL, Kind.ADDRESS, Kind.NUMBER, Kind.WIDE))
+
+
+def joined(one, other):
+    """Returns what is known of a value that is one of two values. An address or a number is WIDE: it is the value in full, and
+    either meaning stays right."""
+    if one == other or other == UNSEEN:
+        return one
+    if one == UNSEEN:
+        return other
+    if one.is_address and other.is_address:
+        return ADDRESS
+    for it, second in ((one, other), (other, one)):
+        if it == SMALL and second.is_narrow:
+            return ADDRESS if second.is_address else second
+    return WIDE
+
+
+class Facts:
+    """What is known of each variable, parameter and result of each function.
+
+    They begin UNSEEN. Each pass over the functions joins what is written to them, and passes are made until nothing changes.
+    So in the end a fact holds of each value that the variable ever gets, if it holds of what the pass saw: induction on the
+    steps of a run.
+    """
+
+    def __init__(self):
+        self.known, self.has_changed = {}, False
+
+    def of(self, function, variable):
+        return self.known.get((function, variable), UNSEEN)
+
+    def note(self, function, variable, fact):
+        """Joins what is known of a value that is written to a variable."""
+        old = self.of(function, variable)
+        new = joined(old, fact)
+        if new != old:
+            self.known[function, variable] = new
+            self.has_changed = True
