@@ -149,6 +149,8 @@ def matching(instructions):
             elses[nest[-1]] = i
         elif it.meaning.name == "end" and nest:
             ends[nest.pop()] = i
-    if nest:
-        raise NotTranslated(f"a block at {instructions[nest[-1]].at} of the code has no end")
+        elif it.meaning.name == "end" and i + 1 < len(instructions):
+            raise NotTranslated(f"a function ends at {it.at} of the code, and goes on")
+    if nest or instructions[-1].meaning.name != "end" or len(instructions) - 1 in ends.values():
+        raise NotTranslated(f"a block or function before {instructions[-1].at} of the code has no end")
     return ends, elses

@@ -26,6 +26,11 @@
 #error "this file is for little-endian processors"
 #endif
 
+/* On a processor of 32 bits the compiler sees that some checks of long numbers always have the same result. */
+#ifdef __GNUC__
+#pragma GCC diagnostic ignored "-Wtype-limits"
+#endif
+
 #ifndef BOOTSWAP_OWN_ATTRIBUTES
 #define BOOTSWAP_ANY_OBJECT __attribute__((may_alias))
 #define BOOTSWAP_PACKED __attribute__((packed))

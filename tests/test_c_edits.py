@@ -1,0 +1,181 @@
+"""Wrong translations: edits of bindings/c_file that the cases of test_c_translation.py have to notice.
+
+Each edit changes one place of a copy of the translator. The named cases are translated with the copy, compiled and run: at least
+one has to differ, or stop for undefined behaviour. The few edits after which nothing is translated, or nothing compiles, say so.
+"""
+
+import os
+import re
+import shutil
+import sys
+import tempfile
+from dataclasses import dataclass
+
+from support import translated
+from support.compiled import needs_compiler
+from support.files import ROOT, read
+from support.libraries import ran
+from support.program import CaseTest
+
+SMALL = ["arm-linux-gnueabihf-gcc", "-static", "-O1"]
+HERE = ["cc", "-O1", "-fsanitize=address,undefined", "-fno-sanitize-recover"]
+
+
+@dataclass(frozen=True)
+class Edit:
+    """An edit: the file, a text that is in it once, and another text. `cases` is a pattern of the names of cases. `is_small` says
+    that only a processor of 32 bits shows the difference. `step` is where it is noticed: most are when the cases run."""
+
+    file: str
+    old: str
+    new: str
+    cases: str
+    is_small: bool = False
+    step: str = "run"
+
+
+EDITS = [
+    # Arithmetic.
+    Edit("instructions.py", '("add", "binary", "+")', '("add", "binary", "-")', r"^i32.add"),
+    Edit("instructions.py", '("sub", "binary", "-")', '("sub", "binary", "+")', r"^i64.sub"),
+    Edit("instructions.py", '("mul", "binary", "*")', '("mul", "binary", "+")', r"^i64.mul"),
+    Edit("instructions.py", '("and", "binary", "&")', '("and", "binary", "|")', r"^i32.and"),
+    Edit("instructions.py", '("or", "binary", "|")', '("or", "binary", "^")', r"^i32.or"),
+    Edit("instructions.py", '("xor", "binary", "^")', '("xor", "binary", "|")', r"^i32.xor"),
+    Edit("instructions.py", '("div_u", "division", "/")', '("div_u", "signed_division", "div_s")', r"^i32.div_u"),
+    Edit("instructions.py", '("rem_s", "signed_division", "rem_s")', '("rem_s", "division", "%")', r"^i64.rem_s"),
+    Edit("prelude.h", "        if (other + 1 == 0) return 0; ", "        ", r"^i64.rem_s"),
+    Edit("prelude.h", "(int##width##_t)one / (int##width##_t)other", "one / other", r"^i32.div_s"),
+    # Shifts, rotations and counts.
+    Edit("arithmetic.py", "({amount.as_kept(SMALL)} & {width - 1}u)", "({amount.as_kept(SMALL)})", r"^i32.shl"),
+    Edit("arithmetic.py", "{amount.number % width}", "{amount.number}", r"^i64.shr_u of wide, 64", step="compile"),
+    Edit("arithmetic.py", "({SIGNED[width]}){wide_text(one)} >> {masked}", "{wide_text(one)} >> {masked}", r"^i32.shr_s"),
+    Edit("instructions.py", '("shr_u", "shift", ">>")', '("shr_u", "shift", "s>>")', r"^i64.shr_u"),
+    Edit("arithmetic.py", "places is not None and places < 32", "places is not None", r"^i64.shr_u of number", True, "compile"),
+    Edit("arithmetic.py", "places is not None and places >= 32", "places is not None", r"^i64.shr_u of wide, 31", True),
+    Edit("instructions.py", '("rotl", "rotate", "rotl")', '("rotl", "rotate", "rotr")', r"^i64.rotl"),
+    Edit("prelude.h", "return a >> (n & 31) | a << ((0 - n) & 31)", "return a >> (n & 31) | a << (32 - n)", r"^i32.rotr"),
+    Edit("prelude.h", "w_clz64(a) - 32", "w_clz64(a)", r"^i32.clz"),
+    Edit("prelude.h", "a != 0 ? w_ctz64(a) : 32", "w_ctz64(a)", r"^i32.ctz"),
+    Edit("instructions.py", '("popcnt", "count", "popcnt")', '("popcnt", "count", "clz")', r"popcnt"),
+    # Comparisons.
+    Edit("arithmetic.py", 'f"({SIGNED[one.width]})" if is_signed else ""', '""', r"^i64.lt_s"),
+    Edit("arithmetic.py", 'f"({SIGNED[one.width]})" if is_signed else ""', 'f"({SIGNED[one.width]})"', r"^i32.gt_u"),
+    Edit("instructions.py", '"u<=", "s>="', '"u<", "s>="', r"^i64.le_u"),
+    Edit("arithmetic.py", "({one.text} == 0)", "({one.text} != 0)", r"eqz"),
+    Edit("arithmetic.py", "one.is_narrow and other.is_narrow:\n        return word(", "True:\n        return word(", r"^i64.lt_s"),
+    # Conversions.
+    Edit("arithmetic.py", "({SIGNED[from_width]}){one.text})", "{one.text})", r"extend8_s"),
+    Edit("instructions.py", '"i64.extend_i32_s", "extend", width=64, detail=32', '"i64.extend_i32_s", "extend_unsigned", width=64', r"extend_i32_s"),
+    Edit("arithmetic.py", 'number_below(f"(uintptr_t){one.text}", one)', 'wide(f"(uint64_t)(int32_t){one.text}", one)', r"extend_i32_u"),
+    Edit("arithmetic.py", 'word(f"(uint32_t){one.text}", one)', 'word(f"(uint32_t)(uint16_t){one.text}", one)', r"wrap"),
+    # Widths.
+    Edit("arithmetic.py", "ADDRESS if addresses == 1 else WIDE", "ADDRESS if addresses else NUMBER", r"^i64.add of number", True),
+    Edit("arithmetic.py", "ADDRESS if one.fact.is_address and not other.fact.is_address else WIDE", "ADDRESS", r"^i64.sub", True),
+    Edit("arithmetic.py", "and (one.is_narrow or other.is_narrow)", "", r"^i64.and of wide, wide", True),
+    Edit("arithmetic.py", 'in "|^" and one.is_narrow and other.is_narrow', 'in "|^"', r"^i64.x?or of wide", True),
+    Edit("arithmetic.py", "    return WIDE\n\n\ndef division", "    return NUMBER\n\n\ndef division", r"^i64.mul", True),
+    Edit("arithmetic.py", "if one.is_narrow and other.is_narrow:\n        return number_below(quotient", "if True:\n        return number_below(quotient",
+         r"^i64.div_u of wide", True),
+    Edit("arithmetic.py", 'operator == "%" and other.is_narrow', "True", r"^i64.div_u of wide", True),
+    Edit("widths.py", "            return ADDRESS if second.is_address else second\n    return WIDE", "            return second\n    return NUMBER",
+         r"narrow or wide|select of", True),
+    Edit("exports.py", "fact if not wide else program.wide", "fact", r"^i64.shl of wide", True),
+    # Memory.
+    Edit("instructions.py", '"i32.load16_u", "load", "memory", 32, Access(2)', '"i32.load16_u", "load", "memory", 32, Access(1)', r"load16_u"),
+    Edit("instructions.py", '"i64.load8_s", "load", "memory", 64, Access(1, True)', '"i64.load8_s", "load", "memory", 64, Access(1)', r"load8_s"),
+    Edit("instructions.py", '"i64.load32_u", "load", "memory", 64, Access(4)', '"i64.load32_u", "load", "memory", 64, Access(4, True)', r"load32_u"),
+    Edit("instructions.py", '"i64.store16", "store", "memory", 64, Access(2)', '"i64.store16", "store", "memory", 64, Access(4)', r"store16"),
+    Edit("emit.py", "it.alignment >= size else", "True else", r"^i64.load aligned to 1"),
+    Edit("emit.py", 'f"{text} + {it.value}u" if it.value else text', "text", r"^i32.load aligned"),
+    Edit("emit.py", "self.stack.append(self.keep(made))", "self.stack.append(made)", r"a load before a store"),
+    Edit("prelude.h", "W_MOVE(to, from, length) memmove(", "W_MOVE(to, from, length) memcpy(", r"memory.copy"),
+    Edit("prelude.h", "    if (length != 0) W_MOVE", "    W_MOVE", r"memory.copy of no bytes"),
+    Edit("emit.py", "({to.low()}, {start.low()}, {length.low()});", "({start.low()}, {to.low()}, {length.low()});", r"memory.copy"),
+    Edit("prelude.h", "(int)(byte & 0xff)", "(int)(byte >> 8)", r"memory.fill"),
+    # Control.
+    Edit("arithmetic.py", "? {one.as_kept(fact)} : {other.as_kept(fact)}", "? {other.as_kept(fact)} : {one.as_kept(fact)}", r"^select"),
+    Edit("emit.py", "self.branch(it.value[-1])", "self.branch(it.value[0])", r"^br_table"),
+    Edit("emit.py", "enumerate(it.value[:-1])", "enumerate(it.value[:-1], 1)", r"^br_table"),
+    Edit("emit.py", 'f"if ({condition.text}) {inner[0].text}"', 'f"if (!({condition.text})) {inner[0].text}"', r"^branches out"),
+    Edit("emit.py", '        if block.kind != "loop":\n            self.give(block)\n        block', "        block", r"with a result"),
+    Edit("emit.py", "given = [self.pop() for _ in kind.params][::-1]", "given = [self.pop() for _ in kind.params]", r"order of arguments"),
+    # Locals.
+    Edit("emit.py", "        self.flush(name)\n", "", r"written in a loop"),
+    Edit("emit.py", "        self.flush()\n        self.numbers", "        self.numbers", r"below a loop"),
+    Edit("emit.py", "{' = 0' if i in code.variables.zeroed else ''}", "{' = 1' if i in code.variables.zeroed else ''}", r"begins as 0"),
+    Edit("locals.py", "one | other for one, other in zip(old, now)", "one for one, other in zip(old, now)", r"if without|narrow or wide"),
+    Edit("emit.py", "            self.local_get(it)\n\n", "            self.stack.append(constant(0, 64))\n\n", r"local.tee"),
+    # Frames.
+    Edit("frames.py", "{self.size + offset}u)", "{self.size + offset + 8}u)", r"^frames of|a frame"),
+    Edit("frames.py", "offset + number if operator == ", "offset - number if operator == ", r"^a frame$|passed on", step="translate"),
+    Edit("frames.py", '">" if kinds[0] else "<"', '"<" if kinds[0] else ">"', r"^a frame$|check of the stack"),
+    # Data.
+    Edit("data.py", "symbol.offset + relocation.addend", "symbol.offset", r"addend"),
+    Edit("data.py", "symbol.offset + relocation.addend", "relocation.addend", r"within its segment"),
+    Edit("wasm_object.py", "reader.signed() if kind in WITH_ADDEND", "reader.unsigned() if kind in WITH_ADDEND", r"before its data", True),
+    Edit("data.py", "start = at + ADDRESS_LENGTH", "start = at", r"bytes after addresses|second address"),
+    Edit("emit.py", "'-' if offset < 0 else '+'", "'+'", r"before its data"),
+    Edit("data.py", "at - it.start: found", "at: found", r"constant data|second address", step="translate"),
+]
+
+
+@needs_compiler
+class EditsTest(CaseTest):
+    @classmethod
+    def setUpClass(cls):
+        cls.folder = tempfile.mkdtemp(prefix="bootswap-c-edits-")
+        cls.addClassCleanup(shutil.rmtree, cls.folder, ignore_errors=True)
+
+    def test_places(self):
+        """The text of each edit is in its file exactly once."""
+        for it in EDITS:
+            count = read(f"{ROOT}/bindings/c_file/{it.file}").decode().count(it.old)
+            self.case(f"{it.file}: {it.old}", [f"{count} times"] * (count != 1))
+
+    def test_unchanged(self):
+        """Without an edit each named case passes."""
+        cases = [it for it in translated.all_cases() if any(re.search(edit.cases, it.name) for edit in EDITS)]
+        for words, runner in self.builds():
+            self.case(words[0], self.outcome(cases, "|".join(it.cases for it in EDITS), f"{ROOT}/bindings", words, runner)[1])
+
+    @staticmethod
+    def builds():
+        return [(HERE, [])] + [(SMALL, ["qemu-arm"])] * all(shutil.which(it) for it in (SMALL[0], "qemu-arm"))
+
+    def test_edits(self):
+        builds = self.builds()
+        for it in EDITS:
+            with self.subTest(f"{it.file}: {it.old} -> {it.new}"):
+                if it.is_small and len(builds) < 2:
+                    self.skipTest("no processor of 32 bits: gcc for 32-bit ARM and qemu-arm aren't installed")
+                cases = translated.all_cases(it.cases)
+                self.assertTrue(cases, "no case has such a name")
+                step, faults = self.outcome(cases, it.cases, self.edited(it), *builds[it.is_small])
+                self.assertTrue(faults, "no case differs")
+                self.assertEqual(step, it.step, f"it isn't noticed there: {faults[0][:300]}")
+
+    def edited(self, it):
+        """Returns a copy of bindings/ with an edit."""
+        copy = f"{self.folder}/bindings"
+        shutil.rmtree(copy, ignore_errors=True)
+        shutil.copytree(f"{ROOT}/bindings/c_file", f"{copy}/c_file")
+        path = f"{copy}/c_file/{it.file}"
+        with open(path, "r+", encoding="utf-8") as file:
+            changed = file.read().replace(it.old, it.new)
+            file.seek(0)
+            file.truncate()
+            file.write(changed)
+        return copy
+
+    def outcome(self, cases, pattern, bindings, words, runner):
+        """Translates, compiles and runs cases. Returns the step that was reached, and what is wrong."""
+        environment = {**os.environ, "BOOTSWAP_BINDINGS": bindings, "PYTHONDONTWRITEBYTECODE": "1"}
+        faults, _ = ran([sys.executable, "-m", "support.translated", pattern, self.folder], cwd=f"{ROOT}/tests", env=environment)
+        if faults:
+            return "translate", faults
+        program = f"{self.folder}/program"
+        faults, _ = ran([*words, "-std=c11", "-Werror=shift-count-overflow", f"{self.folder}/cases.c", f"{self.folder}/main.c", "-o", program])
+        return ("compile", faults) if faults else ("run", translated.ran([*runner, program], cases))
+
+
