@@ -179,7 +179,6 @@ class RefusedTest(CaseTest):
     def test_data(self):
         used = Function("bootswap_0", [64], None, "i64.const @it; i64.load 8 0; drop")
         self.refused("data that is written", "it isn't constant", used, data=[Data("it", bytes(8), section=".data")])
-        self.refused("data without contents", "it is empty", used, data=[Data("it", b"")])
         outside = [Data("it", bytes(8), {0: ("it", 9)})]
         self.refused("an address outside of its data", "outside of the data", used, data=outside)
 

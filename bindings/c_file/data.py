@@ -50,8 +50,6 @@ class Data:
         it = self.object.segments[number]
         if not it.name.startswith(CONSTANT):
             raise NotTranslated(f"the data {it.name}: it isn't constant")
-        if not it.contents:
-            raise NotTranslated(f"the data {it.name}: it is empty")
         for at, relocation in self.addresses_in(number).items():
             target, offset = self.place_of(relocation)
             if relocation.kind != DATA_ADDRESS or at + ADDRESS_LENGTH > len(it.contents):
@@ -61,8 +59,8 @@ class Data:
 
     def parts_of(self, number):
         """Yields the parts of a segment: the bytes before the first address, that address, and so on. An address is the pair of
-        its segment and the offset there."""
-        contents, start = self.object.segments[number].contents, 0
+        its segment and the offset there. C has no empty objects, so empty data is a byte, which nothing reads."""
+        contents, start = self.object.segments[number].contents or b"\0", 0
         for at, relocation in self.addresses_in(number).items():
             yield contents[start:at]
             yield self.place_of(relocation)

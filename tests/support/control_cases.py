@@ -131,6 +131,7 @@ def data():
                lambda: 7, [()])
     yield Case("an address of addresses", [], 32, "i64.const @self; i64.load 8 0; i64.load 8 0; i32.load8_u 1 1", lambda: 211, [()])
     yield Case("data that holds its own address", [], 32, "i64.const @cycle; i64.load 8 8; i64.const @cycle; i64.eq", lambda: 1, [()])
+    yield Case("the address of empty data", [], 32, "i64.const @empty; i64.eqz", lambda: 0, [()])
     yield Case("an aligned load of data", [], 64, "i64.const @numbers; i64.load 8 8",
                lambda: int.from_bytes(bytes(range(108, 116)), "little"), [()])
 

@@ -285,5 +285,6 @@ DATA = [
     Data("inner", bytes(range(200, 232)), alignment=4, at=8),
     Data("addresses", bytes(24) + b"\x07" * 9, {0: ("numbers", 5), 16: ("inner", 2)}),
     Data("cycle", bytes(16), {8: ("cycle", 0)}),
+    Data("empty", b"", alignment=1),
     Data("self", bytes(8), {0: ("addresses", 16)}, section=".data.rel.ro"),
 ]
