@@ -108,7 +108,8 @@ EDITS = [
     Edit("emit.py", "            self.local_get(it)\n\n", "            self.stack.append(constant(0, 64))\n\n", r"local.tee"),
     # Frames.
     Edit("frames.py", "{self.size + offset}u)", "{self.size + offset + 8}u)", r"^frames of|a frame"),
-    Edit("frames.py", "offset + number if operator == ", "offset - number if operator == ", r"^a frame$|passed on", step="translate"),
+    Edit("frames.py", '== "+" else -signed(', '== "-" else -signed(', r"^a frame$|passed on", step="translate"),
+    Edit("frames.py", "({one.text} + {other.text})", "({one.text} - {other.text})", r"a place in a frame by a number"),
     Edit("frames.py", '">" if kinds[0] else "<"', '"<" if kinds[0] else ">"', r"^a frame$|check of the stack"),
     # Data.
     Edit("data.py", "symbol.offset + relocation.addend", "symbol.offset", r"addend"),

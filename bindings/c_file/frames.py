@@ -3,10 +3,16 @@
 A module has a stack in its memory: a function subtracts the size of its frame from the global `__stack_pointer`, and adds it
 again before it returns. In C each frame is an array of bytes of its function, so C's stack holds it, and the global is gone.
 
-This keeps the meaning: a frame is memory that no other object has while the function runs, aligned to 16 bytes, and its first
-contents are any. Both kinds of frames are that, if a stack is large enough. So addresses in frames are followed as what they
-are, the end of the frame minus a number (a FRAME of widths.py), and whatever can't be followed is refused: a frame whose size
-isn't constant, an address outside of it, and another number in the global.
+This keeps the meaning: a frame is memory that no other object has while the function runs, and its first contents are any. Both
+kinds of frames are that, if a stack is large enough. So addresses in frames are followed as what they are, the end of the frame
+minus a number (a FRAME of widths.py), and whatever can't be followed is refused: a frame whose size isn't constant, an address
+outside of it, and another number in the global.
+
+A frame of the module is aligned to 16 bytes, and one in C to 8, as the stack of 32-bit ARM is: it takes less code and less stack
+than 16. No access of the subset needs more. But LLVM may add a number by `|` where it knows that the address has none of its bits.
+It knows the lowest four bits of an address in a frame at most. The others depend on where the stack lies, and nothing that the
+module computes does. So `|` of such an address is a sum in C. Of any other address it is refused, unless it is of the lowest three
+bits, which are as in the module.
 
 The module checks for each function that its stack has room, and traps otherwise: it compares an address of the frame with a
 small number. C's compiler decides where its stack lies and what happens when it is full. So these comparisons have the result
@@ -17,8 +23,8 @@ from c_file.errors import NotTranslated
 from c_file.values import Value, constant, known
 from c_file.widths import ADDRESS, Fact, Kind
 
-# Each frame begins and ends at a multiple of this.
-ALIGNMENT = 16
+# Each frame of the module begins and ends at a multiple of this, and each in C at a multiple of that.
+ALIGNMENT, ALIGNMENT_IN_C = 16, 8
 
 # The lowest bytes of the module's memory, in which no frame of a large stack lies. A check compares with less than this.
 LOWEST = 65536
@@ -61,19 +67,25 @@ class Frame:
             self.refuse("another number in the stack's pointer than the ends of the frame")
 
     def sum(self, operator, one, other):
-        """Returns the sum or difference of an address in the frame and a constant, or None if these are something else.
-
-        The frame is aligned to 16 bytes. So `|` is a sum, if the bits of a constant below 16 are 0 in the address.
-        """
+        """Returns the sum or difference of an address in the frame and a number, or None if these are something else."""
         if other.fact.kind is Kind.FRAME and operator in "+|":
             one, other = other, one
-        if one.fact.kind is not Kind.FRAME or other.number is None:
-            return None
-        offset, number = one.fact.offset, signed(other.number)
-        if operator in "+-":
-            return self.at(offset + number if operator == "+" else offset - number)
-        is_apart = operator == "|" and 0 <= number < ALIGNMENT and offset & number == 0
-        return self.at(offset + number) if is_apart else None
+        is_frame = one.fact.kind is Kind.FRAME
+        if is_frame and operator in "+-" and other.number is not None:
+            return self.at(one.fact.offset + (signed(other.number) if operator == "+" else -signed(other.number)))
+        if is_frame and operator == "|" and other.is_narrow and not other.fact.is_address:
+            if other.number is None:
+                return known(f"({one.text} + {other.text})", ADDRESS, one, other)
+            if other.number < ALIGNMENT and one.fact.offset & other.number == 0:
+                return self.at(one.fact.offset + other.number)
+        self.check_bits(operator, one, other)
+        return None
+
+    def check_bits(self, operator, one, other):
+        """Refuses bits of an address that may only be known of the module's frames."""
+        if operator in "|^" and (one.fact.is_address or other.fact.is_address):
+            if not any(it.number is not None and it.number < ALIGNMENT_IN_C for it in (one, other)):
+                raise NotTranslated(f"{self.name}: `{operator}` of an address, whose alignment isn't known")
 
     def comparison(self, operator, one, other):
         """Returns the result of a check that the stack has room, or None if a comparison is something else: an address of a

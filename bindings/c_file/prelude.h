@@ -14,13 +14,13 @@
  *   BOOTSWAP_UNREACHABLE()  never returns. The proved library never reaches it.
  *   BOOTSWAP_ZEROS_BELOW(x), BOOTSWAP_ZEROS_ABOVE(x), BOOTSWAP_ONES(x): of a uint64_t, the first two not of 0
  */
-#include <limits.h>
 #include <stddef.h>
 #include <stdint.h>
 #include <string.h>
 
-#if UINT_MAX != 0xffffffffu || (UINTPTR_MAX != 0xffffffffu && UINTPTR_MAX != 0xffffffffffffffffu)
-#error "this file is for compilers whose int has 32 bits, and whose addresses have 32 or 64"
+_Static_assert(sizeof(int) == 4, "int has 32 bits");
+#if UINTPTR_MAX != 0xffffffffu && UINTPTR_MAX != 0xffffffffffffffffu
+#error "this file is for processors whose addresses have 32 or 64 bits"
 #endif
 #if defined __BYTE_ORDER__ && __BYTE_ORDER__ != __ORDER_LITTLE_ENDIAN__
 #error "this file is for little-endian processors"
@@ -45,8 +45,8 @@
 #define BOOTSWAP_ONES(x) __builtin_popcountll(x)
 #endif
 
-/* Frames have this alignment in WebAssembly. */
-#define BOOTSWAP_FRAME_ALIGNMENT 16
+/* The alignment of frames: no access needs more. */
+#define BOOTSWAP_FRAME_ALIGNMENT 8
 
 /* An address in constant data has 8 bytes. */
 #if UINTPTR_MAX == 0xffffffffu

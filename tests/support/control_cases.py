@@ -108,6 +108,9 @@ def frames():
                [(it,) for it in values_of("wide")], [64], [inner])
     body = f"{ENTER}; local.get 1; i64.const 8; i64.or; local.get 0; i64.store 8 0; local.get 1; i64.load 8 8; {LEAVE}"
     yield Case("a place in a frame by `or`", ["wide"], 64, body, lambda a: a, [(3,), (2**63,)], [64])
+    body = f"""{ENTER}; local.get 1; i64.const 0; i64.store 8 16; local.get 0; i64.const 7; i64.and; local.get 1; i64.const 16; i64.add
+    i64.or; i64.const 9; i64.store8 1 0; local.get 1; i64.load 8 16; {LEAVE}"""
+    yield Case("a place in a frame by a number", ["number"], 64, body, lambda a: 9 << 8 * (a % 8), [(it,) for it in range(9)], [64])
     leaf = """global.get; i64.const 64; i64.sub; local.tee 1; local.get 0; i64.store 8 40; block; local.get 1; i64.const 16; i64.lt_s; br_if 0
     local.get 1; i64.load 8 40; return; end; unreachable"""
     yield Case("a frame of a function that calls none", ["wide"], 64, leaf, lambda a: a, [(3,), (2**63,)], [64])

@@ -14,12 +14,14 @@ from support.files import ROOT
 from support.program import short
 
 sys.path.insert(0, f"{ROOT}/tools")
+sys.path.append(f"{ROOT}/bindings")
 
 from builder import ARM_TARGET, LIBRARY, MANIFEST_LIBRARY, TARGET, WEB_TARGET, asked_of_rt, library_crates, link_for_web
+from c_file.folder import write_folder
 from installing import share
 from proved_copy import library_in
 
-BUILDERS = {TARGET: "bindings/build", ARM_TARGET: f"bindings/build --target {ARM_TARGET}", WEB_TARGET: "web/build"}
+BUILDERS = {TARGET: "bindings/build", ARM_TARGET: f"bindings/build --target {ARM_TARGET}", WEB_TARGET: "bindings/build --c"}
 
 
 def archive_for(target, name=LIBRARY):
@@ -67,6 +69,12 @@ def web_module(folder):
     if not is_linked:
         raise AssertionError(f"the library of the page is linked: {output}")
     return module
+
+
+def c_folder(folder):
+    """Leaves the library as one file of C in a folder, as `bindings/build --c` does. Skips the tests that need it if it isn't
+    built."""
+    write_folder(archive_for(WEB_TARGET), folder)
 
 
 def ran(arguments, **how):
