@@ -4,20 +4,15 @@
 
    Two builds of the library are the same if they print the same: the scenarios choose their calls from what these left. Writes
    are cut, journals are too short, saved states are lost or damaged, and so are bytes of the flash. Each call of both headers is
-   made. The first line has the number of calls that aren't in the library, which is 0: it doesn't link then.
+   made.
 
-   SMALLEST is defined for a machine with little memory: its flashes are shorter. write_text is the program's way to print. */
+   BARE is defined for a machine without an operating system: tests/bare/ has what is its own then. */
 #include <stdint.h>
 #include <string.h>
 
 #include "bootswap_simulate.h"
 
-#ifdef SMALLEST
-enum { MOST_FLASH = 1 << 17, MOST_FILE = 8192 };
-#else
-enum { MOST_FLASH = 1 << 19, MOST_FILE = 16384 };
-#endif
-enum { MOST_JOURNAL = 20000, CALLS = 40, FIRST_HASH = 5381 };
+enum { MOST_FLASH = 1 << 19, MOST_FILE = 16384, MOST_JOURNAL = 20000, CALLS = 40, FIRST_HASH = 5381 };
 
 void write_text(const char *text);
 void play(uint32_t seed);

@@ -1,4 +1,5 @@
-"""The processors on which the library is tested: this one, and 64-bit ARM as `qemu-aarch64` runs it."""
+"""The processors on which the library is tested: this one, 64-bit ARM as `qemu-aarch64` runs it, and 32-bit ARM with the library as
+one file of C."""
 
 import shutil
 import unittest
@@ -39,6 +40,8 @@ class Processor:
 
 HERE = Processor(TARGET, ("cc",), "nm", ())
 ARM = Processor(ARM_TARGET, ("aarch64-linux-gnu-gcc", "-static"), "aarch64-linux-gnu-nm", ("qemu-aarch64",))
+
+SMALL_ARM = Processor("arm-linux-gnueabihf", ("arm-linux-gnueabihf-gcc", "-static"), "arm-linux-gnueabihf-nm", ("qemu-arm",))
 
 needs_arm = unittest.skipIf(ARM.missing(), f"not installed: {ARM.missing()}")
 

@@ -1,0 +1,10 @@
+/* Plays the scenarios of tests/scenarios.c from seed FIRST to seed LAST. */
+#include "bare.h"
+
+void play(uint32_t seed);
+int main(void);
+
+int main(void) {
+    for (uint32_t seed = FIRST; seed <= LAST; seed++) play(seed);
+    return 0;
+}

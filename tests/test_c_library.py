@@ -1,0 +1,126 @@
+"""The library as one file of C, as `bindings/build --c` leaves it.
+
+tests/scenarios.c plays random scenarios with each call of both headers. Whatever processor and compiler: the file of C prints
+exactly what the library for this processor prints, a number and a hash of everything that a call may write. 10,000 scenarios take
+3 minutes for each program of this processor; the gate plays 300, and fewer on emulated machines.
+"""
+
+import os
+import shutil
+import tempfile
+import unittest
+
+from support.bare import BARE, MACHINES
+from support.compiled import needs_compiler
+from support.files import ROOT, read
+from support.libraries import c_folder, ran
+from support.processors import HERE, SMALL_ARM
+from support.program import CaseTest, short
+
+SCENARIOS = f"{ROOT}/tests/scenarios.c"
+STRICT = ["-std=c11", "-Wall", "-Wextra", "-Werror"]
+COPIES = ["include/bootswap.h", "include/bootswap_names.h", "include/bootswap_simulate.h", "bindings/c/driver.c", "bindings/c/driver.h"]
+
+# How many scenarios are played: on this processor and 32-bit ARM, and on a bare machine.
+SEEDS, BARE_SEEDS = 300, 30
+
+
+@needs_compiler
+class CLibraryTest(CaseTest):
+    @classmethod
+    def setUpClass(cls):
+        cls.folder = tempfile.mkdtemp(prefix="bootswap-c-library-")
+        cls.addClassCleanup(shutil.rmtree, cls.folder, ignore_errors=True)
+        c_folder(f"{cls.folder}/c")
+        cls.file, program = f"{cls.folder}/c/bootswap.c", f"{cls.folder}/native"
+        faults = HERE.compiled([*STRICT, "-O1", "-I", f"{cls.folder}/c", SCENARIOS, HERE.archive(), "-o", program])
+        if faults:
+            raise AssertionError(f"scenarios.c compiles: {faults[0]}")
+        faults, cls.printed = HERE.ran(program, "0", str(SEEDS - 1))
+        if faults:
+            raise AssertionError(f"scenarios.c runs: {faults[0]}")
+
+    def wanted(self, seeds):
+        """Returns what the library for this processor prints of the first scenarios."""
+        lines = self.printed.splitlines(keepends=True)
+        ends = [i for i, line in enumerate(lines) if line.startswith(b"scenario ") and int(line.split()[1]) >= seeds]
+        return b"".join(lines[: min(ends, default=len(lines))])
+
+    def compare(self, name, faults, printed, seeds):
+        """A case: a program prints what the library for this processor prints."""
+        wanted = self.wanted(seeds)
+        if not faults and printed != wanted:
+            lines = printed.splitlines(), wanted.splitlines()
+            faults = [next((f"line {i + 1}: {one}, and not {other}" for i, (one, other) in enumerate(zip(*lines)) if one != other),
+                           f"{len(lines[0])} lines, and not {len(lines[1])}")]
+        self.case(f"{seeds} scenarios, {name}", faults)
+
+    def test_scenarios(self):
+        """The scenarios make each call, and each of these has each kind of end."""
+        ends = {tuple(line.rsplit(b" ", 2)[0].split(b" ")) for line in self.printed.splitlines()}
+        for call in (b"provision", b"boot", b"accept", b"piece", b"finish", b"withdraw", b"confirm"):
+            found = {int(it[-1]) for it in ends if it[0] == call}
+            self.case(call.decode(), [f"it returns {sorted(found)} only"] * (len(found & {0, 1, 4, 5}) < 2))
+
+    def test_here(self):
+        """On this processor, where nothing is undefined and no access is outside of an object."""
+        words = ["-O1", "-fsanitize=address,undefined", "-fno-sanitize-recover", "-I", f"{self.folder}/c"]
+        program = f"{self.folder}/here"
+        faults = HERE.compiled([*words, *STRICT, SCENARIOS, self.file, "-o", program])
+        printed = b""
+        if not faults:
+            faults, printed = HERE.ran(program, "0", str(SEEDS - 1))
+        self.compare("gcc on this processor", faults, printed, SEEDS)
+
+    @unittest.skipIf(SMALL_ARM.missing(), f"not installed: {SMALL_ARM.missing()}")
+    def test_small_arm(self):
+        program, printed = f"{self.folder}/arm", b""
+        faults = SMALL_ARM.compiled([*STRICT, "-O1", "-I", f"{self.folder}/c", SCENARIOS, self.file, "-o", program])
+        if not faults:
+            faults, printed = SMALL_ARM.ran(program, "0", str(SEEDS - 1))
+        self.compare("32-bit ARM", faults, printed, SEEDS)
+
+    def test_bare_machines(self):
+        """On machines without an operating system. An access that isn't aligned is a fault on both of ARM."""
+        for it in MACHINES:
+            with self.subTest(it.name):
+                if it.missing():
+                    self.skipTest(f"not installed: {it.missing()}")
+                program, printed = f"{self.folder}/bare.elf", b""
+                seeds = ["-DFIRST=0", f"-DLAST={BARE_SEEDS - 1}"]
+                faults = it.compiled(["-O1", *seeds, "-I", f"{self.folder}/c", f"{BARE}/main.c", SCENARIOS, self.file], program)
+                if not faults:
+                    faults, printed = it.ran(program)
+                self.compare(it.name, faults, printed, BARE_SEEDS)
+
+    def test_clang(self):
+        """clang compiles the file without a warning."""
+        if not shutil.which("clang"):
+            self.skipTest("there is no clang")
+        words = ["clang", "-O0", *STRICT, "-c", "-I", f"{self.folder}/c", self.file, "-o", f"{self.folder}/clang.o"]
+        self.case("clang", ran(words)[0])
+
+    def test_folder(self):
+        """The folder has the file and unchanged copies, and the file says what it is."""
+        names = sorted(os.listdir(f"{self.folder}/c"))
+        self.case("files", [str(names)] * (names != sorted(["bootswap.c", *map(os.path.basename, COPIES)])))
+        for path in COPIES:
+            copy = f"{self.folder}/c/{os.path.basename(path)}"
+            self.case(path, [] if read(copy) == read(f"{ROOT}/{path}") else ["it differs"])
+        head = read(self.file).decode().partition("*/")[0]
+        for text in ("bindings/build --c", "Don't edit it", "Apache License, Version 2.0", "These are trusted"):
+            self.case(text, [] if text in head else [short(head)])
+
+    def test_names(self):
+        """Nothing but the calls is visible outside of the file, and it calls only functions of memory and arithmetic."""
+        made = f"{self.folder}/names.o"
+        faults = HERE.compiled([*STRICT, "-O0", "-c", "-I", f"{self.folder}/c", self.file, "-o", made])
+        rows = [line.split() for line in ran(["nm", "--format=posix", made])[1].decode().splitlines()]
+        public = {it[0] for it in rows if it[1].isupper() and it[1] != "U"}
+        called = {it[0] for it in rows if it[1] == "U"}
+        self.case("it compiles", faults)
+        self.case("its names", sorted(it for it in public if not it.startswith("bootswap_")))
+        self.case("what it calls", sorted(called - {"memcpy", "memmove", "memset", "__popcountdi2", "__stack_chk_fail"}))
+        self.case("data that is written", sorted(it[0] for it in rows if it[1] in "dDbBC"))
+
+
