@@ -34,13 +34,13 @@ static void receive(void *bytes, size_t length) {
 }
 
 static void send(uint64_t what, void *context, uint32_t at, uint64_t bytes, uint32_t length) {
-    struct message it = {what, (uint64_t)context, at, bytes, length};
+    struct message it = {what, (uintptr_t)context, at, bytes, length};
     if (write(STDOUT_FILENO, &it, sizeof it) != sizeof it) exit(1);
 }
 
 static int ask(uint64_t what, void *context, uint32_t at, const uint8_t *bytes, uint32_t length) {
     int32_t status;
-    send(what, context, at, (uint64_t)bytes, length);
+    send(what, context, at, (uintptr_t)bytes, length);
     receive(&status, sizeof status);
     return status;
 }
@@ -54,22 +54,23 @@ int called_program(void *context, uint32_t at, const uint8_t *bytes, uint32_t le
 
 int called_erase(void *context, uint32_t at, uint32_t length) { return ask(ERASES, context, at, NULL, length); }
 
-/* A function of any type. It reads no more words than it takes. */
-typedef uint64_t function(uint64_t, uint64_t, uint64_t, uint64_t, uint64_t, uint64_t, uint64_t, uint64_t, uint64_t,
-                          uint64_t, uint64_t);
+/* A function of any type. It reads no more words than it takes. A processor of 32 bits has words of 32 bits. */
+typedef uintptr_t word;
+typedef word function(word, word, word, word, word, word, word, word, word, word, word);
 
 int main(int count, char **words) {
     if (count != 4) return 2;
     int file = open(words[1], O_RDWR);
-    void *place = (void *)strtoull(words[2], NULL, 10);
-    size_t length = strtoull(words[3], NULL, 10);
+    void *place = (void *)(uintptr_t)strtoull(words[2], NULL, 10);
+    size_t length = (size_t)strtoull(words[3], NULL, 10);
     if (mmap(place, length, PROT_READ | PROT_WRITE, MAP_SHARED | MAP_FIXED, file, 0) != place) return 1;
     for (;;) {
         struct call it;
         receive(&it, sizeof it);
-        const uint64_t *w = it.words;
-        function *called = (function *)it.function;
-        uint64_t number = called(w[0], w[1], w[2], w[3], w[4], w[5], w[6], w[7], w[8], w[9], w[10]);
+        word w[11];
+        for (int i = 0; i < 11; i++) w[i] = (word)it.words[i];
+        function *called = (function *)(uintptr_t)it.function;
+        word number = called(w[0], w[1], w[2], w[3], w[4], w[5], w[6], w[7], w[8], w[9], w[10]);
         send(RETURNS, NULL, 0, (uint32_t)number, 0);
     }
 }

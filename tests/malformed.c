@@ -7,10 +7,10 @@
 static uint32_t returned, attempts;
 static uint64_t length;
 
-/* Sets what the next calls return and use. */
-uint32_t malformed_set(uint32_t number, uint64_t used) {
+/* Sets what the next calls return and use: the length of the journal is given in two parts, as each processor passes them. */
+uint32_t malformed_set(uint32_t number, uint32_t low, uint32_t high) {
     returned = number;
-    length = used;
+    length = (uint64_t)high << 32 | low;
     attempts = 0;
     return 0;
 }

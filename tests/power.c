@@ -13,7 +13,9 @@
 static long calls;
 
 static ssize_t put(int file, const void *bytes, size_t length, off_t at) {
-    return syscall(SYS_pwrite64, file, bytes, length, at);
+    if (sizeof(long) == 8) return syscall(SYS_pwrite64, file, bytes, length, at);
+    /* 32-bit ARM takes the offset in two registers, the first of an even number. */
+    return syscall(SYS_pwrite64, file, bytes, length, 0, (long)at, 0);
 }
 
 static void put_random(int file, unsigned seed, size_t length, off_t at) {
@@ -45,4 +47,5 @@ ssize_t pwrite(int file, const void *bytes, size_t length, off_t at) {
     return put(file, bytes, length, at);
 }
 
-ssize_t pwrite64(int file, const void *bytes, size_t length, off_t at) { return pwrite(file, bytes, length, at); }
+/* The flash is shorter than any limit of `off_t`. */
+ssize_t pwrite64(int file, const void *bytes, size_t length, off64_t at) { return pwrite(file, bytes, length, (off_t)at); }

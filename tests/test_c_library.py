@@ -8,13 +8,12 @@ exactly what the library for this processor prints, a number and a hash of every
 import os
 import shutil
 import tempfile
-import unittest
 
 from support.bare import BARE, MACHINES
 from support.compiled import needs_compiler
 from support.files import ROOT, read
 from support.libraries import c_folder, ran
-from support.processors import HERE, SMALL_ARM
+from support.processors import HERE, SMALL_ARM, needs_small_arm
 from support.program import CaseTest, short
 
 SCENARIOS = f"{ROOT}/tests/scenarios.c"
@@ -72,7 +71,7 @@ class CLibraryTest(CaseTest):
             faults, printed = HERE.ran(program, "0", str(SEEDS - 1))
         self.compare("gcc on this processor", faults, printed, SEEDS)
 
-    @unittest.skipIf(SMALL_ARM.missing(), f"not installed: {SMALL_ARM.missing()}")
+    @needs_small_arm
     def test_small_arm(self):
         program, printed = f"{self.folder}/arm", b""
         faults = SMALL_ARM.compiled([*STRICT, "-O1", "-I", f"{self.folder}/c", SCENARIOS, self.file, "-o", program])

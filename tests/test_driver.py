@@ -10,7 +10,7 @@ import os
 import re
 import shutil
 import tempfile
-from ctypes import POINTER, byref, c_char, c_size_t, c_uint8, c_uint32, c_uint64
+from ctypes import POINTER, byref, c_char, c_size_t, c_uint8, c_uint32
 
 from support.builders import image, version
 from support.compiled import needs_compiler
@@ -716,7 +716,7 @@ class MalformedTest(DriverTest):
         parts = ctypes.pointer(setup), ctypes.pointer(driver), POINTER(c_uint8)(), len(copy), *pointers, len(journal)
         device = library.new(library.device, *parts)
         self.held = flash, setup, driver, copy, recorded
-        library.calls.malformed_set(c_uint32(number), c_uint64(used))
+        library.calls.malformed_set(c_uint32(number), c_uint32(used % 2**32), c_uint32(used >> 32))
         self.assertEqual(library.calls.bootswap_open(byref(device)), 0)
         return device, flash.made
 
@@ -760,8 +760,8 @@ class MalformedTest(DriverTest):
         shortest = JOURNAL["BOOT"](1, 512)
         for journal, used in ((bytes(shortest), 0), ((words(0, 512, 8) + bytes(shortest))[:shortest], 20)):
             device, made = self.opened(journal, used, CUT)
-            calls = self.library.calls
-            most = 3 * sum(device.setup[0].sectors[: device.setup[0].images]) + 17
+            calls, setup = self.library.calls, self.held[1]
+            most = 3 * sum(setup.sectors[: setup.images]) + 17
             number = calls.bootswap_device_boot(byref(device))
             got = (number, calls.malformed_attempts(), len(made))
             self.case(f"a boot that writes {used} bytes", [got] * (got != (JOURNAL_TOO_SMALL, most, most * (used > 0))))

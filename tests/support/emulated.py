@@ -21,10 +21,9 @@ class Memory:
     """A file that this process and the one of the emulator have at the same address. No page follows it."""
 
     LENGTH = 1 << 26
-    addresses = itertools.count(1 << 36, 2 * LENGTH)
 
-    def __init__(self, name):
-        self.start = self.unused = next(self.addresses)
+    def __init__(self, name, start):
+        self.start = self.unused = start
         self.end, self.free = self.start + self.LENGTH, {}
         read_write, shared, fixed = 1 | 2, 1, 0x100000
         mapped = ctypes.CDLL(None, use_errno=True).mmap
@@ -52,6 +51,9 @@ class Memory:
 class Emulated(Library):
     """The library, in a process of the emulator. Objects whose addresses are passed to a call are made by `new`."""
 
+    # Where the next memory begins.
+    addresses = itertools.count(1 << 36, 2 * Memory.LENGTH)
+
     def linked(self, parts, folder):
         program, shared = f"{folder}/called", f"{folder}/shared"
         files = [f"{ROOT}/tests/called.c", f"{ROOT}/bindings/c/driver.c"]
@@ -59,7 +61,7 @@ class Emulated(Library):
         faults = self.processor.compiled(words)
         if faults:
             raise AssertionError(f"the calls over a driver compile: {faults[0]}")
-        self.memory = Memory(shared)
+        self.memory = Memory(shared, next(self.addresses))
         self.functions, self.flashes = self.functions_of(program), weakref.WeakValueDictionary()
         words = [*self.processor.runner, program, shared, str(self.memory.start), str(Memory.LENGTH)]
         # If it crashes, it leaves a file where it runs.
@@ -96,7 +98,7 @@ class Emulated(Library):
     def __getattr__(self, name):
         if not name.startswith(("bootswap_", "malformed_")):
             raise AttributeError(name)
-        return lambda *words: self.call(self.functions[name], map(word_of, words))
+        return lambda *words: self.call(self.functions[name], map(self.word_of, words))
 
     def call(self, function, words):
         """Makes a call, answers what it asks of a driver, and returns its number."""
@@ -120,13 +122,62 @@ class Emulated(Library):
         self.process.stdin.write(message)
         self.process.stdin.flush()
 
+    @staticmethod
+    def word_of(argument):
+        """Returns an argument as the word that holds it. A type of C that is shorter leaves the other bits open: they are ones."""
+        address = address_of(argument)
+        return address if address is not None else argument.value | WORD & WORD << 8 * ctypes.sizeof(argument)
 
-def word_of(argument):
-    """Returns an argument as the word that holds it. A type of C that is shorter leaves the other bits open: they are ones."""
+
+def address_of(argument):
+    """Returns the address that an argument is, or None if it is a number."""
     if hasattr(argument, "_obj"):
         return ctypes.addressof(argument._obj)
     if isinstance(argument, ctypes.Array):
         return ctypes.addressof(argument)
     if isinstance(argument, ctypes._Pointer):
         return ctypes.cast(argument, ctypes.c_void_p).value or 0
-    return argument.value | WORD & WORD << 8 * ctypes.sizeof(argument)
+    return None
+
+
+class SmallStructure(ctypes.Structure):
+    """A struct whose pointers have 4 bytes. They are set to what is a pointer here."""
+
+    def __init__(self, *fields):
+        super().__init__(*map(number_of, fields))
+
+    def __setattr__(self, name, value):
+        super().__setattr__(name, number_of(value))
+
+
+def number_of(value):
+    """Returns a value, or the address that it is."""
+    address = address_of(value)
+    return value if address is None else address
+
+
+class EmulatedSmall(Emulated):
+    """The library on a processor whose addresses have 32 bits."""
+
+    addresses = itertools.count(0x50000000, 2 * Memory.LENGTH)
+    contexts = itertools.count(1)
+
+    def structs(self):
+        pointers = lambda names: [(name, ctypes.c_uint32) for name in names.split()]
+        driver = type("Driver", (SmallStructure,), {"_fields_": pointers("read program erase context")})
+        fields = pointers("setup driver flash flash_length copy journal journal_capacity")
+        fields += [("saved", self.names._SavedState), ("result", self.names._CallResult)]
+        fields += [("reverted", ctypes.c_uint8), ("is_stale", ctypes.c_uint8)]
+        return driver, type("Device", (SmallStructure,), {"_fields_": fields})
+
+    def driver_of(self, flash):
+        made = self.new(self.driver, *(self.functions[f"called_{name}"] for name in ("read", "program", "erase")), next(self.contexts))
+        made.flash = flash
+        self.flashes[made.context] = flash
+        return made
+
+    @staticmethod
+    def word_of(argument):
+        """Returns an argument as the word that holds it. The caller extends a shorter type (AAPCS32, "Parameter passing")."""
+        address = address_of(argument)
+        return argument.value if address is None else address

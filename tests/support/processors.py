@@ -1,11 +1,14 @@
 """The processors on which the library is tested: this one, 64-bit ARM as `qemu-aarch64` runs it, and 32-bit ARM with the library as
 one file of C."""
 
+import atexit
+import functools
 import shutil
+import tempfile
 import unittest
 from dataclasses import dataclass
 
-from support.libraries import ARM_TARGET, TARGET, archive_for, manifest_archive_for, ran
+from support.libraries import ARM_TARGET, TARGET, archive_for, c_folder, manifest_archive_for, ran
 
 
 @dataclass(frozen=True)
@@ -41,9 +44,31 @@ class Processor:
 HERE = Processor(TARGET, ("cc",), "nm", ())
 ARM = Processor(ARM_TARGET, ("aarch64-linux-gnu-gcc", "-static"), "aarch64-linux-gnu-nm", ("qemu-aarch64",))
 
-SMALL_ARM = Processor("arm-linux-gnueabihf", ("arm-linux-gnueabihf-gcc", "-static"), "arm-linux-gnueabihf-nm", ("qemu-arm",))
+
+@dataclass(frozen=True)
+class SmallProcessor(Processor):
+    """A processor of 32 bits. The toolchain has no target for it: its library is the file of C that `bindings/build --c` makes."""
+
+    def archive(self):
+        return library_of_c(self)
+
+
+@functools.lru_cache(maxsize=None)
+def library_of_c(processor):
+    """Compiles the library as one file of C for a processor, and returns its file."""
+    folder = tempfile.mkdtemp(prefix="bootswap-small-")
+    atexit.register(shutil.rmtree, folder, ignore_errors=True)
+    c_folder(folder)
+    faults = processor.compiled(["-O1", "-c", f"{folder}/bootswap.c", "-o", f"{folder}/bootswap.o"])
+    if faults:
+        raise AssertionError(f"bootswap.c compiles: {faults[0]}")
+    return f"{folder}/bootswap.o"
+
+
+SMALL_ARM = SmallProcessor("arm-linux-gnueabihf", ("arm-linux-gnueabihf-gcc", "-static", "-marm"), "arm-linux-gnueabihf-nm", ("qemu-arm",))
 
 needs_arm = unittest.skipIf(ARM.missing(), f"not installed: {ARM.missing()}")
+needs_small_arm = unittest.skipIf(SMALL_ARM.missing(), f"not installed: {SMALL_ARM.missing()}")
 
 
 class OnArm:
@@ -53,3 +78,12 @@ class OnArm:
 
     def case(self, name, faults):
         super().case(f"{name}, on 64-bit ARM", faults)
+
+
+class OnSmallArm:
+    """A test that runs on 32-bit ARM too, in front of the class of its tests."""
+
+    processor = SMALL_ARM
+
+    def case(self, name, faults):
+        super().case(f"{name}, on 32-bit ARM", faults)
