@@ -18,7 +18,8 @@ from support.program import CaseTest, short
 
 SCENARIOS = f"{ROOT}/tests/scenarios.c"
 STRICT = ["-std=c11", "-Wall", "-Wextra", "-Werror"]
-COPIES = ["include/bootswap.h", "include/bootswap_names.h", "include/bootswap_simulate.h", "bindings/c/driver.c", "bindings/c/driver.h"]
+COPIES = [f"include/{name}.h" for name in ("bootswap", "bootswap_names", "bootswap_simulate")]
+COPIES += ["bindings/c/driver.c", "bindings/c/driver.h"]
 
 # How many scenarios are played: on this processor and 32-bit ARM, and on a bare machine.
 SEEDS, BARE_SEEDS = 300, 30
@@ -50,8 +51,8 @@ class CLibraryTest(CaseTest):
         wanted = self.wanted(seeds)
         if not faults and printed != wanted:
             lines = printed.splitlines(), wanted.splitlines()
-            faults = [next((f"line {i + 1}: {one}, and not {other}" for i, (one, other) in enumerate(zip(*lines)) if one != other),
-                           f"{len(lines[0])} lines, and not {len(lines[1])}")]
+            other = [f"line {i + 1}: {one}, and not {other}" for i, (one, other) in enumerate(zip(*lines)) if one != other]
+            faults = [*other, f"{len(lines[0])} lines, and not {len(lines[1])}"][:1]
         self.case(f"{seeds} scenarios, {name}", faults)
 
     def test_scenarios(self):
@@ -74,7 +75,7 @@ class CLibraryTest(CaseTest):
     @needs_small_arm
     def test_small_arm(self):
         program, printed = f"{self.folder}/arm", b""
-        faults = SMALL_ARM.compiled([*STRICT, "-O1", "-I", f"{self.folder}/c", SCENARIOS, self.file, "-o", program])
+        faults = SMALL_ARM.compiled([*STRICT, "-O1", "-I", f"{self.folder}/c", SCENARIOS, SMALL_ARM.archive(), "-o", program])
         if not faults:
             faults, printed = SMALL_ARM.ran(program, "0", str(SEEDS - 1))
         self.compare("32-bit ARM", faults, printed, SEEDS)

@@ -122,7 +122,7 @@ BODIES = {
     "global.get; local.get 0; i64.sub; global.set": "the ends of the frame",
     "local.get 0; global.set": "the ends of the frame",
     "global.get; i64.const -16; i64.and; local.tee 1; global.set": "the ends of the frame",
-    "global.get; i64.const 32; i64.sub; local.tee 1; global.set; global.get; i64.const 48; i64.sub; global.set": "an unusual prologue",
+    "global.get; i64.const 32; i64.sub; global.set; global.get; i64.const 48; i64.sub; global.set": "an unusual prologue",
     "global.get; i64.const 32; i64.sub; local.tee 1; i64.const 33; i64.add; drop": "an address 1 bytes from the end",
     "global.get; i64.const 70000; i64.lt_s; drop": "a comparison of the frame with 70000",
     "global.get; local.tee 1; i64.load 8 0; drop": "a function that has no frame",
@@ -164,7 +164,8 @@ class RefusedTest(CaseTest):
                 self.refused(kind, "the import env.other", extra_imports=text("env") + text("other") + more, extra_import_count=1)
         body = Function("bootswap_0", [64], None, "call other")
         self.refused("a call of an imported function", "the imported function other", body, imports={"other": None})
-        self.refused("32-bit addresses", "32-bit addresses", extra_imports=text("env") + text("m") + b"\x02\0\x01", extra_import_count=1)
+        self.refused("32-bit addresses", "32-bit addresses", extra_imports=text("env") + text("m") + b"\x02\0\x01",
+                     extra_import_count=1)
 
     def test_sections(self):
         for kind in (4, 5, 6, 8, 9, 13):
@@ -177,7 +178,8 @@ class RefusedTest(CaseTest):
                 other = Function("bootswap_0", [64], None, "i64.const 0; i64.load 8 @numbers; drop") if kind == "access" else body
                 inner = [*data, Data("place", bytes(8), {0: ("numbers", 0)})]
                 self.refused(f"{kind} of kind {number}", "relocation", other, data=inner, relocation_kinds={kind: number})
-        self.refused("a relocation of another operand", "a relocation of kind 0", body, data=data, relocation_kinds={"constant": 0})
+        self.refused("a relocation of another operand", "a relocation of kind 0", body, data=data,
+                     relocation_kinds={"constant": 0})
 
     def test_data(self):
         used = Function("bootswap_0", [64], None, "i64.const @it; i64.load 8 0; drop")

@@ -17,7 +17,8 @@ from commits import DIGITS, commit_here
 HEADERS = ("bootswap.h", "bootswap_simulate.h")
 
 # What else is in the folder.
-COPIES = ("include/bootswap.h", "include/bootswap_names.h", "include/bootswap_simulate.h", "bindings/c/driver.c", "bindings/c/driver.h")
+COPIES = ("include/bootswap.h", "include/bootswap_names.h", "include/bootswap_simulate.h")
+COPIES += ("bindings/c/driver.c", "bindings/c/driver.h")
 
 ABOUT = """bootswap {version}{commit}: the library of bootswap.h and bootswap_simulate.h as one file of C.
 

@@ -8,11 +8,11 @@ kinds of frames are that, if a stack is large enough. So addresses in frames are
 minus a number (a FRAME of widths.py), and whatever can't be followed is refused: a frame whose size isn't constant, an address
 outside of it, and another number in the global.
 
-A frame of the module is aligned to 16 bytes, and one in C to 8, as the stack of 32-bit ARM is: it takes less code and less stack
-than 16. No access of the subset needs more. But LLVM may add a number by `|` where it knows that the address has none of its bits.
+A frame of the module is aligned to 16 bytes, and one in C to 8, as the stack of 32-bit ARM is: that takes less code and less
+stack. No access of the subset needs more. But LLVM may add a number by `|` where it knows that the address has none of its bits.
 It knows the lowest four bits of an address in a frame at most. The others depend on where the stack lies, and nothing that the
-module computes does. So `|` of such an address is a sum in C. Of any other address it is refused, unless it is of the lowest three
-bits, which are as in the module.
+module computes does. So `|` of such an address is a sum in C. Of any other address it is refused, unless it is of the lowest
+three bits, which are as in the module.
 
 The module checks for each function that its stack has room, and traps otherwise: it compares an address of the frame with a
 small number. C's compiler decides where its stack lies and what happens when it is full. So these comparisons have the result

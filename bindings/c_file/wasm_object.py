@@ -296,4 +296,5 @@ def ignore(made, reader):
     """The number of segments, which the section of data has too."""
 
 
-SECTIONS = {0: read_custom, 1: read_types, 2: read_imports, 3: read_functions, 7: read_exports, 10: read_code, 11: read_data, 12: ignore}
+SECTIONS = {0: read_custom, 1: read_types, 2: read_imports, 3: read_functions, 7: read_exports}
+SECTIONS.update({10: read_code, 11: read_data, 12: ignore})

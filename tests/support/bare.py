@@ -30,7 +30,8 @@ class Machine:
     def compiled(self, words, program):
         """Compiles a program with the machine's start and the functions of C. Returns what is wrong."""
         files = [f"{BARE}/{self.start}.c", f"{BARE}/memory.c", "-T", f"{BARE}/{self.start}.ld"]
-        return ran([f"{self.prefix}gcc", *self.flags, *FREESTANDING, *self.includes(), *files, *words, self.helpers(), "-o", program])[0]
+        return ran([f"{self.prefix}gcc", *self.flags, *FREESTANDING, *self.includes(), *files, *words, self.helpers(), "-o",
+                    program])[0]
 
     def includes(self):
         """Returns where the compiler's own headers are, and no others: a compiler for RISC-V may come without a library."""

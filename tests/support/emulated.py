@@ -124,7 +124,7 @@ class Emulated(Library):
 
     @staticmethod
     def word_of(argument):
-        """Returns an argument as the word that holds it. A type of C that is shorter leaves the other bits open: they are ones."""
+        """Returns an argument as the word that holds it. A shorter type of C leaves the other bits open: they are ones."""
         address = address_of(argument)
         return address if address is not None else argument.value | WORD & WORD << 8 * ctypes.sizeof(argument)
 
@@ -171,7 +171,8 @@ class EmulatedSmall(Emulated):
         return driver, type("Device", (SmallStructure,), {"_fields_": fields})
 
     def driver_of(self, flash):
-        made = self.new(self.driver, *(self.functions[f"called_{name}"] for name in ("read", "program", "erase")), next(self.contexts))
+        made = self.new(self.driver, *(self.functions[f"called_{name}"] for name in ("read", "program", "erase")),
+                        next(self.contexts))
         made.flash = flash
         self.flashes[made.context] = flash
         return made

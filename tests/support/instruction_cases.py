@@ -133,7 +133,8 @@ def arithmetic():
                 body = f"local.get 0; i{width}.const {number}; i{width}.{name}"
                 inputs = [(it,) for it in values_of(one) if is_defined(name, it, number % 2**width, width)]
                 yield Case(
-                    f"i{width}.{name} of {one}, {number}", [one], result, body, with_constant(meaning, number % 2**width, width), inputs
+                    f"i{width}.{name} of {one}, {number}", [one], result, body, with_constant(meaning, number % 2**width,
+                                                                                              width), inputs
                 )
 
 
@@ -150,8 +151,10 @@ def unary():
         for (name, meaning), kind in itertools.product(UNARY.items(), kinds):
             if width == 64 or name != "extend32_s":
                 result = 32 if name == "eqz" else width
-                inputs = [(it,) for it in values_of(kind)] + [(it % 2**width,) for it in (0x7F, 0x80, 0xFF, 0x7FFF, 0x8000, 0xFFFF)]
-                yield Case(f"i{width}.{name} of {kind}", [kind], result, f"local.get 0; i{width}.{name}", with_width(meaning, width), inputs)
+                inputs = [(it,) for it in values_of(kind)] + [(it % 2**width,) for it in (0x7F, 0x80, 0xFF, 0x7FFF, 0x8000,
+                                                                                          0xFFFF)]
+                yield Case(f"i{width}.{name} of {kind}", [kind], result, f"local.get 0; i{width}.{name}",
+                           with_width(meaning, width), inputs)
     for name, kind, result, meaning in (
         ("i32.wrap_i64", "wide", 32, lambda a: a),
         ("i32.wrap_i64", "number", 32, lambda a: a),
@@ -262,7 +265,8 @@ def ranges():
     """memory.copy and memory.fill. Ranges that overlap are copied as if through other memory."""
     places = "local.get 0; local.get 1; i64.add; local.get 0; local.get 2; i64.add"
     inputs = [(0, 8, 30), (8, 0, 30), (0, 40, 0), (3, 4, 40), (4, 3, 40), (0, 0, 64), (1, 0, 63), (0, 1, 63)]
-    yield Case("memory.copy", ["memory", "number", "number", "number"], None, f"{places}; local.get 3; memory.copy", moved, inputs)
+    yield Case("memory.copy", ["memory", "number", "number", "number"], None, f"{places}; local.get 3; memory.copy", moved,
+               inputs)
     for length in (1, 8, 33):
         body = f"{places}; i64.const {length}; memory.copy"
         meaning = lambda memory, to, start, length=length: moved(memory, to, start, length)

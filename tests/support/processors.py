@@ -1,5 +1,5 @@
-"""The processors on which the library is tested: this one, 64-bit ARM as `qemu-aarch64` runs it, and 32-bit ARM with the library as
-one file of C."""
+"""The processors on which the library is tested: this one, 64-bit ARM as `qemu-aarch64` runs it, and 32-bit ARM with the library
+as one file of C."""
 
 import atexit
 import functools
@@ -47,7 +47,7 @@ ARM = Processor(ARM_TARGET, ("aarch64-linux-gnu-gcc", "-static"), "aarch64-linux
 
 @dataclass(frozen=True)
 class SmallProcessor(Processor):
-    """A processor of 32 bits. The toolchain has no target for it: its library is the file of C that `bindings/build --c` makes."""
+    """A processor of 32 bits. The toolchain has no target for it: its library is the file of C of `bindings/build --c`."""
 
     def archive(self):
         return library_of_c(self)
@@ -65,7 +65,9 @@ def library_of_c(processor):
     return f"{folder}/bootswap.o"
 
 
-SMALL_ARM = SmallProcessor("arm-linux-gnueabihf", ("arm-linux-gnueabihf-gcc", "-static", "-marm"), "arm-linux-gnueabihf-nm", ("qemu-arm",))
+# Addresses of functions of Thumb have another lowest bit than their symbols, so it isn't Thumb.
+SMALL_COMPILER = ("arm-linux-gnueabihf-gcc", "-static", "-marm")
+SMALL_ARM = SmallProcessor("arm-linux-gnueabihf", SMALL_COMPILER, "arm-linux-gnueabihf-nm", ("qemu-arm",))
 
 needs_arm = unittest.skipIf(ARM.missing(), f"not installed: {ARM.missing()}")
 needs_small_arm = unittest.skipIf(SMALL_ARM.missing(), f"not installed: {SMALL_ARM.missing()}")

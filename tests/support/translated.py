@@ -85,7 +85,8 @@ def program_of(cases):
     """Returns a program in C that calls the functions of the cases."""
     parts, calls = [C_HEAD % ", ".join(map(str, PATTERN))], []
     for i, it in enumerate(cases):
-        reads = "".join(f"        {C_TYPES[kind]} a{k} = ({C_TYPES[kind]})in();\n" for k, kind in enumerate(it.params) if kind != "memory")
+        reads = "".join(f"        {C_TYPES[kind]} a{k} = ({C_TYPES[kind]})in();\n" for k,
+                        kind in enumerate(it.params) if kind != "memory")
         words = ", ".join("memory" if kind == "memory" else f"a{k}" for k, kind in enumerate(it.params))
         call = f"bootswap_{i}({words})"
         shown = f"        out({call});\n" if it.result else f"        {call};\n        out(0);\n"

@@ -198,20 +198,23 @@ class Assembler:
             for at, (name, addend) in it.addresses.items():
                 contents[at : at + 8] = (self.address_of(name) + addend).to_bytes(8, "little")
             out += b"\0\x42" + signed(self.places[it.name]) + b"\x0b" + unsigned(len(contents))
-            found += [(len(out) + at, self.kinds["data"], self.symbol_of(name), addend) for at, (name, addend) in it.addresses.items()]
+            found += [(len(out) + at, self.kinds["data"], self.symbol_of(name), addend) for at,
+                      (name, addend) in it.addresses.items()]
             out += contents
         return bytes(out), found
 
     def object(self, extra_imports=b"", extra_import_count=0, extra_section=b""):
         """Returns the bytes of a relocatable object."""
-        imports = [text("env") + text("__linear_memory") + b"\x02\x04\x01", text("env") + text("__stack_pointer") + b"\x03\x7e\x01"]
+        imports = [text("env") + text("__linear_memory") + b"\x02\x04\x01",
+                   text("env") + text("__stack_pointer") + b"\x03\x7e\x01"]
         imports += [text("env") + text(name) + b"\0" + unsigned(i) for i, (name, _) in enumerate(self.imports)]
         code, in_code = self.code()
         data, in_data = self.segments()
         out = b"\0asm\1\0\0\0" + section(1, rows(self.types()))
         out += section(2, unsigned(len(imports) + extra_import_count) + b"".join(imports) + extra_imports)
         out += section(3, rows([unsigned(len(self.imports) + i) for i in range(len(self.functions))]))
-        out += section(7, rows(self.exports())) + extra_section + section(10, code) + section(11, data) + section(0, self.linking())
+        out += section(7, rows(self.exports())) + extra_section + section(10, code) + section(11, data) + section(0,
+                                                                                                                  self.linking())
         for number, (name, found) in enumerate((("reloc.CODE", in_code), ("reloc.DATA", in_data))):
             with_addend = (self.kinds["access"], self.kinds["constant"], self.kinds["data"])
             words = [
