@@ -129,6 +129,8 @@ BODIES = {
     "global.get; i64.const 32; i64.sub; local.tee 1; local.get 0; i64.or; drop": "`|` of an address",
     "global.get; i64.const 32; i64.sub; local.tee 1; i64.const 40; i64.xor; drop": "`^` of an address",
     "global.get; i64.const 32; i64.sub; local.tee 1; i64.const 24; i64.or; drop": "`|` of an address",
+    "global.get; i64.const 32; i64.sub; local.set 1; i64.const 0; local.get 1; i64.sub; local.get 1; i64.add; drop":
+        "the distance of two addresses",
     "local.get 0; br 7": "more blocks than there are",
     "i64.add": "without its operands",
     "i32.const 5; i32.load 4 0; drop": "an address of 32 bits",

@@ -8,8 +8,9 @@ If the result of operands of 64 bits is narrow (widths.py), it is computed in `u
 right then: it is below 2^32, or an address.
 """
 
+from c_file.errors import NotTranslated
 from c_file.values import SIGNED, UNSIGNED, Value, constant, known, number_below, wide, word
-from c_file.widths import ADDRESS, NUMBER, SMALL, UNSEEN, WIDE, joined
+from c_file.widths import ADDRESS, APART, NUMBER, SMALL, UNSEEN, WIDE, joined
 
 
 def binary(operator, width, one, other):
@@ -19,7 +20,7 @@ def binary(operator, width, one, other):
     fact = known_of_binary(operator, one, other)
     if fact.is_narrow:
         return known(f"({one.low()} {operator} {other.low()})", fact, one, other)
-    return wide(f"({in_64_bits(one)} {operator} {in_64_bits(other)})", one, other)
+    return known(f"({in_64_bits(one)} {operator} {in_64_bits(other)})", fact, one, other)
 
 
 def in_64_bits(value):
@@ -30,23 +31,30 @@ def in_64_bits(value):
 def known_of_binary(operator, one, other):
     """What is known of the result for 64 bits.
 
-    An address plus or minus a number is an address, and a sum of two addresses or the difference of two is any number. `&` has
-    no bit that a narrow operand lacks; with a constant of more bits it rounds an address down. `|` and `^` of narrow values
-    have no bit from 32 on. `|` sets low bits of an address that has zeros there, as `+` would.
+    `&` has no bit that a narrow operand lacks; with a constant of more bits it rounds an address down. `|` and `^` of narrow
+    values have no bit from 32 on. `|` sets low bits of an address that has zeros there, as `+` would.
     """
     if UNSEEN in (one.fact, other.fact):
         return UNSEEN
     addresses = one.fact.is_address + other.fact.is_address
-    if operator == "+":
-        return ADDRESS if addresses == 1 else WIDE
-    if operator == "-":
-        return ADDRESS if one.fact.is_address and not other.fact.is_address else WIDE
+    if operator in "+-":
+        return known_of_sum(operator, one.fact, other.fact)
     if operator == "&" and (one.is_narrow or other.is_narrow):
         is_rounded = addresses == 1 and any(it.number is not None and not it.is_narrow for it in (one, other))
         return ADDRESS if is_rounded else NUMBER
     if operator in "|^" and one.is_narrow and other.is_narrow:
         return ADDRESS if operator == "|" and addresses else NUMBER
     return WIDE
+
+
+def known_of_sum(operator, one, other):
+    """What is known of a sum or a difference: an address plus or minus a number is an address."""
+    is_apart = APART in (one, other)
+    if is_apart and (one.is_address or other.is_address):
+        raise NotTranslated(f"`{operator}` of an address, and a number that was made of the distance of two addresses")
+    if is_apart or other.is_address and (operator == "-" or one.is_address):
+        return APART
+    return ADDRESS if one.is_address or other.is_address else WIDE
 
 
 def division(operator, width, one, other):

@@ -8,13 +8,14 @@ import re
 from dataclasses import dataclass
 
 from c_file.errors import NotTranslated
-from c_file.widths import ADDRESS, NUMBER
+from c_file.widths import ADDRESS, NUMBER, WIDE
 
 COMMENT = re.compile(r"/\*.*?\*/", re.DOTALL)
 PROTOTYPE = re.compile(r"^(\w+) (bootswap_\w+)\(([^()]*)\);", re.DOTALL | re.MULTILINE)
 
-# The widths of types of C that are no pointers, in the module.
+# The widths of types of C that are no pointers, in the module, and what is known of those of 64 bits.
 WIDTHS = {"size_t": 64, "uint64_t": 64, "uint32_t": 32, "uint16_t": 32, "uint8_t": 32}
+KNOWN = {"pointer": ADDRESS, "size_t": NUMBER, "uint64_t": WIDE}
 RESULTS = {"void": None, "uint32_t": 32, "uint64_t": 64}
 
 
@@ -77,9 +78,7 @@ def note_parameters(program, found, facts):
     for it in found:
         for i, param in enumerate(it.params):
             if param.width == 64:
-                wide = param.kind == "uint64_t"
-                fact = ADDRESS if param.kind == "pointer" else NUMBER
-                facts.note(program.object.exports[it.name], i, fact if not wide else program.wide)
+                facts.note(program.object.exports[it.name], i, KNOWN[param.kind])
 
 
 def definition(program, it, facts):

@@ -18,7 +18,7 @@ from c_file.frames import size_of_frame
 from c_file.instructions import Decoder
 from c_file.locals import Variables, divided
 from c_file.wasm_object import read_object
-from c_file.widths import WIDE, Facts
+from c_file.widths import Facts
 
 PRELUDE = f"{os.path.dirname(os.path.realpath(__file__))}/prelude.h"
 
@@ -41,8 +41,6 @@ class Code:
 
 class Program:
     """An object whose functions are translated."""
-
-    wide = WIDE
 
     def __init__(self, made):
         self.object, self.data, self.codes = made, Data(made), {}

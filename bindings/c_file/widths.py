@@ -12,9 +12,11 @@ ADDRESS  an address of the machine: a pointer that C passes, the address of data
          where the number leads into an object. Before that sums and differences may wrap, and wrap alike in 32 and in 64 bits.
 FRAME    an ADDRESS whose place in the function's own frame is known, see frames.py.
 WIDE     any number: it is kept in `uint64_t`.
+APART    as WIDE, and the distance of two addresses is in it: an address was subtracted, or two were added. It is exact, and may be
+         below 0. With an address added to it, nothing would say whether the sum is an address. So that is refused. A distance
+         that was stored in memory isn't followed.
 
-A sum of two numbers, a difference, a product or a number shifted left may not fit 32 bits. So these are WIDE. So is the
-difference of two addresses, which may be below 0.
+A sum of two numbers, a difference, a product or a number shifted left may not fit 32 bits. So these are WIDE.
 
 On a processor of 64 bits `uintptr_t` holds every value, and nothing is cut off.
 """
@@ -26,7 +28,7 @@ from dataclasses import dataclass
 class Kind(enum.Enum):
     """What is known of a value of 64 bits. UNSEEN is a variable that no instruction was seen to write yet."""
 
-    UNSEEN, SMALL, FRAME, ADDRESS, NUMBER, WIDE = range(6)
+    UNSEEN, SMALL, FRAME, ADDRESS, NUMBER, WIDE, APART = range(7)
 
 
 @dataclass(frozen=True)
@@ -39,14 +41,15 @@ class Fact:
 
     @property
     def is_narrow(self):
-        return self.kind is not Kind.WIDE
+        return self.kind not in (Kind.WIDE, Kind.APART)
 
     @property
     def is_address(self):
         return self.kind in (Kind.ADDRESS, Kind.FRAME)
 
 
-UNSEEN, SMALL, ADDRESS, NUMBER, WIDE = map(Fact, (Kind.UNSEEN, Kind.SMALL, Kind.ADDRESS, Kind.NUMBER, Kind.WIDE))
+UNSEEN, SMALL, ADDRESS, NUMBER = map(Fact, (Kind.UNSEEN, Kind.SMALL, Kind.ADDRESS, Kind.NUMBER))
+WIDE, APART = map(Fact, (Kind.WIDE, Kind.APART))
 
 
 def joined(one, other):
@@ -61,7 +64,7 @@ def joined(one, other):
     for it, second in ((one, other), (other, one)):
         if it == SMALL and second.is_narrow:
             return ADDRESS if second.is_address else second
-    return WIDE
+    return APART if APART in (one, other) else WIDE
 
 
 class Facts:
