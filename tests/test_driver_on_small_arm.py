@@ -1,7 +1,7 @@
 """A driver in C on 32-bit ARM.
 
 Tests of test_driver.py: driver.c and the library as one file of C run in `qemu-arm`, the tests and their drivers on this
-processor. A device in C runs in `qemu-arm` as a whole, and its process is killed 30 times.
+processor. A device in C runs in `qemu-arm` as a whole, and its process is killed 15 times.
 """
 
 import test_driver
@@ -44,4 +44,4 @@ class SmallArmMalformedTest(Driven, test_driver.MalformedTest):
 
 @needs_small_arm
 class SmallArmFileDeviceTest(OnSmallArm, test_file_device.FileDeviceTest):
-    most_kills = 30
+    most_kills = 15

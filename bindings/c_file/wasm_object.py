@@ -26,6 +26,9 @@ UNDEFINED, EXPLICIT_NAME = 0x10, 0x40
 
 STACK_POINTER = "__stack_pointer"
 
+# The limits of a memory with 64-bit addresses, without a largest size.
+MEMORY_OF_64_BITS = 4
+
 
 @dataclass(frozen=True)
 class Type:
@@ -175,8 +178,8 @@ def read_imports(made, reader):
             made.imports.append(name)
             made.functions.append(reader.unsigned())
         elif kind == IMPORTED_MEMORY:
-            if not reader.byte() & 4:
-                raise NotTranslated("a memory with 32-bit addresses: only objects for wasm64 are taken")
+            if reader.byte() != MEMORY_OF_64_BITS:
+                raise NotTranslated("a memory with 32-bit addresses, a limit or threads: only objects for wasm64 are taken")
             reader.unsigned()
         elif kind == IMPORTED_GLOBAL and name == STACK_POINTER:
             reader.take(2)
