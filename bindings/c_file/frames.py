@@ -17,6 +17,10 @@ three bits, which are as in the module.
 The module checks for each function that its stack has room, and traps otherwise: it compares an address of the frame with a
 small number. C's compiler decides where its stack lies and what happens when it is full. So these comparisons have the result
 that they have in a stack that is large enough. How much stack a processor needs has to be measured.
+
+A function with a frame isn't inlined in C. A compiler that inlines may join the frames of functions that run after each other:
+then the stack needs their sum. gcc 12 with -Os joins none that matter here. Inlined, a boot on a Cortex-M4 takes 13,472 bytes of
+stack and not 13,520, and 64 bytes more code. Other compilers and options may join more.
 """
 
 from c_file.errors import NotTranslated
