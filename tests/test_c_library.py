@@ -22,7 +22,7 @@ COPIES = [f"include/{name}.h" for name in ("bootswap", "bootswap_names", "bootsw
 COPIES += ["bindings/c/driver.c", "bindings/c/driver.h"]
 
 # How many scenarios are played: on this processor and 32-bit ARM, and on a bare machine.
-SEEDS, BARE_SEEDS = 300, 30
+SEEDS, BARE_SEEDS = 300, 20
 
 
 @needs_compiler
