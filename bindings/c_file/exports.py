@@ -1,7 +1,8 @@
 """The exports: functions of C as the headers declare them.
 
 A parameter of C becomes that of the module: a pointer and a `size_t` a number of 64 bits, the others one of 32 bits. A pointer
-is an address, and a `size_t` a number that is below 2^32 on a processor of 32 bits (widths.py).
+is an address, and a `size_t` a number that is below 2^32 on a processor of 32 bits (widths.py). Of a shorter type the lowest
+bits of its register count, whatever the others are, as in the libraries for 64 bits.
 """
 
 import re
@@ -18,6 +19,9 @@ WIDTHS = {"size_t": 64, "uint64_t": 64, "uint32_t": 32, "uint16_t": 32, "uint8_t
 KNOWN = {"pointer": ADDRESS, "size_t": NUMBER, "uint64_t": WIDE}
 RESULTS = {"void": None, "uint32_t": 32, "uint64_t": 64}
 
+# Types that are shorter than a register, with their bits.
+SHORT = {"uint16_t": 0xFFFF, "uint8_t": 0xFF}
+
 
 @dataclass(frozen=True)
 class Parameter:
@@ -33,6 +37,8 @@ class Parameter:
 
     def given(self, fact):
         """Returns the parameter as the module gets it."""
+        if self.kind in SHORT:
+            return f"w_low({self.name}, {SHORT[self.kind]:#x})"
         if self.width == 32:
             return f"(uint32_t){self.name}"
         return f"({'uintptr_t' if fact.is_narrow else 'uint64_t'}){self.name}"

@@ -12,6 +12,7 @@
  *   BOOTSWAP_NOINLINE       of a function: it isn't inlined, so that frames of calls after each other share the stack
  *   BOOTSWAP_UNUSED         of a function: it may be unused, without a warning
  *   BOOTSWAP_UNREACHABLE()  never returns. The proved library never reaches it.
+ *   BOOTSWAP_HIDE(x)        of a variable: the compiler knows nothing of its value any more
  *   BOOTSWAP_ZEROS_BELOW(x), BOOTSWAP_ZEROS_ABOVE(x), BOOTSWAP_ONES(x): of a uint64_t, the first two not of 0
  */
 #include <stddef.h>
@@ -40,6 +41,7 @@ _Static_assert(sizeof(int) == 4, "int has 32 bits");
 #ifndef BOOTSWAP_UNREACHABLE
 #define BOOTSWAP_UNREACHABLE() __builtin_trap()
 #endif
+#define BOOTSWAP_HIDE(x) __asm__("" : "+r"(x))
 #define BOOTSWAP_ZEROS_BELOW(x) __builtin_ctzll(x)
 #define BOOTSWAP_ZEROS_ABOVE(x) __builtin_clzll(x)
 #define BOOTSWAP_ONES(x) __builtin_popcountll(x)
@@ -83,6 +85,13 @@ BOOTSWAP_UNUSED static inline void w_copy(uintptr_t to, uintptr_t from, uintptr_
 }
 BOOTSWAP_UNUSED static inline void w_fill(uintptr_t to, uint32_t byte, uintptr_t length) {
     if (length != 0) memset((void *)to, (int)(byte & 0xff), (size_t)length);
+}
+
+/* A parameter that is shorter than its register. A caller that isn't made by a C compiler may leave the other bits there. C's
+ * compiler takes them for 0, so it may not see that the number was the parameter. */
+BOOTSWAP_UNUSED static inline uint32_t w_low(uint32_t a, uint32_t bits) {
+    BOOTSWAP_HIDE(a);
+    return a & bits;
 }
 
 /* Rotations, by any amount. */
