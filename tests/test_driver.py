@@ -10,7 +10,7 @@ import os
 import re
 import shutil
 import tempfile
-from ctypes import POINTER, byref, c_char, c_size_t, c_uint8, c_uint32
+from ctypes import POINTER, byref, c_size_t, c_uint8, c_uint32, c_uint64
 
 from support.builders import image, version
 from support.compiled import needs_compiler

@@ -59,7 +59,7 @@ def library_of_c(processor):
     folder = tempfile.mkdtemp(prefix="bootswap-small-")
     atexit.register(shutil.rmtree, folder, ignore_errors=True)
     c_folder(folder)
-    faults = processor.compiled(["-O1", "-c", f"{folder}/bootswap.c", "-o", f"{folder}/bootswap.o"])
+    faults = processor.compiled(["-Os", "-c", f"{folder}/bootswap.c", "-o", f"{folder}/bootswap.o"])
     if faults:
         raise AssertionError(f"bootswap.c compiles: {faults[0]}")
     return f"{folder}/bootswap.o"
