@@ -7,13 +7,14 @@ import re
 import shutil
 import subprocess
 import sys
+import tempfile
 import time
 import unittest
 
 from support.built_clone import LIBRARIES, BuiltCloneTest
 from support.compiled import needs_compiler
 from support.files import ROOT, read
-from support.libraries import ARM_TARGET, archive_for, manifest_archive_for, ran
+from support.libraries import ARM_TARGET, archive_for, c_folder, manifest_archive_for, ran
 from support.program import short
 
 from commits import write_commit
@@ -32,7 +33,11 @@ DEBIAN = (
     *(f"{it}_{version()}_amd64.deb" for it in ("bootswap", "libbootswap-dev", "python3-bootswap")),
     f"bootswap-doc_{version()}_all.deb",
 )
-ARCHIVES = (f"bootswap-{version()}-x86_64-linux.tar.xz", f"libbootswap-{version()}-aarch64-linux.tar.xz")
+ARCHIVES = (
+    f"bootswap-{version()}-x86_64-linux.tar.xz",
+    f"libbootswap-{version()}-aarch64-linux.tar.xz",
+    f"bootswap-{version()}-c.tar.xz",
+)
 
 # Some files of each package, the others being examples and documents.
 FILES = {
@@ -165,9 +170,13 @@ class PackedTest(BuiltCloneTest):
     def setUpClass(cls):
         super().setUpClass()
         cls.arm = archive_for(ARM_TARGET), manifest_archive_for(ARM_TARGET)
+        cls.c = tempfile.mkdtemp(prefix="bootswap-package-")
+        cls.addClassCleanup(shutil.rmtree, cls.c, ignore_errors=True)
+        c_folder(cls.c)
 
     def setUp(self):
         super().setUp()
+        shutil.copytree(self.c, f"{self.clone}/out/c")
         os.mkdir(f"{self.clone}/out/{ARM_TARGET}")
         for archive, name in zip(self.arm, LIBRARIES):
             shutil.copy(archive, f"{self.clone}/out/{ARM_TARGET}/{name}")
@@ -255,10 +264,15 @@ class PackageTest(PackedTest):
         for name in ARCHIVES:
             faults, _ = ran(["tar", "--extract", "--file", f"{self.made}/{name}"], cwd=self.folder)
             self.case(f"{name} is unpacked", faults)
-        here, arm = (f"{self.folder}/{it.removesuffix('.tar.xz')}" for it in ARCHIVES)
+        here, arm, c = (f"{self.folder}/{it.removesuffix('.tar.xz')}" for it in ARCHIVES)
         self.printed_by("the program runs", [f"{here}/bin/bootswap", "--version"], VERSION.encode())
         self.case("the library for ARM", [] if read(f"{arm}/lib/libbootswap.a") == read(self.arm[0]) else ["it differs"])
         self.case("its header", [] if os.path.exists(f"{arm}/include/bootswap.h") else ["there is none"])
+        first = read(f"{c}/bootswap.c").decode().splitlines()[1]
+        self.case("the file of C names the commit", [first] * (f" {version()}, commit {COMMIT[:12]}: " not in first))
+        words = ["-std=c11", "-Wall", "-Wextra", "-Werror", "-c", f"{c}/bootswap.c", f"{c}/driver.c"]
+        faults, _ = ran(["cc", *words], cwd=self.folder)
+        self.case("the file of C and the driver compile", faults)
 
     def test_hardened(self):
         """What the C compiler makes of the shared library checks the stack and the lengths of copies, and has no table of
@@ -308,19 +322,21 @@ class PackageTest(PackedTest):
         said = b"package: commit the changes first, or name the commit of the sources in SOURCE_COMMIT\n"
         self.expect_tool("without a commit", "package", status=1, said=said, env=self.environment)
 
-    def test_without_arm(self):
-        """If the library for ARM isn't built, its archive is left out, and so is one that was made before."""
+    def test_without_small_processors(self):
+        """If the library for ARM or the file of C isn't built, its archive is left out, and so is one that was made before."""
         self.package()
         os.remove(f"{self.clone}/out/{ARM_TARGET}/libbootswap.a")
+        os.remove(f"{self.clone}/out/c/bootswap.c")
         status, said = self.run_tool("package", env=self.environment)
         lines = [f"out/packages/{it}" for it in (*DEBIAN, ARCHIVES[0], "SHA256SUMS")]
         lines.append(f"package: {ARCHIVES[1]} is left out: out/{ARM_TARGET}/libbootswap.a isn't built: "
                      f"run bindings/build --target {ARM_TARGET}")
+        lines.append(f"package: {ARCHIVES[2]} is left out: out/c/bootswap.c isn't built: run bindings/build --c")
         self.case("it says so", [said.decode()] * (status != 0 or sorted(said.decode().splitlines()) != sorted(lines)))
         faults, output = ran(["sha256sum", "--check", "--strict", "SHA256SUMS"], cwd=self.made)
         faults += [output.decode()] * (len(output.splitlines()) != len(DEBIAN) + 1)
         self.case("the checksums", faults)
-        self.case("no older archive", [ARCHIVES[1]] * os.path.exists(f"{self.made}/{ARCHIVES[1]}"))
+        self.case("no older archive", [it for it in ARCHIVES[1:] if os.path.exists(f"{self.made}/{it}")])
 
     def test_nothing_to_try(self):
         """Without packages nothing is tried, and no system is made."""

@@ -51,6 +51,11 @@ def about():
     return ABOUT.format(version=version, commit=of_commit).splitlines()
 
 
+def named(text, commit):
+    """Returns the text of the file with this commit in its first line, whatever commit it named."""
+    return re.sub(r"\A(/\*\n \* bootswap [^ ,:]+)[^:]*:", rf"\1, commit {commit[:DIGITS]}:", text)
+
+
 def translation_of(archive):
     """Returns the text of the file for a static library for wasm64."""
     with open(archive, "rb") as it:
