@@ -35,8 +35,8 @@
  * recorded. The device isn't booted then, and the next boot continues, as after a loss of power. A call with a journal
  * returns BOOTSWAP_CUT for no other reason.
  *
- * The library calls memcpy, memmove and memset. It uses the processor's vector registers and unaligned accesses, which
- * a bare machine has to allow.
+ * The library calls memcpy, memmove and memset. The archives for x86-64 and 64-bit ARM use vector registers and
+ * unaligned accesses, which a bare machine has to allow. The library as one file of C uses neither.
  */
 #ifndef BOOTSWAP_H
 #define BOOTSWAP_H
