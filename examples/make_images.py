@@ -28,14 +28,15 @@ def asked(other, least):
     return bytes([other, 0, 0, 0]) + least
 
 
-def image(own, counter=None, needs=(), groups=(), body=BODY):
+def image(own, counter=None, needs=(), groups=(), body=BODY, header_size=32):
     """An image of this version, with this security counter, that needs each image at a version, and one of each group."""
     entries = [] if counter is None else [(0x50, struct.pack("<I", counter))]
     entries += [(0x40, asked(*it)) for it in needs]
     entries += [(0xA0, b"".join(asked(*it) for it in group)) for group in groups]
     protected = area(0x6908, entries) if entries else b""
-    lengths = struct.pack("<HHI", 32, len(protected), len(body))
-    digested = struct.pack("<II", 0x96F3B83D, 0) + lengths + bytes(4) + own + bytes(4) + body + protected
+    lengths = struct.pack("<HHI", header_size, len(protected), len(body))
+    header = struct.pack("<II", 0x96F3B83D, 0) + lengths + bytes(4) + own
+    digested = header.ljust(header_size, b"\0") + body + protected
     return digested + area(0x6907, [(0x10, hashlib.sha256(digested).digest())])
 
 
