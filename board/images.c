@@ -1,32 +1,36 @@
 /*
- * Jumps into images. A boot left each running image at the front of its primary slot. Its header
- * has 32 bytes or more (ih_hdr_size), and its body follows. The body is the program, whose first
- * byte is its entry. It runs in place, and gets a function that writes a text.
+ * Starts images. A boot left each running image at the front of its primary slot: a header of 32
+ * bytes or more (ih_hdr_size), and the body, which is the program.
  *
  * A board of one's own has one image that never returns, as a rule. Then the jump to it is the last
  * thing that the bootloader does. The other images are data, or programs of other processors.
  */
 #include "images.h"
 
-#include "nor.h"
-#include "serial.h"
+#include "jump.h"
 
-typedef void image_program(void (*write_text)(const char *text));
-
-/* Where struct image_header has ih_hdr_size. */
+/* Where struct image_header has ih_hdr_size and ih_img_size. */
 #define HEADER_SIZE_AT 8
+#define BODY_SIZE_AT 12
 
-static void run_image(uint32_t at) {
-    const uint8_t *header = (const uint8_t *)(uintptr_t)(NOR_BASE + at);
-    uint32_t length = header[HEADER_SIZE_AT] + 256u * header[HEADER_SIZE_AT + 1];
-    image_program *program = (image_program *)(uintptr_t)(NOR_BASE + at + length);
-    program(serial_write_text);
+/* Reads a number of N bytes, the lowest first. */
+static uint32_t number_at(const uint8_t *bytes, size_t length) {
+    uint32_t number = 0;
+    while (length--) {
+        number = number << 8 | bytes[length];
+    }
+    return number;
 }
 
-void run_images(const struct bootswap_setup *setup) {
+static void run_image(const uint8_t *image) {
+    jump_to(image + number_at(image + HEADER_SIZE_AT, 2), number_at(image + BODY_SIZE_AT, 4));
+}
+
+void run_images(const struct bootswap_device *device) {
+    const struct bootswap_setup *setup = device->setup;
     uint32_t at = 0;
     for (uint32_t image = 0; image < setup->images; image++) {
-        run_image(at);
+        run_image(device->flash + at);
         at += (setup->sectors[image] + 1) * setup->sector_size;
     }
 }

@@ -2,9 +2,9 @@
 #ifndef IMAGES_H
 #define IMAGES_H
 
-#include "bootswap.h"
+#include "driver.h"
 
-/* Calls each image of the device where it lies in its primary slot, in ascending order. */
-void run_images(const struct bootswap_setup *setup);
+/* Starts each running image of the device, in ascending order. */
+void run_images(const struct bootswap_device *device);
 
 #endif

@@ -3,10 +3,10 @@
 import json
 import uuid
 
-from parts import DEVICE, read
+from files import DEVICE, read
 
-# The events that name no file, and the number of words after each.
-PLAIN = {"finish": 1, "withdraw": 1, "confirm": 1, "boot": 0, "reset": 0}
+# The events that name no file, and the number of words after each. `stack` is the board's own.
+PLAIN = {"finish": 1, "withdraw": 1, "confirm": 1, "boot": 0, "reset": 0, "stack": 0}
 
 
 class BadScript(Exception):

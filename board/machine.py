@@ -5,7 +5,7 @@ import select
 import subprocess
 import time
 
-from parts import QEMU, firmware, make_flash
+from parts import make_flash
 
 # How many seconds an answer of the board may take.
 LIMIT = 120
@@ -17,27 +17,12 @@ class Silent(Exception):
     """The board didn't answer, or QEMU ended."""
 
 
-def words_of(bootloader, flash):
-    """Returns the command that turns the machine on.
-
-    The first pflash has the firmware, the second one is the flash of the board. QEMU writes each
-    change of it to the file before the processor continues. So it loses none if it is killed. With
-    `cache=writethrough` it would also sync each one, which counts only if the host loses its power.
-    """
-    words = [QEMU, "-M", "q35", "-cpu", "max", "-accel", "tcg", "-m", "64", "-no-reboot"]
-    words += ["-nodefaults", "-display", "none", "-serial", "stdio", "-kernel", bootloader]
-    drives = [f"readonly=on,file={firmware()}", f"cache=writeback,file={flash}"]
-    for unit, drive in enumerate(drives):
-        words += ["-drive", f"if=pflash,format=raw,unit={unit},{drive}"]
-    return words
-
-
 class Machine:
     """The board with its power on. `with` takes it away at its end."""
 
-    def __init__(self, bootloader, flash):
+    def __init__(self, platform, bootloader, flash):
         streams = {"stdin": subprocess.PIPE, "stdout": subprocess.PIPE}
-        self.process = subprocess.Popen(words_of(bootloader, flash), bufsize=0, **streams)
+        self.process = subprocess.Popen(platform.words(bootloader, flash), bufsize=0, **streams)
         self.unread = b""
 
     def __enter__(self):
@@ -84,10 +69,10 @@ class Machine:
         return self.unread.decode("ascii", "replace")
 
 
-def provision(bootloader, folder, flash):
+def provision(platform, bootloader, folder, flash):
     """Makes the file of a flash, and has the board provision it."""
-    make_flash(folder, flash)
-    with Machine(bootloader, flash) as machine:
+    make_flash(platform, folder, flash)
+    with Machine(platform, bootloader, flash) as machine:
         machine.answer()
         machine.send("provision")
         text = machine.answer()

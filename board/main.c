@@ -7,31 +7,26 @@
 #include <stdbool.h>
 
 #include "driver.h"
+#include "flash.h"
 #include "images.h"
-#include "nor.h"
 #include "replies.h"
 #include "script.h"
 #include "serial.h"
+#include "stack.h"
 
 /* Two images with slots of two sectors; trials of one boot. board/device.json says the same. */
 static const struct bootswap_setup setup = {
-    .sector_size = NOR_SECTOR, .images = 2, .sectors = {2, 2}, .trial_boots = 1};
+    .sector_size = FLASH_SECTOR, .images = 2, .sectors = {2, 2}, .trial_boots = 1};
 
 /* The longest journal is that of a boot, or of a piece. */
 #define LARGER(one, other) ((one) > (other) ? (one) : (other))
-static uint8_t journal[LARGER(BOOTSWAP_JOURNAL_BOOT(2, NOR_SECTOR),
+static uint8_t journal[LARGER(BOOTSWAP_JOURNAL_BOOT(2, FLASH_SECTOR),
                               BOOTSWAP_JOURNAL_PIECE(MOST_BYTES))];
 static char table[BOOTSWAP_MAX_TABLE_LENGTH], report[BOOTSWAP_MAX_REPORT_LENGTH];
 static struct event event;
 
 static struct bootswap_device device = {
-    .setup = &setup,
-    .driver = &nor_driver,
-    .flash = (const uint8_t *)(uintptr_t)NOR_BASE,
-    .flash_length = NOR_SECTORS * NOR_SECTOR,
-    .journal = journal,
-    .journal_capacity = sizeof journal,
-};
+    .setup = &setup, .journal = journal, .journal_capacity = sizeof journal};
 
 static uint32_t open_and(uint32_t (*call)(void)) {
     uint32_t status = bootswap_open(&device);
@@ -78,18 +73,30 @@ static bool may_run(uint32_t status) {
            (status == BOOTSWAP_BOOTED || status == BOOTSWAP_TRIAL_AGAIN);
 }
 
+/* Answers event N, and returns the number of its last reply. */
+static uint32_t answer_and_reply(uint32_t count) {
+    uint32_t status = answer();
+    if (event.kind == EVENT_BOOT && device.reverted != 0) {
+        /* The device booted twice, as two events of a script. */
+        reply_reverted(count++, device.reverted);
+    }
+    reply(count, status, &device.result, report);
+    if (may_run(status)) {
+        run_images(&device);
+    }
+    return count;
+}
+
 int main(void) {
+    stack_paint();
     serial_start();
+    flash_attach(&device);
     event.kind = EVENT_BOOT;
     for (uint32_t count = 1;; count++) {
-        uint32_t status = answer();
-        if (event.kind == EVENT_BOOT && device.reverted != 0) {
-            /* The device booted twice, as two events of a script. */
-            reply_reverted(count++, device.reverted);
-        }
-        reply(count, status, &device.result, report);
-        if (may_run(status)) {
-            run_images(&setup);
+        if (event.kind == EVENT_STACK) {
+            reply_stack(count, stack_used(), stack_size());
+        } else {
+            count = answer_and_reply(count);
         }
         script_read(&event);
         while (event.kind == EVENT_UNREADABLE) {

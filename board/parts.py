@@ -1,49 +1,21 @@
 """What the board is made of: the bootloader, the images, the manifest of the upgrade, the flash."""
 
-import glob
 import hashlib
 import json
 import os
-import shutil
 import subprocess
 import sys
 
-BOARD = os.path.dirname(os.path.realpath(__file__))
-ROOT = os.path.dirname(BOARD)
-OUT = f"{ROOT}/out/board"
-LIBRARY = f"{ROOT}/out/libbootswap.a"
-DEVICE = f"{BOARD}/device.json"
+from files import BOARD, DEVICE, ROOT, read, write
+from platforms import STRICT
 
 sys.path.insert(0, f"{ROOT}/examples")
 
 from make_images import image, version
 
-QEMU = "qemu-system-x86_64"
-
-# The firmware of the machine: where Debian's package seabios has it, and where others do.
-FIRMWARE = ["/usr/share/seabios/bios-256k.bin", "/usr/share/qemu/bios-256k.bin"]
-
-STRICT = ["-std=c11", "-Wall", "-Wextra", "-Werror"]
-
-# A program without an operating system, at a fixed address. The last option keeps GCC from
-# replacing the loop of memcpy() by a call of memcpy().
-BARE = ["-O2", "-ffreestanding", "-fno-stack-protector", "-fno-pie", "-mno-red-zone"]
-BARE += ["-fno-tree-loop-distribute-patterns"]
-
 
 class Missing(Exception):
     """Something that is needed isn't there, or doesn't compile."""
-
-
-def firmware():
-    """Returns the file of the machine's firmware, or None."""
-    return next(filter(os.path.exists, FIRMWARE), None)
-
-
-def missing():
-    """Returns what the system lacks."""
-    found = [f"`{it}`" for it in ("gcc", "ld", QEMU) if not shutil.which(it)]
-    return found + ["bios-256k.bin (Debian's package seabios)"] * (not firmware())
 
 
 def call(words, folder):
@@ -54,41 +26,77 @@ def call(words, folder):
         raise Missing(f"{' '.join(words)} failed:\n{done.stdout}")
 
 
-def build_bootloader(folder, library):
-    """Compiles the bootloader over the library, and returns its file."""
+def is_of(made, stamp):
+    """Whether a file was made of what a stamp says."""
+    return os.path.exists(made) and os.path.exists(f"{made}.stamp") and read(f"{made}.stamp") == stamp
+
+
+def library_object(platform, folder, library):
+    """Returns the file of the library that is linked. One in C is compiled, unless the folder has
+    it: that takes 15 seconds."""
+    library = os.path.realpath(library)
+    if not library.endswith(".c"):
+        return library
+    words = [*platform.compiler(), *STRICT, f"-I{ROOT}/include", "-c", library]
+    headers = [f"{ROOT}/include/{it}" for it in sorted(os.listdir(f"{ROOT}/include"))]
+    read_here = [" ".join(words).encode(), *map(read, [library, *headers])]
+    stamp = b"\n".join(hashlib.sha256(it).hexdigest().encode() for it in read_here)
+    made = f"{folder}/bootswap.o"
+    if not is_of(made, stamp):
+        call([*words, "-o", made], folder)
+        write(f"{made}.stamp", stamp)
+    return made
+
+
+def build_bootloader(platform, folder, library):
+    """Compiles the bootloader over the library, and returns the file that QEMU loads."""
     if not os.path.exists(library):
-        raise Missing(f"there is no {library}: bindings/build makes it")
-    sources = [f"{BOARD}/start.S", *sorted(glob.glob(f"{BOARD}/*.c"))]
-    sources.append(f"{ROOT}/bindings/c/driver.c")
-    included = [f"-I{it}" for it in (f"{ROOT}/include", f"{ROOT}/bindings/c", BOARD)]
-    call(["gcc", *STRICT, *BARE, *included, "-c", *sources], folder)
+        raise Missing(f"there is no {library}: {platform.builder} makes it")
+    folder, sources = os.path.realpath(folder), platform.sources()
+    places = (f"{ROOT}/include", f"{ROOT}/bindings/c", BOARD, f"{BOARD}/{platform.folder}")
+    included = [f"-I{it}" for it in places]
+    call([*platform.compiler(), *STRICT, *included, "-c", *sources], folder)
     objects = [f"{os.path.splitext(os.path.basename(it))[0]}.o" for it in sources]
-    # Of the library, only what the bootloader calls.
-    words = ["ld", "-n", "--gc-sections", "-T", f"{BOARD}/board.ld", "-o", "bootloader.elf"]
-    call([*words, *objects, os.path.realpath(library)], folder)
-    return f"{folder}/bootloader.elf"
+    objects.append(library_object(platform, folder, library))
+    linked = f"{folder}/bootloader.elf"
+    call(platform.link_words(objects, linked), folder)
+    return platform.finish(call, linked)
 
 
-def program(folder, text):
-    """Returns the bytes of the tiny program that writes a text."""
-    call(["gcc", f'-DTEXT="{text}"', "-c", f"{BOARD}/image.S", "-o", "image.o"], folder)
-    plain = ["-Ttext=0", "-e", "image", "--oformat", "binary"]
-    call(["ld", *plain, "-o", "image.bin", "image.o"], folder)
+def program(platform, folder, text, address):
+    """Returns the bytes of the tiny program that writes a text, linked for an address."""
+    source = f"{BOARD}/{platform.folder}/image.S"
+    call([*platform.compiler(), f'-DTEXT="{text}"', "-c", source, "-o", "image.o"], folder)
+    linker = [f"{platform.prefix}ld", *platform.linker_flags, f"-Ttext={address:#x}"]
+    call([*linker, "-e", "image", "-o", "image.elf", "image.o"], folder)
+    copier = [f"{platform.prefix}objcopy", "-O", "binary", "-j", ".text"]
+    call([*copier, "image.elf", "image.bin"], folder)
     return read(f"{folder}/image.bin")
 
 
-def make_image(folder, name, number, major):
+def slots():
+    """Returns where the primary slots begin in the flash."""
+    device, places, at = json.loads(read(DEVICE)), [], 0
+    for length in device["sectors"]:
+        places.append(at)
+        at += device["sector"] * (length + 1)
+    return places
+
+
+def make_image(platform, folder, name, number, major):
     """Makes a file of an image. Version 2 needs version 2 of the other one."""
     needs = [(1 - number, version(major, 0))] if major == 2 else []
-    body = program(folder, f"image {number} version {major}.0.0")
-    write(f"{folder}/{name}{number}.img", image(version(major, 0), needs=needs, body=body))
+    address = platform.body_at(number, slots()[number])
+    body = program(platform, folder, f"image {number} version {major}.0.0", address)
+    header = {"header_size": platform.header_size}
+    write(f"{folder}/{name}{number}.img", image(version(major, 0), needs=needs, body=body, **header))
 
 
-def make_images(folder):
+def make_images(platform, folder):
     """Makes old0.img and old1.img, which run at first, and new0.img and new1.img."""
     for number in (0, 1):
-        make_image(folder, "old", number, 1)
-        make_image(folder, "new", number, 2)
+        make_image(platform, folder, "old", number, 1)
+        make_image(platform, folder, "new", number, 2)
 
 
 def component(number, file):
@@ -108,33 +116,23 @@ def make_manifest(folder):
     write(f"{folder}/new.json", json.dumps(fields, indent=1).encode())
 
 
-def make_flash(folder, flash):
+def make_flash(platform, folder, flash):
     """Makes the file of a flash as a factory programs it: erased, but for the old images."""
     device = json.loads(read(DEVICE))
     sectors = 2 * sum(it + 1 for it in device["sectors"]) + 4
-    contents, at = bytearray(device["sector"] * sectors * b"\xff"), 0
-    for number, length in enumerate(device["sectors"]):
+    contents = bytearray(device["sector"] * sectors * b"\xff")
+    for number, at in enumerate(slots()):
         file = read(f"{folder}/old{number}.img")
         contents[at : at + len(file)] = file
-        at += device["sector"] * (length + 1)
-    write(flash, contents)
+    platform.write_flash(flash, contents)
 
 
-def build(folder=OUT, library=LIBRARY):
+def build(platform, folder, library):
     """Makes everything but the flash, and returns the file of the bootloader."""
-    if missing():
-        raise Missing(f"there is no {', and no '.join(missing())}")
+    missing = platform.missing()
+    if missing:
+        raise Missing(f"there is no {', and no '.join(missing)}")
     os.makedirs(folder, exist_ok=True)
-    make_images(folder)
+    make_images(platform, folder)
     make_manifest(folder)
-    return build_bootloader(folder, library)
-
-
-def read(path):
-    with open(path, "rb") as it:
-        return it.read()
-
-
-def write(path, contents):
-    with open(path, "wb") as it:
-        it.write(contents)
+    return build_bootloader(platform, folder, library)

@@ -79,6 +79,15 @@ void reply_reverted(uint32_t event, uint32_t set) {
     serial_write('\n');
 }
 
+void reply_stack(uint32_t event, uint32_t used, uint32_t size) {
+    serial_write_number(event);
+    serial_write_text(" stack");
+    write_number(used);
+    serial_write_text(" of");
+    write_number(size);
+    serial_write('\n');
+}
+
 void reply(uint32_t event, uint32_t status, const struct bootswap_result *result,
            const char *report) {
     serial_write_number(event);

@@ -11,4 +11,7 @@ void reply(uint32_t event, uint32_t status, const struct bootswap_result *result
 /* Writes the reply of a boot that reverted a set. */
 void reply_reverted(uint32_t event, uint32_t set);
 
+/* Writes how many bytes of the stack were used, and how many it has. */
+void reply_stack(uint32_t event, uint32_t used, uint32_t size);
+
 #endif

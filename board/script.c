@@ -133,7 +133,7 @@ static bool take_event(struct event *event) {
     } words[] = {
         {"accept", EVENT_ACCEPT},     {"piece", EVENT_PIECE},     {"finish", EVENT_FINISH},
         {"withdraw", EVENT_WITHDRAW}, {"confirm", EVENT_CONFIRM}, {"boot", EVENT_BOOT},
-        {"reset", EVENT_RESET},       {"provision", EVENT_PROVISION},
+        {"reset", EVENT_RESET},       {"provision", EVENT_PROVISION}, {"stack", EVENT_STACK},
     };
     for (size_t i = 0; i < sizeof words / sizeof words[0]; i++) {
         if (take_word(words[i].word)) {

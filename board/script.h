@@ -10,6 +10,7 @@
  *     boot
  *     reset
  *     provision
+ *     stack                          asks how many bytes of the stack were used since the power-up
  */
 #ifndef SCRIPT_H
 #define SCRIPT_H
@@ -28,7 +29,8 @@ enum event_kind {
     EVENT_CONFIRM,
     EVENT_BOOT,
     EVENT_RESET,
-    EVENT_PROVISION
+    EVENT_PROVISION,
+    EVENT_STACK
 };
 
 struct event {

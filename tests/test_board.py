@@ -1,4 +1,4 @@
-"""The board in QEMU: its replies, and that it survives kills."""
+"""The boards in QEMU: their replies, and that they survive kills."""
 
 import os
 import re
@@ -9,7 +9,7 @@ import tempfile
 import unittest
 
 from support.files import ROOT, read
-from support.libraries import TARGET, archive_for
+from support.libraries import TARGET, archive_for, c_folder
 from support.program import ProgramTest, short
 from support.stories import STAYED
 from support.worked import NO_SESSION, NO_TRIAL, NOTHING_REQUESTED, NOT_UP, PLAIN, TRIED, numbered
@@ -18,11 +18,10 @@ sys.path.insert(0, f"{ROOT}/board")
 
 import machine
 import parts
+from platforms import PLATFORMS
 
 # How many seconds a command of the board may take.
 LIMIT = 600
-
-KILLS = 20
 
 # Ten events that upgrade and revert, by the files that `board/run` makes, and their replies.
 # docs/FORMATS.md says each reply. The board boots once more after a boot that reverts: it has one
@@ -39,6 +38,7 @@ REFUSALS += ["done", "refused upload 5 SizeWrong", "done", "done", NOT_UP]
 
 # The script of board/README.md, after these.
 UPGRADE = read(f"{ROOT}/board/upgrade.txt").decode().replace("out/board", "{0}").splitlines()
+SCRIPTS = {"pc": "upgrade.txt"}
 UPGRADED = [PLAIN, *5 * ["done"], TRIED, "done", "done", STAYED]
 
 # Each with the major versions of the images that run, and the status.
@@ -50,7 +50,7 @@ RUNS = [
 
 # What `board/kill` prints if nothing failed.
 SUMMARY = (
-    rf"{KILLS} kills in \d+ starts; \d+ fell within the writes of a call\n"
+    r"{0} kills in \d+ starts; \d+ fell within the writes of a call\n"
     r"\d+ upgrades and \d+ reverts ended\n0 mixed sets of images, 0 bricks\nseed 7, \d+ s\n"
 )
 
@@ -70,7 +70,7 @@ LINES = [
 ]
 UNREADABLE = ["", "boot now", "boo", " boot", "boot ", "confirm 256", "finish", "finish 0 0"]
 UNREADABLE += ["finish  0", "piece 0 5", "piece 0 5G", "piece 0", "piece 0 ", "piece 0 -5"]
-UNREADABLE += ["boot reset", "boot provision", "finish confirm 0", "accept piece 0 -"]
+UNREADABLE += ["boot reset", "boot provision", "finish confirm 0", "accept piece 0 -", "stack 1"]
 UNREADABLE += [f"piece 1 {8193 * '5a'}", 40000 * "z", "accept 1"]
 UNREADABLE += [f"accept 4294967296 0 test 3 {DIGEST} -", f"accept 1 0 test 3 {DIGEST}"]
 UNREADABLE += [f"accept 1 0 test 3 {DIGEST}5a -", f"accept 1{9 * f' 0 test 3 {DIGEST} -'}"]
@@ -84,21 +84,31 @@ def more_boots(replies):
     return "boot\n" * sum(it.startswith("reverted") for it in replies)
 
 
-@unittest.skipIf(parts.missing(), f"there is no {', and no '.join(parts.missing())}")
-class BoardTest(ProgramTest):
-    """`board/run` and `board/kill`, over the library that was built."""
+class Board:
+    """`board/run` and `board/kill` on a machine, over the library that was built."""
 
     runs_once = True
 
     @classmethod
     def setUpClass(cls):
+        cls.platform = PLATFORMS[cls.name]
+        missing = cls.platform.missing()
+        if missing:
+            raise unittest.SkipTest(f"there is no {', and no '.join(missing)}")
         cls.made = tempfile.mkdtemp(prefix="bootswap-board-")
         cls.addClassCleanup(shutil.rmtree, cls.made, ignore_errors=True)
-        cls.archive = archive_for(TARGET)
+        cls.library = cls.library_in(cls.made)
+
+    @classmethod
+    def library_in(cls, folder):
+        """Returns the file of the library: made by the translator, for a machine of 32 bits."""
+        c_folder(f"{folder}/c")
+        return f"{folder}/c/bootswap.c"
 
     def run_board(self, name, *arguments, given="", **environment):
         """Returns the status, standard output and standard error of a command of the board."""
-        words = [sys.executable, "-B", f"{ROOT}/board/{name}", "--library", self.archive]
+        words = [sys.executable, "-B", f"{ROOT}/board/{name}", "--library", self.library]
+        words += ["--machine", self.name] if self.name != "pc" else []
         streams = {"stdout": subprocess.PIPE, "stderr": subprocess.PIPE, "text": True}
         streams["env"] = {**os.environ, **environment}
         done = subprocess.run([*words, *arguments], input=given, timeout=LIMIT, **streams)
@@ -111,7 +121,8 @@ class BoardTest(ProgramTest):
             ran = "".join(f"image {at % 2} version {it}.0.0\n" for at, it in enumerate(versions))
             wanted = (status, numbered(replies).decode(), ran)
             got = self.run_board("run", "-", "--out", self.made, given=script)
-            self.case(f"{name} on the board", [f"{short(got)}, and not {wanted}"] * (got != wanted))
+            faults = [f"{short(got)}, and not {wanted}"] * (got != wanted)
+            self.case(f"{name} on {self.name}", faults)
             self.expect_program(name, script + more_boots(replies), status, numbered(replies))
 
     def expect_program(self, name, script, status, wanted):
@@ -122,14 +133,23 @@ class BoardTest(ProgramTest):
             self.expect("provision", ["provision", device, "flash", *images], 0, b"done\n")
         arguments = ["run", device, "flash", "-"]
         self.expect(f"{name} of `run`", arguments, status, wanted, given=script.encode())
-        same = read(f"{self.folder}/flash") == read(f"{self.made}/flash")
+        on_board = self.platform.read_flash(f"{self.made}/flash")
+        same = read(f"{self.folder}/flash") == on_board
         self.case(f"{name}: both leave the same flash", [] if same else ["they differ"])
 
     def test_kills(self):
         """The board survives losing its power at random moments of upgrades and reverts."""
-        got = self.run_board("kill", str(KILLS), "--seed", "7")
-        is_right = got[0] == 0 and re.fullmatch(SUMMARY, got[1]) and not got[2]
-        self.case(f"{KILLS} kills", [] if is_right else [short(got)])
+        got = self.run_board("kill", str(self.kills), "--seed", "7", "--out", self.made)
+        is_right = got[0] == 0 and re.fullmatch(SUMMARY.format(self.kills), got[1]) and not got[2]
+        self.case(f"{self.kills} kills", [] if is_right else [short(got)])
+
+    def test_upgrade_script(self):
+        """The script of the machine's README is that of the others, with the names of its files."""
+        name = SCRIPTS[self.name]
+        folder = os.path.relpath(self.platform.out(), ROOT)
+        wanted = "\n".join([*UPGRADE, ""]).replace("{0}", folder)
+        got = read(f"{ROOT}/board/{name}").decode()
+        self.case(name, [f"{got!r}, and not {wanted!r}"] * (got != wanted))
 
     def test_bad_scripts(self):
         """A line that the board doesn't take is refused before the board is turned on."""
@@ -140,9 +160,10 @@ class BoardTest(ProgramTest):
 
     def test_lines(self):
         """The board refuses each line that isn't an event, and answers all others."""
-        bootloader, flash = parts.build(self.made, self.archive), f"{self.made}/lines"
-        machine.provision(bootloader, self.made, flash)
-        with machine.Machine(bootloader, flash) as board:
+        platform, flash = self.platform, f"{self.made}/lines"
+        bootloader = parts.build(platform, self.made, self.library)
+        machine.provision(platform, bootloader, self.made, flash)
+        with machine.Machine(platform, bootloader, flash) as board:
             self.case("power-up", [] if board.answer().startswith("1 plain\n") else ["refused"])
             for number, (line, reply) in enumerate(LINES, 2):
                 board.send(line)
@@ -152,14 +173,31 @@ class BoardTest(ProgramTest):
                 board.send(line)
                 got = board.answer()
                 self.case(f"the line {short(line)}", [short(got)] * (got != "unreadable\n"))
+            board.send("stack")
+            self.expect_stack(board.answer())
+
+    def expect_stack(self, got):
+        """A case: a part of the stack was used, and the machine says which."""
+        found = re.fullmatch(rf"{len(LINES) + 2} stack (\d+) of (\d+)\n", got)
+        is_right = found and 1000 < int(found[1]) < int(found[2])
+        self.case("the line stack", [] if is_right else [short(got)])
 
     def test_missing(self):
         """The commands of the board say what is missing."""
         absent, empty = f"{self.folder}/absent.a", {"PATH": self.folder}
-        library = f"board: there is no {absent}: bindings/build makes it\n"
-        system = f"board: there is no `gcc`, and no `ld`, and no `{parts.QEMU}`\n"
+        library = f"board: there is no {absent}: {self.platform.builder} makes it\n"
+        prefix, emulator = self.platform.prefix, self.platform.emulator
+        system = f"board: there is no `{prefix}gcc`, and no `{prefix}ld`, and no `{emulator}`\n"
         for name, argument in (("run", "-"), ("kill", "1")):
             got = self.run_board(name, argument, "--library", absent)
             self.case(f"{name} without a library", [short(got)] * (got != (125, "", library)))
             got = self.run_board(name, argument, **empty)
             self.case(f"{name} without programs", [short(got)] * (got != (125, "", system)))
+
+
+class PcTest(Board, ProgramTest):
+    name, kills = "pc", 20
+
+    @classmethod
+    def library_in(cls, folder):
+        return archive_for(TARGET)

@@ -1,26 +1,21 @@
 /*
  * The driver: the functions that write a parallel NOR flash, one byte wide, with the command set of
- * Intel's CFI parts (JEDEC JEP137, command set 0001).
+ * Intel's CFI parts.
  *
  * The processor reads the flash as memory. It writes a command to any address of a sector, and then
  * reads there the status of the part, until a last command shows the contents again.
  */
-#include "nor.h"
-
 #include <stdbool.h>
 
-enum command {
-    COMMAND_ERASE = 0x20,
-    COMMAND_PROGRAM = 0x40,
-    COMMAND_CLEAR_STATUS = 0x50,
-    COMMAND_CONFIRM = 0xd0,
-    COMMAND_SHOW_CONTENTS = 0xff
-};
+#include "cfi.h"
+#include "flash.h"
 
-enum status { STATUS_FAILED = 0x3a, STATUS_READY = 0x80 };
+/* The first byte: QEMU places the part right below the firmware, which ends at 4 GiB. */
+#define FIRMWARE 0x40000u
+#define BASE (0x100000000u - FIRMWARE - FLASH_SECTORS * FLASH_SECTOR)
 
 static volatile uint8_t *byte_at(uint32_t at) {
-    return (volatile uint8_t *)(uintptr_t)(NOR_BASE + at);
+    return (volatile uint8_t *)(uintptr_t)(BASE + at);
 }
 
 /* Waits until the part is ready. Returns whether the write failed. */
@@ -28,16 +23,16 @@ static bool has_failed(volatile uint8_t *place) {
     uint8_t status;
     do {
         status = *place;
-    } while (!(status & STATUS_READY));
-    return status & STATUS_FAILED;
+    } while (!(status & CFI_READY));
+    return status & CFI_FAILED;
 }
 
 /* Ends a row of commands, and returns what the driver's function returns. */
 static int end_commands(volatile uint8_t *place, bool failed) {
     if (failed) {
-        *place = COMMAND_CLEAR_STATUS;
+        *place = CFI_CLEAR_STATUS;
     }
-    *place = COMMAND_SHOW_CONTENTS;
+    *place = CFI_SHOW_CONTENTS;
     return failed;
 }
 
@@ -47,7 +42,7 @@ static int program(void *context, uint32_t at, const uint8_t *bytes, uint32_t le
     (void)context;
     for (uint32_t i = 0; i < length && !failed; i++) {
         if (bytes[i] != 0xff) {
-            *byte_at(at + i) = COMMAND_PROGRAM;
+            *byte_at(at + i) = CFI_PROGRAM;
             *byte_at(at + i) = bytes[i];
             failed = has_failed(byte_at(at + i));
         }
@@ -57,13 +52,19 @@ static int program(void *context, uint32_t at, const uint8_t *bytes, uint32_t le
 
 static int erase(void *context, uint32_t at, uint32_t length) {
     (void)context;
-    if (length != NOR_SECTOR) {
+    if (length != FLASH_SECTOR) {
         return 1;
     }
-    *byte_at(at) = COMMAND_ERASE;
-    *byte_at(at) = COMMAND_CONFIRM;
+    *byte_at(at) = CFI_ERASE;
+    *byte_at(at) = CFI_CONFIRM;
     return end_commands(byte_at(at), has_failed(byte_at(at)));
 }
 
 /* The library reads the flash as memory, so there is no function that reads. */
-const struct bootswap_driver nor_driver = {.program = program, .erase = erase};
+static const struct bootswap_driver driver = {.program = program, .erase = erase};
+
+void flash_attach(struct bootswap_device *device) {
+    device->driver = &driver;
+    device->flash = (const uint8_t *)(uintptr_t)BASE;
+    device->flash_length = FLASH_SECTORS * FLASH_SECTOR;
+}

@@ -10,6 +10,7 @@
 #define EFER_LONG_MODE 0x100
 #define CR0_EMULATED_FLOATS 0x4
 #define CR0_PAGING_AND_COPROCESSOR 0x80000002
+#define STACK_SIZE (64 * 1024)
 #define CODE 0x8
 #define DATA 0x10
 
@@ -91,7 +92,9 @@ directories_of_pages:
         .skip 4096
 directories:
         .skip 4 * 4096
-        .skip 1024 * 1024               /* the stack: a boot takes 300 kB */
+        .global stack_start, stack_end
+stack_start:
+        .skip STACK_SIZE
 stack_end:
 
         .section .note.GNU-stack, "", @progbits
