@@ -28,7 +28,8 @@ def call(words, folder):
 
 def is_of(made, stamp):
     """Whether a file was made of what a stamp says."""
-    return os.path.exists(made) and os.path.exists(f"{made}.stamp") and read(f"{made}.stamp") == stamp
+    are_there = os.path.exists(made) and os.path.exists(f"{made}.stamp")
+    return are_there and read(f"{made}.stamp") == stamp
 
 
 def library_object(platform, folder, library):
@@ -88,8 +89,8 @@ def make_image(platform, folder, name, number, major):
     needs = [(1 - number, version(major, 0))] if major == 2 else []
     address = platform.body_at(number, slots()[number])
     body = program(platform, folder, f"image {number} version {major}.0.0", address)
-    header = {"header_size": platform.header_size}
-    write(f"{folder}/{name}{number}.img", image(version(major, 0), needs=needs, body=body, **header))
+    made = image(version(major, 0), needs=needs, body=body, header_size=platform.header_size)
+    write(f"{folder}/{name}{number}.img", made)
 
 
 def make_images(platform, folder):

@@ -13,6 +13,9 @@ STRICT = ["-std=c11", "-Wall", "-Wextra", "-Werror"]
 BARE = ["-ffreestanding", "-fno-stack-protector", "-fno-pie"]
 BARE += ["-fno-tree-loop-distribute-patterns"]
 
+# For processors of 32 bits: only what is called is linked, and the code is small.
+SMALL = ["-Os", "-ffunction-sections", "-fdata-sections", f"-I{BOARD}/bare"]
+
 # The files that all machines have.
 SHARED = ["images", "main", "memory", "replies", "script", "serial_text", "stack"]
 
@@ -135,4 +138,49 @@ class Pc(Platform):
         return [self.emulator, *machine, *PLAIN, "-kernel", bootloader, *drives]
 
 
-PLATFORMS = {it.name: it for it in (Pc(),)}
+class Rv32(Platform):
+    """RISC-V `virt` with 32 bits. The bootloader is in its first flash, and its second is that of
+    the board. bootswap sees the first 4 KiB of each sector of 256 KiB."""
+
+    name = folder = "rv32"
+    emulator, prefix = "qemu-system-riscv32", "riscv64-unknown-elf-"
+    flags = [*BARE, *SMALL, "-march=rv32imac", "-mabi=ilp32"]
+    linker_flags = ["-melf32lriscv"]
+    shared = ["uart_16550"]
+
+    # The length of each of the two flashes, and that of a sector.
+    LENGTH, PART_SECTOR, SECTOR = 32 << 20, 256 << 10, 4096
+
+    def body_at(self, number, slot):
+        # To where jump.c copies it.
+        return 0x80040000
+
+    def finish(self, call, linked):
+        rom = f"{os.path.dirname(linked)}/bootloader.rom"
+        call([f"{self.prefix}objcopy", "-O", "binary", linked, rom], None)
+        os.truncate(rom, self.LENGTH)
+        return rom
+
+    def write_flash(self, path, contents):
+        with open(path, "wb") as it:
+            it.truncate(self.LENGTH)
+            for at in range(0, len(contents), self.SECTOR):
+                it.seek(at // self.SECTOR * self.PART_SECTOR)
+                it.write(contents[at : at + self.SECTOR])
+        # The rest, which nothing reads, has no bytes on disk.
+
+    def read_flash(self, path):
+        fronts = []
+        with open(path, "rb") as it:
+            for number in range(16):
+                it.seek(number * self.PART_SECTOR)
+                fronts.append(it.read(self.SECTOR))
+        return b"".join(fronts)
+
+    def words(self, bootloader, flash):
+        machine = ["-M", "virt", "-cpu", "rv32", "-accel", "tcg", "-m", "4", "-bios", "none"]
+        drives = pflash(0, bootloader, READ_ONLY) + pflash(1, flash, WRITTEN)
+        return [self.emulator, *machine, *PLAIN, *drives]
+
+
+PLATFORMS = {it.name: it for it in (Pc(), Rv32())}

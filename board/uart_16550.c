@@ -1,4 +1,4 @@
-/* The serial port of a machine that has a 16550, polled. port.h has the accesses of its registers. */
+/* The serial port of a machine that has a 16550, polled. port.h accesses its registers. */
 #include "port.h"
 #include "serial.h"
 
