@@ -1,4 +1,4 @@
-"""The machines: how a program is built for each, where its flash is kept, and how QEMU runs
+"""The three machines: how a program is built for each, where its flash is kept, and how QEMU runs
 it."""
 
 import os
@@ -19,8 +19,11 @@ SMALL = ["-Os", "-ffunction-sections", "-fdata-sections", f"-I{BOARD}/bare"]
 # The files that all machines have.
 SHARED = ["images", "main", "memory", "replies", "script", "serial_text", "stack"]
 
-# QEMU without any device but the machine's own, and with the serial port on its own streams.
-PLAIN = ["-no-reboot", "-nodefaults", "-display", "none", "-serial", "stdio"]
+# QEMU without any device but the machine's own, and with the serial port on its own streams. In
+# QEMU 7.2 the port of the Cortex-M misses input that comes early, unless it is multiplexed.
+BARE_MACHINE = ["-no-reboot", "-nodefaults", "-display", "none"]
+PLAIN = [*BARE_MACHINE, "-serial", "stdio"]
+MULTIPLEXED = [*BARE_MACHINE, "-chardev", "stdio,id=port,mux=on", "-serial", "chardev:port"]
 
 
 def option(path):
@@ -183,4 +186,26 @@ class Rv32(Platform):
         return [self.emulator, *machine, *PLAIN, *drives]
 
 
-PLATFORMS = {it.name: it for it in (Pc(), Rv32())}
+class CortexM(Platform):
+    """A Cortex-M4 (`mps2-an386`). The bootloader reads and writes the file of its flash by
+    semihosting. The images run in place, so each is linked for its slot."""
+
+    name, folder = "cortex-m", "cortex_m"
+    emulator, prefix = "qemu-system-arm", "arm-none-eabi-"
+    flags = [*BARE, *SMALL, "-mcpu=cortex-m4", "-mthumb"]
+
+    # A vector table is aligned to 128 bytes at least.
+    header_size = 512
+
+    def body_at(self, number, slot):
+        return 0x200000 + slot + self.header_size
+
+    def words(self, bootloader, flash):
+        files = f"enable=on,target=native,arg={option(os.path.realpath(flash))}"
+        machine = ["-M", "mps2-an386", "-accel", "tcg", "-semihosting-config", files]
+        # QEMU warns of a network card that isn't connected.
+        machine += ["-nic", "user,restrict=on"]
+        return [self.emulator, *machine, *MULTIPLEXED, "-kernel", bootloader]
+
+
+PLATFORMS = {it.name: it for it in (Pc(), Rv32(), CortexM())}

@@ -38,7 +38,7 @@ REFUSALS += ["done", "refused upload 5 SizeWrong", "done", "done", NOT_UP]
 
 # The script of board/README.md, after these.
 UPGRADE = read(f"{ROOT}/board/upgrade.txt").decode().replace("out/board", "{0}").splitlines()
-SCRIPTS = {"pc": "upgrade.txt", "rv32": "rv32/upgrade.txt"}
+SCRIPTS = {"pc": "upgrade.txt", "rv32": "rv32/upgrade.txt", "cortex-m": "cortex_m/upgrade.txt"}
 UPGRADED = [PLAIN, *5 * ["done"], TRIED, "done", "done", STAYED]
 
 # Each with the major versions of the images that run, and the status.
@@ -205,3 +205,7 @@ class PcTest(Board, ProgramTest):
 
 class Rv32Test(Board, ProgramTest):
     name, kills = "rv32", 6
+
+
+class CortexMTest(Board, ProgramTest):
+    name, kills = "cortex-m", 6
