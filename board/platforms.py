@@ -19,8 +19,8 @@ SMALL = ["-Os", "-ffunction-sections", "-fdata-sections", f"-I{BOARD}/bare"]
 # The files that all machines have.
 SHARED = ["images", "main", "memory", "replies", "script", "serial_text", "stack"]
 
-# QEMU without any device but the machine's own, and with the serial port on its own streams. In
-# QEMU 7.2 the port of the Cortex-M misses input that comes early, unless it is multiplexed.
+# QEMU without any device but the machine's own, and with the serial port on its own streams. That
+# of the Cortex-M is multiplexed: otherwise QEMU 7.2 sometimes stops reading its standard input.
 BARE_MACHINE = ["-no-reboot", "-nodefaults", "-display", "none"]
 PLAIN = [*BARE_MACHINE, "-serial", "stdio"]
 MULTIPLEXED = [*BARE_MACHINE, "-chardev", "stdio,id=port,mux=on", "-serial", "chardev:port"]
