@@ -1,7 +1,8 @@
 /*
  * A tiny image: its reset handler makes a supervisor call, whose handler writes which image and
  * version it is, and returns. So the text shows that the processor uses the image's vector table.
- * The bootloader has set the serial port up. The text is given when the image is assembled.
+ * The image stops if it doesn't have its own stack. The bootloader has set the serial port up. The
+ * text is given when the image is assembled.
  */
 #define UART 0x40004000
 #define STATE 4
@@ -25,6 +26,10 @@ image:
 
         .thumb_func
 reset:
+        ldr r0, =STACK_END
+        mov r1, sp
+        cmp r0, r1
+        bne stop
         push {r4, lr}
         svc #0
         pop {r4, pc}
