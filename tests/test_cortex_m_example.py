@@ -1,0 +1,71 @@
+"""The loader and the application of examples/cortex_m, as docs/PORTING.md has a reader make them in an empty folder."""
+
+import os
+import re
+import shutil
+import subprocess
+import time
+import unittest
+
+from support.files import ROOT, read
+from support.libraries import c_folder, ran
+from support.program import ProgramTest, short
+
+EXAMPLE = f"{ROOT}/examples/cortex_m"
+TOOLS = ("make", "arm-none-eabi-gcc", "qemu-system-arm")
+MISSING = [it for it in TOOLS if not shutil.which(it)]
+
+# How many seconds the machine may take for a line.
+LIMIT = 120
+
+
+def printed_in_porting():
+    """Returns the lines that the page says it prints."""
+    return re.search(r"^```\n(loader: .*?)^```$", read(f"{ROOT}/docs/PORTING.md").decode(), re.DOTALL | re.MULTILINE)[1].splitlines()
+
+
+@unittest.skipIf(MISSING, f"not installed: {' and '.join(MISSING)}")
+class CortexMExampleTest(ProgramTest):
+    runs_once = True
+
+    def make(self):
+        """Makes the example in an empty folder, over a clone that has out/c."""
+        self.empty, clone = f"{self.folder}/empty", f"{self.folder}/clone"
+        shutil.copytree(EXAMPLE, self.empty)
+        c_folder(f"{clone}/out/c")
+        os.symlink(f"{ROOT}/board", f"{clone}/board")
+        self.words = ["make", f"BOOTSWAP={clone}", f"IMAGE={self.program} make-image"]
+        faults, output = ran(self.words, cwd=self.empty)
+        self.case("it is made", faults or [short(output)] * (b"warning" in output))
+
+    def run_machine(self, last, seconds=None):
+        """Runs the machine until it prints a line, or N seconds more, takes its power away, and returns the lines."""
+        found, words = [], [*self.words, "--silent", "run"]
+        both = {"stdin": subprocess.DEVNULL, "stdout": subprocess.PIPE, "stderr": subprocess.STDOUT}
+        with subprocess.Popen(words, cwd=self.empty, start_new_session=True, **both) as machine:
+            os.set_blocking(machine.stdout.fileno(), False)
+            end, rest = time.monotonic() + LIMIT, b""
+            while last not in found and machine.poll() is None and time.monotonic() < end:
+                rest += machine.stdout.read() or b""
+                *lines, rest = rest.split(b"\n")
+                found += [it.decode("ascii", "replace") for it in lines]
+                time.sleep(0.01)
+            time.sleep(seconds or 0)
+            os.killpg(machine.pid, 9)
+        return found
+
+    def test_upgrade(self):
+        """It prints what the page says, and continues if its power fails during the upload or the swap."""
+        wanted = printed_in_porting()
+        self.make()
+        got = self.run_machine(wanted[-1])
+        self.case("an upgrade", [short("\n".join(got).encode())] * (got != wanted))
+        again = ["loader: boot returns 1", *wanted[-3:-2], wanted[-1]]
+        got = self.run_machine(wanted[-1])
+        self.case("the start after it", [short("\n".join(got).encode())] * (got != again))
+        for seconds in (0.2, 0.8, 1.6, 2.4):
+            os.remove(f"{self.empty}/flash")
+            self.run_machine(wanted[3], seconds)
+            got = self.run_machine(wanted[-1])
+            faults = [short("\n".join(got).encode())] * (got[-1:] != wanted[-1:] or wanted[-3] not in got)
+            self.case(f"power fails {seconds} s after the upload begins", faults)
