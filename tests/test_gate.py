@@ -93,7 +93,7 @@ STEPS = {
 # Each way to send a signal: to the whole group, as a terminal does, or to the gate's process alone.
 WAYS = [(signal.SIGTERM, os.killpg), (signal.SIGTERM, os.kill), (signal.SIGINT, os.killpg)]
 
-COPIED = ("tools", "tests", "web", "examples")
+COPIED = ("tools", "tests", "web", "examples", "bindings")
 
 
 class GateTest(CaseTest):
