@@ -6,24 +6,20 @@ library never records.
 
 import ctypes
 import json
-import os
-import re
 import shutil
 import tempfile
 from ctypes import POINTER, byref, c_size_t, c_uint8, c_uint32, c_uint64
 
 from support.builders import image, version
 from support.compiled import needs_compiler
-from support.driven import CUT, DRIVER_FAILED, INCLUDE, JOURNAL_TOO_SMALL, STRICT
+from support.driven import CUT, DRIVER_FAILED, JOURNAL_TOO_SMALL
 from support.driven import Driven, Flash, Library, replies_of, reply_of
 from support.files import EXAMPLES, ROOT, names_in, read
 from support.headers import journal_bounds
-from support.libraries import ran
 from support.processors import HERE
 from support.program import ProgramTest, CaseTest, short
 from support.worked import SUM_OF_WRITES, WORKED
 
-DRIVER = f"{ROOT}/bindings/c/driver.c"
 PAIR = f"{EXAMPLES}/devices/pair.json"
 NEWER = image([], own=version(2))
 ONE, NEEDING, PARTNER = (read(f"{EXAMPLES}/images/{name}.img") for name in ("one", "needing", "partner"))
@@ -778,41 +774,3 @@ class MalformedTest(DriverTest):
 
 def words(*numbers):
     return b"".join(it.to_bytes(4, "little") for it in numbers)
-
-
-@needs_compiler
-class SourceTest(CaseTest):
-    """The files of bindings/c, and the listing of docs/PORTING.md."""
-
-    processor, compilers, has_cpp = HERE, ("gcc", "clang"), True
-
-    def setUp(self):
-        self.folder = tempfile.mkdtemp(prefix="bootswap-driver-")
-        self.addCleanup(shutil.rmtree, self.folder, ignore_errors=True)
-
-    def test_compilers(self):
-        """They compile without a warning, the headers also as C++."""
-        self.listing = f"{self.folder}/listing.c"
-        text = read(f"{ROOT}/docs/PORTING.md").decode()
-        with open(self.listing, "w", encoding="utf-8") as it:
-            it.write("\n".join(re.findall(r"^```c\n(.*?)^```$", text, re.MULTILINE | re.DOTALL)))
-        with open(f"{self.folder}/header.cpp", "w", encoding="utf-8") as it:
-            it.write("#include <driver.h>\n")
-        for compiler in filter(shutil.which, self.compilers):
-            for file in (DRIVER, f"{ROOT}/bindings/c/file_device.c", self.listing):
-                faults, _ = ran([compiler, *STRICT, *INCLUDE, "-O2", "-c", file, "-o", f"{self.folder}/made.o"])
-                self.case(f"{os.path.basename(file)} with {compiler}", faults)
-            header = ["-x", "c++", *STRICT[1:], *INCLUDE, "-fsyntax-only", f"{self.folder}/header.cpp"]
-            if self.has_cpp:
-                self.case(f"driver.h as C++ with {compiler}", ran([compiler, *header])[0])
-
-    def test_names(self):
-        """driver.c calls nothing but the library, memcpy and memset, and has no data of its own."""
-        made = f"{self.folder}/driver.o"
-        faults = self.processor.compiled([*STRICT, *INCLUDE, "-O1", "-fno-pie", "-c", DRIVER, "-o", made])
-        _, output = ran([self.processor.nm, "--format=posix", made])
-        rows = [line.split()[:2] for line in output.decode().splitlines()]
-        called = {name for name, kind in rows if kind == "U" and not name.startswith("bootswap_")}
-        data = [name for name, kind in rows if kind.upper() in "BDC"]
-        faults += [f"it calls {it}" for it in sorted(called - {"memcpy", "memset"})] + [f"its data {it}" for it in data]
-        self.case("driver.c calls memcpy and memset only", faults)
