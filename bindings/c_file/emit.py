@@ -39,7 +39,7 @@ class Line:
 @dataclass
 class Block:
     """A block that isn't at its end yet. `height` is that of the stack below it, `result` the width of its result.
-    `branches` is the number of branches to its label. `falls_through` says whether the part before `else` comes to its end."""
+    `branches` is the number of branches to its label. `falls_through` says whether the part before `else` reaches its end."""
 
     kind: str
     height: int
