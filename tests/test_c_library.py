@@ -2,12 +2,13 @@
 
 tests/scenarios.c plays random scenarios with each call of both headers. Whatever processor and compiler: the file of C prints
 exactly what the library for this processor prints, a number and a hash of everything that a call may write. 10,000 scenarios take
-3 minutes for each program of this processor; the gate plays 300, and fewer on emulated machines.
+3 minutes for each program of this processor; the gate plays 300 on each processor and machine.
 """
 
 import os
 import shutil
 import tempfile
+from concurrent.futures import ThreadPoolExecutor
 
 from support.bare import BARE, MACHINES
 from support.compiled import needs_compiler
@@ -21,8 +22,8 @@ STRICT = ["-std=c11", "-Wall", "-Wextra", "-Werror"]
 COPIES = [f"include/{name}.h" for name in ("bootswap", "bootswap_names", "bootswap_simulate")]
 COPIES += ["bindings/c/driver.c", "bindings/c/driver.h"]
 
-# How many scenarios are played: on this processor and 32-bit ARM, and on a bare machine.
-SEEDS, BARE_SEEDS = 300, 20
+# How many scenarios are played.
+SEEDS = 300
 
 
 @needs_compiler
@@ -40,20 +41,13 @@ class CLibraryTest(CaseTest):
         if faults:
             raise AssertionError(f"scenarios.c runs: {faults[0]}")
 
-    def wanted(self, seeds):
-        """Returns what the library for this processor prints of the first scenarios."""
-        lines = self.printed.splitlines(keepends=True)
-        ends = [i for i, line in enumerate(lines) if line.startswith(b"scenario ") and int(line.split()[1]) >= seeds]
-        return b"".join(lines[: min(ends, default=len(lines))])
-
-    def compare(self, name, faults, printed, seeds):
+    def compare(self, name, faults, printed):
         """A case: a program prints what the library for this processor prints."""
-        wanted = self.wanted(seeds)
-        if not faults and printed != wanted:
-            lines = printed.splitlines(), wanted.splitlines()
+        if not faults and printed != self.printed:
+            lines = printed.splitlines(), self.printed.splitlines()
             other = [f"line {i + 1}: {one}, and not {other}" for i, (one, other) in enumerate(zip(*lines)) if one != other]
             faults = [*other, f"{len(lines[0])} lines, and not {len(lines[1])}"][:1]
-        self.case(f"{seeds} scenarios, {name}", faults)
+        self.case(f"{SEEDS} scenarios, {name}", faults)
 
     def test_scenarios(self):
         """The scenarios make each call, and each of these has each kind of end."""
@@ -70,7 +64,7 @@ class CLibraryTest(CaseTest):
         printed = b""
         if not faults:
             faults, printed = HERE.ran(program, "0", str(SEEDS - 1))
-        self.compare("gcc on this processor", faults, printed, SEEDS)
+        self.compare("gcc on this processor", faults, printed)
 
     @needs_small_arm
     def test_small_arm(self):
@@ -78,20 +72,25 @@ class CLibraryTest(CaseTest):
         faults = SMALL_ARM.compiled([*STRICT, "-O1", "-I", f"{self.folder}/c", SCENARIOS, SMALL_ARM.archive(), "-o", program])
         if not faults:
             faults, printed = SMALL_ARM.ran(program, "0", str(SEEDS - 1))
-        self.compare("32-bit ARM", faults, printed, SEEDS)
+        self.compare("32-bit ARM", faults, printed)
 
     def test_bare_machines(self):
         """On machines without an operating system. An access that isn't aligned is a fault on both of ARM."""
+        there = [it for it in MACHINES if not it.missing()]
+        with ThreadPoolExecutor() as pool:
+            for it, (faults, printed) in zip(there, pool.map(self.on_machine, there)):
+                self.compare(it.name, faults, printed)
         for it in MACHINES:
-            with self.subTest(it.name):
-                if it.missing():
+            if it.missing():
+                with self.subTest(it.name):
                     self.skipTest(f"not installed: {it.missing()}")
-                program, printed = f"{self.folder}/bare.elf", b""
-                seeds = ["-DFIRST=0", f"-DLAST={BARE_SEEDS - 1}"]
-                faults = it.compiled(["-O1", *seeds, "-I", f"{self.folder}/c", f"{BARE}/main.c", SCENARIOS, self.file], program)
-                if not faults:
-                    faults, printed = it.ran(program)
-                self.compare(it.name, faults, printed, BARE_SEEDS)
+
+    def on_machine(self, machine):
+        """Plays the scenarios on a machine, and returns what is wrong and what it printed."""
+        program, seeds = f"{self.folder}/{machine.name}.elf", ["-DFIRST=0", f"-DLAST={SEEDS - 1}"]
+        words = ["-O1", *seeds, "-I", f"{self.folder}/c", f"{BARE}/main.c", SCENARIOS, self.file]
+        faults = machine.compiled(words, program)
+        return (faults, b"") if faults else machine.ran(program)
 
     def test_clang(self):
         """clang compiles the file without a warning."""
