@@ -1,5 +1,5 @@
 -- What the commands on a device read: its device file, and the bytes of its flash.
-use Rattle.std.specs.Prelude.{◌≡◌, ℕ, List, Option, None, Some}
+use Rattle.std.specs.Prelude.{◌≡◌, ℕ, List, Option, None, Some, Result, Ok, Err}
 use Rattle.std.specs.Io.KnownBytes.{Appends}
 use Rattle.sector_map.specs.declared.error.MapError.{MapError}
 use Rattle.device_texts.specs.declared.device.DeviceFault.TheVariants as fault
@@ -16,6 +16,17 @@ use Rattle.host.specs.Input.{FileBytes, Gives}
 abbrev pub GivesDevice : Source → Option (List ℕ) → FileBytes → DeviceFile → Type 0
 GivesDevice source input files device =
     (bytes : List ℕ) × Gives source input files bytes × IsDeviceFile bytes device
+
+-- The source contains a device file whose sizes make no map, for this reason.
+abbrev pub GivesNoMap : Source → Option (List ℕ) → FileBytes → MapError → Type 0
+GivesNoMap source input files refused =
+    (bytes : List ℕ) × Gives source input files bytes × IsDeviceFault bytes (fault.Map refused)
+
+-- The result of reading a device file: a device, or why the sizes in the file make no map.
+abbrev pub GivesDeviceOrFault : Result DeviceFile MapError → Source → Option (List ℕ)
+    → FileBytes → Type 0
+GivesDeviceOrFault (Ok device) source input files = GivesDevice source input files device
+GivesDeviceOrFault (Err refused) source input files = GivesNoMap source input files refused
 
 -- The source contains a device file whose sizes make no map, and the reason was appended to the
 -- output.

@@ -3,7 +3,7 @@ ghost use Rattle.std.specs.Prelude.{◌≡◌, IfErr, IfOk, IsTrue, OnOk};
 ghost use Rattle.std.specs.Io.KnownBytes.{Appends, Keeps};
 ghost use Rattle.device_texts.specs.AnswerText.{map_refusal_text};
 ghost use Rattle.device_texts.specs.FlashOf.{IsFlashOf};
-ghost use Rattle.inputs.specs.DeviceInput.{OpensFlash, ReadsDevice};
+ghost use Rattle.inputs.specs.DeviceInput.{GivesDeviceOrFault, OpensFlash, ReadsDevice};
 ghost use Rattle.host.specs.Doings.{IsOpenedFor};
 ghost use Rattle.host.specs.Input.{Gives, IsKnownAs, KeepsFiles, KeepsOthers};
 
@@ -19,11 +19,8 @@ use std::io::Write;
 /// Returns `None` if the sizes in the file make no map, after writing the reason to `out`.
 ///
 /// # Errors
-/// Nothing was written to `out`, except for `CannotWrite`:
-/// - `DeviceFile` if the bytes are no device file, or more than [`MOST_JSON`];
-/// - `OfSource` if the source can't be read;
-/// - `CannotWrite` if the reason could not be written;
-/// - `NoMemory` if memory ran out.
+/// Nothing was written to `out`, except for `CannotWrite`, if the reason could not be written. The
+/// others are those of [`device_or_fault`].
 pub fn read_device<H: Host, O: Write>(
     alloc: Global,
     device: Source<'_>,
@@ -37,18 +34,43 @@ pub fn read_device<H: Host, O: Write>(
     ensures files { KeepsFiles (H.file host.old) (H.file host.new) }
     ensures opened { H.opened host.new ≡ H.opened host.old }
 {
+    match device_or_fault(alloc, device, host)? {
+        Ok(device) => Ok(Some(device)),
+        Err(fault) => {
+            tell_map(alloc, fault, out)?;
+            Ok(None)
+        }
+    }
+}
+
+/// Reads a device file from `host` and returns its device, or why the sizes in the file make no map.
+/// The bytes and their JSON value are in memory of `alloc`.
+///
+/// # Errors
+/// - `DeviceFile` if the bytes are no device file, or more than [`MOST_JSON`];
+/// - `OfSource` if the source can't be read;
+/// - `NoMemory` if memory ran out.
+pub fn device_or_fault<H: Host>(
+    alloc: Global,
+    device: Source<'_>,
+    host: &mut H,
+) -> Result<Result<DeviceFile, MapError>, Refusal>
+    ensures read { IfOk result (λ read.
+        GivesDeviceOrFault read device.entry (H.input host.old) (H.file host.old)) }
+    ensures others { KeepsOthers device.entry (H.input host.old) (H.file host.old)
+        (H.input host.new) (H.file host.new) }
+    ensures files { KeepsFiles (H.file host.old) (H.file host.new) }
+    ensures opened { H.opened host.new ≡ H.opened host.old }
+{
     let bytes = device.read_start(alloc, host, MOST_JSON)?;
     if bytes.len() > MOST_JSON as usize {
         return Err(Refusal::DeviceFile);
     }
     match DeviceFile::read(alloc, &bytes) {
-        Ok(device) => Ok(Some(device)),
+        Ok(device) => Ok(Ok(device)),
         Err(DeviceFault::Malformed) => Err(Refusal::DeviceFile),
         Err(DeviceFault::NoMemory) => Err(Refusal::NoMemory),
-        Err(DeviceFault::Map(fault)) => {
-            tell_map(alloc, fault, out)?;
-            Ok(None)
-        }
+        Err(DeviceFault::Map(fault)) => Ok(Err(fault)),
     }
 }
 

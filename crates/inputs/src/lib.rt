@@ -25,7 +25,7 @@ mod run_notes;
 mod sources;
 
 pub use checking::{BufferedInput, CheckedScript, check_script};
-pub use device_input::{read_device, read_flash};
+pub use device_input::{device_or_fault, read_device, read_flash};
 pub use file_flash::FileFlash;
 pub use flash_file::FlashFile;
 pub use lines::Lines;
