@@ -1,12 +1,19 @@
 -- The answer of an order as JSON. A flush after the answer changes nothing.
-use Rattle.std.proofs.Common.{ℕ, ◌++◌, Bool, List, [], ◌∷◌, Option, Some, false, true}
+use Rattle.std.proofs.Common.{◌≡◌, ℕ, ◌++◌, Bool, List, [], ◌∷◌, Option, Some, Result, IfOk, false, true}
 use Rattle.std.specs.Prelude.{MatchBool}
 use Rattle.std.specs.Io.KnownBytes.{Keeps}
 use Rattle.std.proofs.KnownBytes.{Appends-kept}
 use Rattle.command_line.specs.declared.orders.Order.{Order}
+use Rattle.command_line.specs.declared.orders.Order.TheVariants as order
+use Rattle.command_line.specs.declared.read_orders.ReadOrder.{ReadOrder}
+use Rattle.host.specs.declared.answer.Answer.{Answer}
 use Rattle.host.specs.declared.answer.Answer.TheVariants.{Done}
+use Rattle.host.specs.declared.error.Refusal.{Refusal}
 use Rattle.host.specs.Input.{FileBytes}
-use Rattle.boot_cli.specs.JsonEnd.{AnswersJson, WritesValue, is_by_lines}
+use Rattle.inspecting.proofs.ReadingLaws.{AnswersReading-kept}
+use Rattle.inspecting.specs.ReadingEnd.{AnswersReading}
+use Rattle.inspecting.specs.declared.inspection.Form.TheVariants as form
+use Rattle.boot_cli.specs.JsonEnd.{AnswersIn, AnswersJson, AnswersObject, WritesValue, is_codes, lists_devices}
 use Rattle.boot_cli.specs.OrderEnd.{AnswersOrder}
 
 WritesValue-kept : (old mid new : Option (List ℕ)) → WritesValue old mid → Keeps mid new → WritesValue old new
@@ -17,6 +24,11 @@ WritesValue-kept old mid new writes kept = record {
   taken = Appends-kept old mid new (writes.text ++ 10 ∷ []) writes.taken kept;
 }
 
+AnswersObject-kept : (asked : Order) (input : Option (List ℕ)) (file then : FileBytes) (old mid new : Option (List ℕ))
+    → AnswersObject Done asked input file then old mid → Keeps mid new → AnswersObject Done asked input file then old new
+AnswersObject-kept asked input file then old mid new answered kept =
+    (answered.0, answered.1, WritesValue-kept old mid new answered.2 kept)
+
 either-kept : (b : Bool) (A : Type 0) (B : List ℕ → Type 0) (old mid new : Option (List ℕ))
     → MatchBool b A ((text : List ℕ) × B text × WritesValue old mid) → Keeps mid new
     → MatchBool b A ((text : List ℕ) × B text × WritesValue old new)
@@ -24,10 +36,34 @@ either-kept true A B old mid new answered kept = answered
 either-kept false A B old mid new answered kept =
     (answered.0, answered.1, WritesValue-kept old mid new answered.2 kept)
 
+reading-kept : (b : Bool) (asked : ReadOrder) (input : Option (List ℕ)) (file then : FileBytes) (old mid new : Option (List ℕ))
+    → MatchBool b (AnswersObject Done (order.Read asked) input file then old mid)
+    (AnswersReading form.Json Done asked input file old mid) → Keeps mid new
+    → MatchBool b (AnswersObject Done (order.Read asked) input file then old new)
+    (AnswersReading form.Json Done asked input file old new)
+reading-kept true asked input file then old mid new answered kept =
+    AnswersObject-kept (order.Read asked) input file then old mid new answered kept
+reading-kept false asked input file then old mid new answered kept =
+    AnswersReading-kept form.Json Done asked input file old mid new answered kept
+
 pub AnswersJson-kept : (asked : Order) (input : Option (List ℕ)) (file then : FileBytes)
     (old mid new : Option (List ℕ))
     → AnswersJson Done asked input file then old mid → Keeps mid new
     → AnswersJson Done asked input file then old new
+AnswersJson-kept (order.Read asked) input file then old mid new answered kept =
+    reading-kept (is_codes asked) asked input file then old mid new answered kept
+AnswersJson-kept (order.Device asked) input file then old mid new answered kept = answered
+AnswersJson-kept (order.Plan asked) input file then old mid new answered kept =
+    either-kept (lists_devices asked) _
+    (λ text. AnswersOrder Done (order.Plan asked) input file then (Some []) (Some text)) old mid new answered kept
 AnswersJson-kept asked input file then old mid new answered kept =
-    either-kept (is_by_lines asked) _ (λ text. AnswersOrder Done asked input file then (Some []) (Some text))
-    old mid new answered kept
+    AnswersObject-kept asked input file then old mid new answered kept
+
+-- The object of the list of codes is the answer as JSON.
+pub codes-answered : (is_json : Bool) (asked : Order) (reading : ReadOrder) (result : Result Answer Refusal)
+    (input : Option (List ℕ)) (file then : FileBytes) (old new : Option (List ℕ)) → is_json ≡ true
+    → asked ≡ order.Read reading → is_codes reading ≡ true
+    → IfOk result (λ answer. AnswersObject answer asked input file then old new)
+    → IfOk result (λ answer. AnswersIn is_json answer asked input file then old new)
+codes-answered is_json asked reading result input file then old new json same codes answered =
+    rw (json, same, codes) (rw same at answered)

@@ -11,6 +11,7 @@ use Rattle.host.specs.Status.{Ends}
 use Rattle.host.specs.Input.{FileBytes}
 use Rattle.inspecting.proofs.PlanAnswerLaws.{AnswersPlan-kept}
 use Rattle.inspecting.proofs.ReadingLaws.{AnswersReading-kept}
+use Rattle.inspecting.specs.declared.inspection.Form.TheVariants as form
 use Rattle.device_commands.proofs.KeptLaws.{AnswersCore-kept}
 use Rattle.device_commands.proofs.WordsLaws.{only_cut}
 use Rattle.boot_cli.specs.JsonEnd.{AnswersIn}
@@ -51,7 +52,7 @@ AnswersOrder-kept (order.Device asked) input file then old mid new answered kept
 AnswersOrder-kept (order.Plan asked) input file then old mid new answered kept =
     AnswersPlan-kept asked input file old mid new answered kept
 AnswersOrder-kept (order.Read asked) input file then old mid new answered kept =
-    AnswersReading-kept asked input file old mid new answered kept
+    AnswersReading-kept form.Text Done asked input file old mid new answered kept
 
 AnswersIn-kept : (is_json : Bool) (asked : Order) (input : Option (List ℕ)) (file then : FileBytes)
     (old mid new : Option (List ℕ))

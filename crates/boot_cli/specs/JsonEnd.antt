@@ -7,8 +7,12 @@ use Rattle.command_line.specs.declared.orders.Order.{Order}
 use Rattle.command_line.specs.declared.orders.PlanOrder.{PlanOrder}
 use Rattle.command_line.specs.declared.orders.PlanOrder.TheVariants.{Fleet, Merge}
 use Rattle.command_line.specs.declared.orders.Order.TheVariants as order
+use Rattle.command_line.specs.declared.read_orders.ReadOrder.{ReadOrder}
+use Rattle.command_line.specs.declared.read_orders.ReadOrder.TheVariants as read
 use Rattle.host.specs.declared.answer.Answer.{Answer}
 use Rattle.host.specs.Input.{FileBytes}
+use Rattle.inspecting.specs.ReadingEnd.{AnswersReading}
+use Rattle.inspecting.specs.declared.inspection.Form.TheVariants as form
 use Rattle.boot_cli.specs.OrderEnd.{AnswersOrder}
 
 -- The writer took the JSON text of a value, and a line feed.
@@ -23,13 +27,6 @@ abbrev pub lists_devices : PlanOrder → Bool
 lists_devices (Fleet fleet requests is_summary) = not is_summary
 lists_devices (Merge summaries) = false
 
--- Whether the answer to an order is several objects: one for each reply of a run, or for each device
--- of a plan.
-abbrev pub is_by_lines : Order → Bool
-is_by_lines (order.Device asked) = true
-is_by_lines (order.Plan asked) = lists_devices asked
-is_by_lines _ = false
-
 -- The command wrote its own answer as a text, and the output took a JSON value.
 abbrev pub AnswersObject : Answer → Order → Option (List ℕ) → FileBytes → FileBytes
     → Option (List ℕ) → Option (List ℕ) → Type 0
@@ -37,13 +34,26 @@ AnswersObject answer asked input file then old new =
     (text : List ℕ) × AnswersOrder answer asked input file then (Some []) (Some text)
     × WritesValue old new
 
--- The answer to an order as JSON. Of several objects this says nothing: it says what the command did
--- with its files, as without JSON.
+-- Whether a read-only command lists the codes. The object of that list is made of its text.
+abbrev pub is_codes : ReadOrder → Bool
+is_codes read.Codes = true
+is_codes asked = false
+
+-- The answer to an order as JSON: of a read-only command the object of what it finds. Of several
+-- objects, one for each reply of a run or for each device
+-- of a plan, this says nothing: it says what the command did with its files, as without JSON.
 abbrev pub AnswersJson : Answer → Order → Option (List ℕ) → FileBytes → FileBytes
     → Option (List ℕ) → Option (List ℕ) → Type 0
-AnswersJson answer asked input file then old new = MatchBool (is_by_lines asked)
-    (AnswersOrder answer asked input file then None None)
-    (AnswersObject answer asked input file then old new)
+AnswersJson answer (order.Read asked) input file then old new = MatchBool (is_codes asked)
+    (AnswersObject answer (order.Read asked) input file then old new)
+    (AnswersReading form.Json answer asked input file old new)
+AnswersJson answer (order.Device asked) input file then old new =
+    AnswersOrder answer (order.Device asked) input file then None None
+AnswersJson answer (order.Plan asked) input file then old new = MatchBool (lists_devices asked)
+    (AnswersOrder answer (order.Plan asked) input file then None None)
+    (AnswersObject answer (order.Plan asked) input file then old new)
+AnswersJson answer asked input file then old new =
+    AnswersObject answer asked input file then old new
 
 -- The answer to an order, as JSON or as text.
 abbrev pub AnswersIn : Bool → Answer → Order → Option (List ℕ) → FileBytes → FileBytes

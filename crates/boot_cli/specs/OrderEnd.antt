@@ -14,6 +14,7 @@ use Rattle.creating.specs.NewImageEnd.{AnswersNewImage}
 use Rattle.creating.specs.NewManifestEnd.{AnswersNewManifest}
 use Rattle.inspecting.specs.PlanAnswers.{AnswersPlan}
 use Rattle.inspecting.specs.ReadingEnd.{AnswersReading}
+use Rattle.inspecting.specs.declared.inspection.Form.TheVariants as form
 use Rattle.device_commands.specs.CoreEnd.{AnswersCore}
 use Rattle.device_commands.specs.CoreEnd as core
 use Rattle.boot_cli.specs.SweepEnd.{AnswersSweep, KeepsInputs, KeepsOutputs}
@@ -45,7 +46,7 @@ AnswersOrder answer (order.Device asked) input file then old new =
 AnswersOrder answer (order.Plan asked) input file then old new =
     AnswersPlan answer asked input file old new
 AnswersOrder answer (order.Read asked) input file then old new =
-    AnswersReading answer asked input file old new
+    AnswersReading form.Text answer asked input file old new
 
 -- `sweep` keeps what it reads, also with `--merge`, whatever its answer. Other orders promise
 -- nothing here.

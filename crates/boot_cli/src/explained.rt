@@ -7,8 +7,8 @@ ghost use Rattle.boot_cli.specs.WordsEnd.{EndsByCut};
 use crate::commands::run_command;
 use crate::explained_plan::run_noted_plan;
 use crate::json::{
-    answer_devices, answer_noted_replies, layout_of, lists_devices, outcome_in_memory,
-    write_note_object, write_object,
+    answer_devices, answer_noted_inspection, answer_noted_replies, is_codes, layout_of,
+    lists_devices, outcome_in_memory, write_note_object, write_object,
 };
 use crate::until_failed::UntilFailed;
 use command_line::{Order, Request};
@@ -143,6 +143,12 @@ fn answer_noted<H: Host, O: Write, E: Write>(
             let outcome = answer_devices(alloc, order, true, host, out);
             explain_end(alloc, &request.order, &outcome, host, notes);
             outcome
+        }
+        Order::Read(order) if is_codes(order) => {
+            answer_noted_object(alloc, &request.order, host, out, err, notes)
+        }
+        Order::Read(order) => {
+            answer_noted_inspection(alloc, order, &request.order, host, out, notes)
         }
         _ => answer_noted_object(alloc, &request.order, host, out, err, notes),
     }

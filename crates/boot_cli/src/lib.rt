@@ -28,8 +28,6 @@ mod words;
 pub use arguments::{order, request};
 pub use command_line::{Order, OrderError, ReadOrder, Request};
 pub use host::{Access, Answer, FilePart, FlashFault, Host, Refusal, Replaced};
-pub use inspecting::{
-    ChooseEnd, FlashText, check_over, choose_over, describe_over, flash_text_over, tell_over,
-};
+pub use inspecting::{ChooseEnd, choose_over};
 pub use program::{cli, run_order};
 pub use words::note_reading;

@@ -8,7 +8,8 @@ use crate::commands::run_command;
 use crate::explained::run_explained;
 use crate::hint::hint_at_notes;
 use crate::json::{
-    answer_devices, answer_replies, layout_of, lists_devices, outcome_in_memory, write_object,
+    answer_devices, answer_inspection, answer_replies, is_codes, layout_of, lists_devices,
+    outcome_in_memory, write_object,
 };
 use crate::until_failed::UntilFailed;
 use crate::words::request_in;
@@ -105,6 +106,14 @@ fn answer_request<H: Host, O: Write, E: Write>(
         Order::Plan(ref order) if lists_devices(order) => {
             answer_devices(alloc, order, false, host, out)
         }
+        Order::Read(order) if is_codes(order) => answer_object(
+            alloc,
+            &request.order,
+            host,
+            out,
+            err,
+        ),
+        Order::Read(order) => answer_inspection(alloc, order, host, out),
         _ => answer_object(alloc, &request.order, host, out, err),
     }
 }

@@ -1,8 +1,11 @@
-mod AnswerLaws
+mod CheckLaws
 mod CutLaws
+mod DeviceFileLaws
 mod DeviceLaws
-mod FlashTextLaws
 mod FleetReadingLaws
+mod InspectionLaws
+mod JsonLaws
+mod JsonWholeLaws
 mod MergingLaws
 mod PlanEndLaws
 mod PlanLaws
@@ -13,6 +16,5 @@ mod SlotLaws
 mod SourceLaws
 mod SummaryLaws
 mod TextLaws
-mod WrittenLaws
 pub mod PlanAnswerLaws
 pub mod ReadingLaws

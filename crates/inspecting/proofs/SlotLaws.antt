@@ -1,5 +1,6 @@
 -- The slots of images that are found one by one.
-use Rattle.std.proofs.Common.{ℕ, ◌+◌, List, [], ◌∷◌, ◌++◌, subst, sym}
+use Rattle.std.proofs.Common.{ℕ, ◌+◌, ◌≡◌, ◌∙◌, List, [], ◌∷◌, ◌++◌, ap, map, subst, sym}
+use Rattle.std.proofs.lemmas.List.{map-append}
 use Rattle.std.specs.List.{AllZip, range_with_len}
 use Rattle.common.proofs.Mapped.{AllZip-push}
 use Rattle.flash_model.specs.Chip.{Chip}
@@ -8,6 +9,11 @@ use Rattle.set_log.specs.declared.state.State.{State}
 use Rattle.inspecting.specs.SlotsFound.{AreSlotsOf, AreSlotsUpTo}
 use Rattle.inspecting.specs.declared.slots_found.ImageSlots.{ImageSlots}
 use Rattle.device_texts.proofs.TextLaws.{range-more}
+
+-- A value of one more image is found.
+pub mapped-more : {A : Type 0} (of : ℕ → A) (n : ℕ)
+    → map of (range_with_len 0 (n + 1)) ≡ map of (range_with_len 0 n) ++ of n ∷ []
+mapped-more of n = ap (map of) (range-more n) ∙ map-append of (range_with_len 0 n) (n ∷ [])
 
 -- The slots of one more image are found.
 pub AreSlotsUpTo-more : (map : SectorMap) (chip : Chip) (state : State) (n : ℕ) (all : List ImageSlots)

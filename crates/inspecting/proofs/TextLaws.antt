@@ -4,7 +4,6 @@ use Rattle.std.proofs.lemmas.List.{flat_map_more, take_more}
 use Rattle.common.specs.Lines.{◌␣◌, printed_lines}
 use Rattle.device_texts.specs.AnswerText.{line_text}
 use Rattle.device_texts.proofs.TextLaws.{flat_map-range_more}
-use Rattle.inspecting.specs.StateText.{image_lines}
 
 -- The text of one more element is a line of its own.
 pub printed-more : {A : Type 0} (text_of : A → List ℕ) (xs : List A) (i : ℕ) (d : A) → i < length xs
@@ -32,10 +31,3 @@ pub description-in_a_row : (v version n l size c counter d digest needs groups :
     → (v ++ (version ++ (n ++ (l ++ (size ++ (n ++ (c ++ (counter ++ (n ++ (d ++ (digest ++ n))))))))))) ++ (needs ++ groups)
     ≡ (v ++ (version ++ n)) ++ ((l ++ (size ++ n)) ++ ((c ++ (counter ++ n)) ++ ((d ++ (digest ++ n)) ++ (needs ++ groups))))
 description-in_a_row v version n l size c counter d digest needs groups = simp append_assoc
-
--- The line of one more image is added part by part.
-pub image_lines-more : (word : List ℕ) (said : ℕ → List ℕ) (before : List ℕ) (n : ℕ)
-    → (before ++ image_lines word said n) ++ (word ++ (32 ∷ (decimal n ++ (32 ∷ (said n ++ 10 ∷ [])))))
-    ≡ before ++ image_lines word said (n + 1)
-image_lines-more word said before n =
-    rw (flat_map-range_more (λ image. line_text word (decimal image ␣ said image)) n) (simp append_assoc)

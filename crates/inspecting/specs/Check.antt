@@ -1,17 +1,15 @@
--- What `check` writes for a table and a report, by its result.
-use Rattle.std.specs.Prelude.{◌≡◌, ℕ, List, [], ◌∷◌, ◌++◌, Option, Result, Err, codes}
-use Rattle.std.specs.Io.KnownBytes.{Keeps}
+-- What `check` finds in a table and a report.
+use Rattle.std.specs.Prelude.{◌≡◌, ℕ, Bool, true, false, List, [], ◌∷◌, ◌++◌, Result, Ok, Err, codes, if◌then◌else◌}
 use Rattle.certificate.specs.declared.table.Table.{Table}
 use Rattle.certificate.specs.declared.report.Report.{Report}
 use Rattle.common.specs.Lines.{IsFirstBadLine}
 use Rattle.certificate.specs.TableText.{IsTableText, IsSomeTable}
 use Rattle.certificate.specs.ReportText.{IsReportText, IsSomeReport}
 use Rattle.certificate.specs.Rightness.{IsRight}
-use Rattle.host.specs.declared.answer.Answer.{Answer}
-use Rattle.host.specs.declared.answer.Answer.TheVariants.{Done, Refused, Cut}
 use Rattle.host.specs.declared.error.Refusal.{Refusal}
-use Rattle.host.specs.declared.error.Refusal.TheVariants.{TableLine, ReportLine, NoMemory}
-use Rattle.inspecting.specs.Written.{WritesAnswer}
+use Rattle.host.specs.declared.error.Refusal.TheVariants.{TableLine, ReportLine}
+use Rattle.inspecting.specs.declared.inspection.Inspection.{Inspection}
+use Rattle.inspecting.specs.declared.inspection.Inspection.TheVariants as found
 
 -- The texts spell a table and a report that is right for it.
 pub record IsRightText (table_text report_text : List ℕ) (table : Table) (report : Report)
@@ -30,27 +28,32 @@ abbrev pub AreWrong : List ℕ → List ℕ → Type 0
 AreWrong table_text report_text =
     IsSomeTable table_text × IsSomeReport report_text × (AreRight table_text report_text → ⊥)
 
--- The lines of the verdict. A line feed is 10.
-abbrev pub yes_text : List ℕ
-yes_text = codes "yes" ++ 10 ∷ []
+-- The line of the verdict. A line feed is 10.
+abbrev pub verdict_text : Bool → List ℕ
+verdict_text is_right = (if is_right then codes "yes" else codes "no") ++ 10 ∷ []
 
-abbrev pub no_text : List ℕ
-no_text = codes "no" ++ 10 ∷ []
+-- The result of reading a table: the table that the bytes spell, and no other; or the first bad
+-- line.
+abbrev pub ReadsTable : Result Table Refusal → List ℕ → Type 0
+ReadsTable (Ok table) bytes =
+    IsTableText bytes table × ((other : Table) → IsTableText bytes other → table ≡ other)
+ReadsTable (Err (TableLine n)) bytes = IsFirstBadLine IsSomeTable bytes n
+ReadsTable (Err refusal) bytes = ⊥
 
--- The verdict on these texts. The answer is `Done` for yes and `Refused` for no.
-abbrev pub IsVerdict : List ℕ → List ℕ → Answer → List ℕ → Type 0
-IsVerdict table report Done verdict = AreRight table report × (verdict ≡ yes_text)
-IsVerdict table report Refused verdict = AreWrong table report × (verdict ≡ no_text)
-IsVerdict table report Cut verdict = ⊥
+-- A report that the bytes spell is right for this table.
+abbrev pub IsRightFor : Table → List ℕ → Type 0
+IsRightFor table bytes = (report : Report) × IsReportText bytes report × IsRight table report
 
--- What a writer takes, by the result of checking these texts. It takes nothing if one of them isn't
--- such a text; the table is checked first. Else it takes the verdict, which needs no memory.
-abbrev pub WritesVerdict : Result Answer Refusal → List ℕ → List ℕ
-    → Option (List ℕ) → Option (List ℕ) → Type 0
-WritesVerdict (Err (TableLine n)) table report old new =
-    IsFirstBadLine IsSomeTable table n × Keeps old new
-WritesVerdict (Err (ReportLine n)) table report old new =
-    IsSomeTable table × IsFirstBadLine IsSomeReport report n × Keeps old new
-WritesVerdict (Err NoMemory) table report old new = ⊥
-WritesVerdict result table report old new =
-    WritesAnswer (IsVerdict table report) result old new
+-- The result of checking a report: whether the report that the bytes spell is right for this table;
+-- or the first bad line.
+abbrev pub ChecksReport : Result Bool Refusal → Table → List ℕ → Type 0
+ChecksReport (Ok true) table bytes = IsRightFor table bytes
+ChecksReport (Ok false) table bytes = IsSomeReport bytes × (IsRightFor table bytes → ⊥)
+ChecksReport (Err (ReportLine n)) table bytes = IsFirstBadLine IsSomeReport bytes n
+ChecksReport (Err refusal) table bytes = ⊥
+
+-- What `check` finds in these texts.
+abbrev pub IsVerdict : List ℕ → List ℕ → Inspection → Type 0
+IsVerdict table report (found.Verdict true) = AreRight table report
+IsVerdict table report (found.Verdict false) = AreWrong table report
+IsVerdict table report it = ⊥

@@ -1,6 +1,6 @@
 -- What `choose` reads and writes, by its result.
 use Rattle.std.specs.Prelude.{◌≡◌, ℕ, List, Option, Result, Ok, Err}
-use Rattle.std.specs.Io.KnownBytes.{Keeps, Consumes, IsAtEnd}
+use Rattle.std.specs.Io.KnownBytes.{Appends, Keeps, Consumes, IsAtEnd}
 use Rattle.certificate.specs.declared.table.Table.{Table}
 use Rattle.certificate.specs.declared.report.Report.{Report}
 use Rattle.common.specs.Lines.{IsFirstBadLine}
@@ -9,12 +9,12 @@ use Rattle.certificate.specs.Combination.{IsValid, running_set}
 use Rattle.certificate.specs.Rightness.{IsRight}
 use Rattle.certificate.specs.StandardOrder.{IsInStandardOrder}
 use Rattle.certificate.specs.ReportText.{report_text, IsReportText}
-use Rattle.host.specs.declared.answer.Answer.{Answer}
-use Rattle.host.specs.declared.answer.Answer.TheVariants as ok
-use Rattle.host.specs.declared.error.Refusal.{Refusal}
-use Rattle.host.specs.declared.error.Refusal.TheVariants as no
-use Rattle.inspecting.specs.Written.{WritesAnswer}
+use Rattle.inspecting.specs.Written.{TakesPrefix}
 use Rattle.inspecting.specs.declared.choose.ChooseEnd.{ChooseEnd}
+use Rattle.inspecting.specs.declared.choose.NoChoice.{NoChoice}
+use Rattle.inspecting.specs.declared.choose.NoChoice.TheVariants as no
+use Rattle.inspecting.specs.declared.inspection.Inspection.{Inspection}
+use Rattle.inspecting.specs.declared.inspection.Inspection.TheVariants as found
 use Rattle.inspecting.specs.declared.choose.ChooseEnd.TheVariants.{Done, BadLine, NotValid, NoMemory, ReadFailed, WriteFailed}
 
 -- The bytes spell a table whose running images fit each other. The report is right for it, and has
@@ -31,22 +31,21 @@ abbrev pub IsUnfitTable : List ℕ → Type 0
 IsUnfitTable bytes =
     (table : Table) × IsTableText bytes table × (IsValid table running_set → ⊥)
 
--- The text is the report on the table that the bytes spell. The answer is always `Done`.
-abbrev pub IsChoiceText : List ℕ → Answer → List ℕ → Type 0
-IsChoiceText bytes ok.Done text =
-    (table : Table) × (report : Report) × IsChoice bytes table report
-    × (text ≡ report_text report)
-IsChoiceText bytes ok.Refused text = ⊥
-IsChoiceText bytes ok.Cut text = ⊥
+-- The report is the choice over the table that the bytes spell.
+abbrev pub IsChosen : List ℕ → Report → Type 0
+IsChosen bytes report = (table : Table) × IsChoice bytes table report
 
--- What a writer takes, by the result of the choice over these bytes. It takes nothing if they are
--- no table with a valid running set, else the report.
-abbrev pub WritesChoice : Result Answer Refusal → List ℕ
-    → Option (List ℕ) → Option (List ℕ) → Type 0
-WritesChoice (Err (no.TableLine n)) bytes old new =
-    IsFirstBadLine IsSomeTable bytes n × Keeps old new
-WritesChoice (Err no.NotValid) bytes old new = IsUnfitTable bytes × Keeps old new
-WritesChoice result bytes old new = WritesAnswer (IsChoiceText bytes) result old new
+-- The result of the choice over these bytes: the report; or the first bad line, or that the running
+-- images don't fit each other.
+abbrev pub Chooses : Result Report NoChoice → List ℕ → Type 0
+Chooses (Ok report) bytes = IsChosen bytes report
+Chooses (Err (no.BadLine n)) bytes = IsFirstBadLine IsSomeTable bytes n
+Chooses (Err no.NotValid) bytes = IsUnfitTable bytes
+
+-- What `choose` finds.
+abbrev pub IsChoiceIn : List ℕ → Inspection → Type 0
+IsChoiceIn bytes (found.Choice report) = IsChosen bytes report
+IsChoiceIn bytes it = ⊥
 
 -- A reader gave these bytes, and is at its end.
 abbrev pub GivesAll : Option (List ℕ) → Option (List ℕ) → List ℕ → Type 0
@@ -62,11 +61,14 @@ Reads (BadLine n) old new bytes = GivesAll old new bytes
 Reads NotValid old new bytes = GivesAll old new bytes
 Reads WriteFailed old new bytes = GivesAll old new bytes
 
--- What a writer took, by the end of the choice over these bytes.
+-- What a writer took, by the end of the choice over these bytes: the report, or a prefix of it if a
+-- write failed, and else nothing.
 abbrev pub Writes : ChooseEnd → List ℕ → Option (List ℕ) → Option (List ℕ) → Type 0
-Writes Done bytes old new = WritesChoice (Ok ok.Done) bytes old new
-Writes (BadLine n) bytes old new = WritesChoice (Err (no.TableLine n)) bytes old new
-Writes NotValid bytes old new = WritesChoice (Err no.NotValid) bytes old new
-Writes NoMemory bytes old new = WritesChoice (Err no.NoMemory) bytes old new
+Writes Done bytes old new =
+    (report : Report) × IsChosen bytes report × Appends old new (report_text report)
+Writes (BadLine n) bytes old new = IsFirstBadLine IsSomeTable bytes n × Keeps old new
+Writes NotValid bytes old new = IsUnfitTable bytes × Keeps old new
+Writes NoMemory bytes old new = Keeps old new
 Writes ReadFailed bytes old new = Keeps old new
-Writes WriteFailed bytes old new = WritesChoice (Err no.CannotWrite) bytes old new
+Writes WriteFailed bytes old new =
+    (report : Report) × IsChosen bytes report × TakesPrefix (report_text report) old new

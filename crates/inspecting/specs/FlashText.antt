@@ -1,21 +1,24 @@
--- What `show` and `slots` write about a flash, by their result.
-use Rattle.std.specs.Prelude.{ℕ, List, Option, Result}
+-- What `show` and `slots` find on a flash.
+use Rattle.std.specs.Prelude.{◌≡◌, Option, None, Some}
 use Rattle.flash_model.specs.Chip.{Chip}
 use Rattle.sector_map.specs.declared.layout.SectorMap.{SectorMap}
-use Rattle.host.specs.declared.answer.Answer.{Answer}
-use Rattle.host.specs.declared.error.Refusal.{Refusal}
-use Rattle.inspecting.specs.Show.{IsShownText}
-use Rattle.inspecting.specs.Slots.{IsListing}
-use Rattle.inspecting.specs.Written.{WritesAnswer}
+use Rattle.set_log.specs.declared.state.State.{State}
+use Rattle.set_log.specs.Log.{state_of}
+use Rattle.inspecting.specs.FlashState.{IsFlashState}
+use Rattle.inspecting.specs.SlotsFound.{AreFound}
 use Rattle.inspecting.specs.declared.flash_text.FlashText.{FlashText}
-use Rattle.inspecting.specs.declared.flash_text.FlashText.TheVariants.{State, Slots}
+use Rattle.inspecting.specs.declared.flash_text.FlashText.TheVariants as what
+use Rattle.inspecting.specs.declared.inspection.Inspection.{Inspection}
+use Rattle.inspecting.specs.declared.inspection.Inspection.TheVariants as found
 
--- The text of each answer of this command.
-abbrev pub IsFlashText : FlashText → SectorMap → Chip → Answer → List ℕ → Type 0
-IsFlashText State = IsShownText
-IsFlashText Slots = IsListing
+-- What is found on a flash whose log has this state, or none.
+abbrev pub IsFoundFor : FlashText → SectorMap → Chip → Option State → Inspection → Type 0
+IsFoundFor asked map chip None found.NoState = Unit {0}
+IsFoundFor what.State map chip (Some held) (found.State state) = IsFlashState map chip held state
+IsFoundFor what.Slots map chip (Some held) (found.Slots state slots) =
+    IsFlashState map chip held state × AreFound map chip held slots
+IsFoundFor asked map chip held it = ⊥
 
--- What a writer takes, by the result of the command.
-abbrev pub WritesFlash : FlashText → Result Answer Refusal → SectorMap → Chip
-    → Option (List ℕ) → Option (List ℕ) → Type 0
-WritesFlash text result map chip old new = WritesAnswer (IsFlashText text map chip) result old new
+-- What is found on a flash.
+abbrev pub IsFoundOn : FlashText → SectorMap → Chip → Inspection → Type 0
+IsFoundOn asked map chip it = IsFoundFor asked map chip (state_of map chip) it

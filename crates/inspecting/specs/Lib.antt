@@ -3,9 +3,12 @@ pub mod Bounded
 pub mod Check
 pub mod Choose
 pub mod Describe
+pub mod FlashState
 pub mod FlashText
 pub mod Fleet
 pub mod ImageText
+pub mod Inspection
+pub mod Json
 pub mod Key
 pub mod ManifestFile
 pub mod ManifestText
@@ -21,7 +24,6 @@ pub mod Requested
 pub mod Requests
 pub mod Row
 pub mod Rows
-pub mod Show
 pub mod Slots
 pub mod SlotsFound
 pub mod SlotsText

@@ -1,30 +1,42 @@
--- The answer to an order of a read-only command.
-use Rattle.std.specs.Prelude.{ℕ, List, Option}
+-- What a read-only command finds for its order, and what it writes.
+use Rattle.std.specs.Prelude.{◌≡◌, ℕ, List, Option}
+use Rattle.std.specs.Io.KnownBytes.{Appends}
 use Rattle.command_line.specs.declared.read_orders.ReadOrder.{ReadOrder}
 use Rattle.command_line.specs.declared.read_orders.ReadOrder.TheVariants as order
 use Rattle.host.specs.declared.answer.Answer.{Answer}
 use Rattle.host.specs.declared.source.Source.{Source}
 use Rattle.host.specs.Input.{AreNamed, FileBytes, IsNamed}
-use Rattle.inspecting.specs.Answers.{AnswersCheck, AnswersChoice, AnswersCodes, AnswersDescription, AnswersManifest, AnswersShow, AnswersSlots}
+use Rattle.inspecting.specs.Answers.{FindsChoice, FindsDescription, FindsManifest, FindsOnFlash, FindsVerdict}
+use Rattle.inspecting.specs.FlashText.{IsFoundOn}
+use Rattle.inspecting.specs.Inspection.{answer_of, written}
+use Rattle.inspecting.specs.declared.flash_text.FlashText.TheVariants.{Slots, State}
+use Rattle.inspecting.specs.declared.inspection.Form.{Form}
+use Rattle.inspecting.specs.declared.inspection.Inspection.{Inspection}
+use Rattle.inspecting.specs.declared.inspection.Inspection.TheVariants as found
 
--- The meaning of the answer to an order of this command.
-abbrev pub AnswersReading : Answer → ReadOrder → Option (List ℕ) → FileBytes
-    → Option (List ℕ) → Option (List ℕ) → Type 0
-AnswersReading answer (order.Choose table) input file old new =
-    (source : Source) × IsNamed table.now source × AnswersChoice answer source input file old new
-AnswersReading answer (order.Check table report) input file old new =
+-- What the command of an order finds.
+abbrev pub Finds : ReadOrder → Option (List ℕ) → FileBytes → Inspection → Type 0
+Finds (order.Choose table) input files it =
+    (source : Source) × IsNamed table.now source × FindsChoice source input files it
+Finds (order.Check table report) input files it =
     (one other : Source) × AreNamed table.now report.now one other
-    × AnswersCheck answer one other input file old new
-AnswersReading answer (order.Image image) input file old new =
-    (source : Source) × IsNamed image.now source
-    × AnswersDescription answer source input file old new
-AnswersReading answer (order.Manifest device named) input file old new =
+    × FindsVerdict one other input files it
+Finds (order.Image image) input files it =
+    (source : Source) × IsNamed image.now source × FindsDescription source input files it
+Finds (order.Manifest device named) input files it =
     (one other : Source) × AreNamed device.now named.now one other
-    × AnswersManifest answer one other input file old new
-AnswersReading answer (order.Show device flash) input file old new =
+    × FindsManifest one other input files it
+Finds (order.Show device flash) input files it =
     (one other : Source) × AreNamed device.now flash.now one other
-    × AnswersShow answer one other input file old new
-AnswersReading answer (order.Slots device flash) input file old new =
+    × FindsOnFlash (IsFoundOn State) one other input files it
+Finds (order.Slots device flash) input files it =
     (one other : Source) × AreNamed device.now flash.now one other
-    × AnswersSlots answer one other input file old new
-AnswersReading answer order.Codes input file old new = AnswersCodes answer old new
+    × FindsOnFlash (IsFoundOn Slots) one other input files it
+Finds order.Codes input files it = it ≡ found.Codes
+
+-- What was found was written in this form. A JSON object may have notes.
+abbrev pub AnswersReading : Form → Answer → ReadOrder → Option (List ℕ) → FileBytes
+    → Option (List ℕ) → Option (List ℕ) → Type 0
+AnswersReading form answer asked input files old new =
+    (it : Inspection) × (notes : List (List ℕ)) × Finds asked input files it
+    × (answer ≡ answer_of it) × Appends old new (written form notes it)

@@ -1,29 +1,33 @@
-//! `bootswap choose`: decides over a table, and writes the report.
+//! `bootswap choose`: decides over a table.
 ghost use Rattle.std.specs.Prelude.{ℕ, List, IfOk};
-ghost use Rattle.inspecting.specs.Answers.{AnswersChoice};
-ghost use Rattle.inspecting.specs.Choose.{Reads, Writes, WritesChoice};
+ghost use Rattle.inspecting.specs.Answers.{FindsChoice};
+ghost use Rattle.inspecting.specs.Choose.{Chooses, Reads, Writes};
 
 use crate::answer::write_answer;
+use crate::inspection::Inspection;
 use crate::reading::{ReadError, read_all};
 use crate::table_input::{Text, read_text};
-use certificate::{Table, is_valid, right_reports_have_a_text};
+use certificate::{Report, Table, is_valid, right_reports_have_a_text};
 use chooser::choose;
 use host::{Answer, Host, Refusal, Source};
 use std::alloc::Global;
 use std::io::{Read, Write};
 
-/// Reads a table from `host` into memory of `alloc`, and writes the report on it to `out`.
-pub fn run_choose<H: Host, O: Write>(
+/// Reads a table from `host` into memory of `alloc`, and returns the report on it.
+pub fn inspect_table<H: Host>(
     alloc: Global,
     table: Source<'_>,
     host: &mut H,
-    out: &mut O,
-) -> Result<Answer, Refusal>
-    ensures { IfOk result (λ answer. AnswersChoice answer table.entry
-        (H.input host.old) (H.file host.old) (O.contents out.old) (O.contents out.new)) }
+) -> Result<Inspection, Refusal>
+    ensures { IfOk result (λ found. FindsChoice table.entry
+        (H.input host.old) (H.file host.old) found) }
 {
     let bytes = read_text(alloc, Text::Table, table, host)?;
-    write_choice(alloc, &bytes, out)
+    match choice_in(&bytes) {
+        Ok(report) => Ok(Inspection::Choice(report)),
+        Err(NoChoice::BadLine(line)) => Err(Refusal::TableLine(line)),
+        Err(NoChoice::NotValid) => Err(Refusal::NotValid),
+    }
 }
 
 /// How a choice over a reader and a writer ended.
@@ -58,32 +62,38 @@ pub fn choose_over<R: Read, W: Write>(alloc: Global, input: &mut R, out: &mut W)
         Err(ReadError::NoMemory) => return ChooseEnd::NoMemory,
         Err(ReadError::Failed) => return ChooseEnd::ReadFailed,
     };
-    match write_choice(alloc, &bytes, out) {
+    let report = match choice_in(&bytes) {
+        Ok(report) => report,
+        Err(NoChoice::BadLine(line)) => return ChooseEnd::BadLine(line),
+        Err(NoChoice::NotValid) => return ChooseEnd::NotValid,
+    };
+    match write_answer(Answer::Done, format!(in alloc; "{report}"), out) {
         Ok(_) => ChooseEnd::Done,
-        Err(Refusal::TableLine(line)) => ChooseEnd::BadLine(line),
-        Err(Refusal::NotValid) => ChooseEnd::NotValid,
         Err(Refusal::NoMemory) => ChooseEnd::NoMemory,
         Err(_) => ChooseEnd::WriteFailed,
     }
 }
 
-/// Writes to `out` the report on the table that `bytes` spell. The report is made in memory of
-/// `alloc`.
-///
-/// # Errors
-/// `TableLine` if the bytes aren't a table, `NotValid` if its running images don't fit each other,
-/// `NoMemory` if memory runs out. Then nothing is written. `CannotWrite` if a write fails.
-fn write_choice<W: Write>(alloc: Global, bytes: &[u8], out: &mut W) -> Result<Answer, Refusal>
-    ensures { WritesChoice result bytes.now (W.contents out.old) (W.contents out.new) }
+/// Why there is no choice over a text.
+#[derive(Clone, Copy, Debug)]
+pub enum NoChoice {
+    /// It isn't a table. The number, from 1, is that of the first line that no table continues from.
+    BadLine(usize),
+    /// It is a table whose running images don't fit each other.
+    NotValid,
+}
+
+/// Returns the report on the table that `bytes` spell. Does not allocate.
+pub fn choice_in(bytes: &[u8]) -> Result<Report, NoChoice>
+    ensures { Chooses result bytes.now }
 {
     let table = match Table::parse(bytes) {
         Ok(table) => table,
-        Err(bad) => return Err(Refusal::TableLine(bad.0)),
+        Err(bad) => return Err(NoChoice::BadLine(bad.0)),
     };
     if !is_valid(&table) {
-        return Err(Refusal::NotValid);
+        return Err(NoChoice::NotValid);
     }
-    let report = choose(&table);
     right_reports_have_a_text();
-    write_answer(Answer::Done, format!(in alloc; "{report}"), out)
+    Ok(choose(&table))
 }

@@ -5,9 +5,9 @@ ghost use Rattle.inspecting.specs.Answers.{ReadsDeviceFlash};
 
 use device_texts::DeviceFile;
 use host::{Access, Host, Refusal, Source};
-use inputs::{read_device, read_flash};
+use inputs::{device_or_fault, read_flash};
+use sector_map::MapError;
 use std::alloc::Global;
-use std::io::Write;
 
 /// A device, and the bytes of its flash.
 #[derive(Drop)]
@@ -17,23 +17,23 @@ pub(crate) struct DeviceFlash {
 }
 
 /// Reads a device file and the bytes of the device's flash from `host` into memory of `alloc`. If
-/// the sizes of the device file make no map, that is written to `out`, and `None` is returned; the
-/// flash isn't read then. No file changes, and the flash is opened only for reading.
-pub(crate) fn read_device_flash<H: Host, O: Write>(
+/// the sizes of the device file make no map, the reason is returned, and the flash isn't read. No
+/// file changes, and the flash is opened only for reading.
+pub(crate) fn read_device_flash<H: Host>(
     alloc: Global,
     device: Source<'_>,
     flash: Source<'_>,
     host: &mut H,
-    out: &mut O,
-) -> Result<Option<DeviceFlash>, Refusal>
+) -> Result<Result<DeviceFlash, MapError>, Refusal>
     ensures read { IfOk result (λ read. ReadsDeviceFlash read device.entry flash.entry
-        (H.input host.old) (H.file host.old) (O.contents out.old) (O.contents out.new)) }
+        (H.input host.old) (H.file host.old)) }
     ensures files { KeepsFiles (H.file host.old) (H.file host.new) }
     ensures to_read { (H.opened host.new).to_write ≡ (H.opened host.old).to_write }
 {
-    let Some(device) = read_device(alloc, device, host, out)? else {
-        return Ok(None);
+    let device = match device_or_fault(alloc, device, host)? {
+        Ok(device) => device,
+        Err(fault) => return Ok(Err(fault)),
     };
     let bytes = read_flash(alloc, flash, &device.map, Access::Read, host)?;
-    Ok(Some(DeviceFlash { device, bytes }))
+    Ok(Ok(DeviceFlash { device, bytes }))
 }

@@ -1,25 +1,23 @@
-//! `bootswap show` and `bootswap slots`: print the state of a device from its flash.
+//! `bootswap show` and `bootswap slots`: find the state of a device on its flash.
 ghost use Rattle.std.specs.Prelude.{◌≡◌, IfOk};
 ghost use Rattle.flash_model.specs.Blanks.{IsBlankOf};
 ghost use Rattle.device_texts.specs.FlashOf.{IsFlashOf, flash_of};
 ghost use Rattle.host.specs.Input.{KeepsFiles};
-ghost use Rattle.inspecting.specs.Answers.{AnswersForFlash};
-ghost use Rattle.inspecting.specs.FlashText.{IsFlashText, WritesFlash};
+ghost use Rattle.inspecting.specs.Answers.{FindsOnFlash};
+ghost use Rattle.inspecting.specs.FlashText.{IsFoundOn};
 
-use crate::answer::write_answer;
 use crate::device_flash::read_device_flash;
-use crate::show::{stand_text, state_on};
-use crate::slots::{answer_to, listing_text};
+use crate::flash_state::{find_state, state_on};
+use crate::inspection::Inspection;
 use crate::slots_found::find_slots;
 use device_texts::flash_of;
-use host::{Answer, Host, Refusal, Source};
+use host::{Host, Refusal, Source};
 use sector_map::SectorMap;
-use std::alloc::Global;
-use std::io::Write;
+use std::alloc::{AllocError, Global};
 use std::marker::Brand;
 use std::sync::ledger::{Blank, Ledger};
 
-/// What to write about a flash.
+/// What to find on a flash.
 #[derive(Clone, Copy)]
 pub enum FlashText {
     /// The state of its log, and what its trailers ask of the next boot.
@@ -30,68 +28,62 @@ pub enum FlashText {
 }
 
 /// Reads a device file and the bytes of the device's flash from `host` into memory of `alloc`, and
-/// writes `text` about the flash to `out`.
+/// returns `what` is on the flash.
 ///
-/// The device file is checked before the flash is read. If its sizes make no map, that is written
+/// The device file is checked before the flash is read. If its sizes make no map, that is returned
 /// instead. No file changes, and the flash is opened only for reading.
-pub fn run_flash_text<H: Host, O: Write>(
+pub fn inspect_flash<H: Host>(
     alloc: Global,
-    text: FlashText,
+    what: FlashText,
     device: Source<'_>,
     flash: Source<'_>,
     host: &mut H,
-    out: &mut O,
-) -> Result<Answer, Refusal>
-    ensures answers { IfOk result (λ answer. AnswersForFlash (IsFlashText text) answer
-        device.entry flash.entry (H.input host.old) (H.file host.old)
-        (O.contents out.old) (O.contents out.new)) }
+) -> Result<Inspection, Refusal>
+    ensures found { IfOk result (λ found. FindsOnFlash (IsFoundOn what)
+        device.entry flash.entry (H.input host.old) (H.file host.old) found) }
     ensures files { KeepsFiles (H.file host.old) (H.file host.new) }
     ensures to_read { (H.opened host.new).to_write ≡ (H.opened host.old).to_write }
 {
-    let Some(found) = read_device_flash(alloc, device, flash, host, out)? else {
-        return Ok(Answer::Refused);
-    };
-    let map = found.device.map;
-    flash_text_over::<Brand, O>(alloc, Blank::new(2), &map, found.bytes, text, out)
+    match read_device_flash(alloc, device, flash, host)? {
+        Ok(read) => {
+            let map = read.device.map;
+            match found_on::<Brand>(alloc, Blank::new(2), &map, read.bytes, what) {
+                Ok(found) => Ok(found),
+                Err(AllocError) => Err(Refusal::NoMemory),
+            }
+        }
+        Err(fault) => Ok(Inspection::RefusedMap(fault)),
+    }
 }
 
-/// Writes `text` about a flash of these bytes to `out`, and answers `Done`. If its log has no
-/// state, it writes only that, and answers `Refused`. It also answers `Refused` if the next boot
-/// that it writes about would be refused.
+/// Returns `what` is on a flash of these bytes: the state of the device and what else is asked for,
+/// or that the log has no state.
 ///
-/// The text is made in memory of `alloc` before it is written. `blank` is a ledger's token of two
-/// parts, as `Blank::new(2)` makes it.
+/// `blank` is a ledger's token of two parts, as `Blank::new(2)` makes it.
 ///
 /// # Errors
-/// `NoMemory` if memory runs out. Then nothing is written. `CannotWrite` if a write fails. Then
-/// `out` has taken a prefix of the text.
-pub fn flash_text_over<L: Ledger, W: Write>(
+/// `AllocError` if memory of `alloc` runs out.
+pub fn found_on<L: Ledger>(
     alloc: Global,
     blank: Blank,
     map: &SectorMap,
     bytes: Vec<u8>,
-    text: FlashText,
-    out: &mut W,
-) -> Result<Answer, Refusal>
+    what: FlashText,
+) -> Result<Inspection, AllocError>
     requires blank { IsBlankOf blank L.name L.parts 2 }
     requires whole { IsFlashOf map.now bytes.items }
-    ensures { WritesFlash text result map.now (flash_of map.now bytes.items)
-        (W.contents out.old) (W.contents out.new) }
+    ensures { IfOk result (λ found. IsFoundOn what map.now (flash_of map.now bytes.items) found) }
 {
     let mut flash = flash_of::<L>(alloc, blank, map, bytes);
     let Some(state) = state_on(&mut flash, map) else {
-        let none = stand_text(alloc, &mut flash, map, None);
-        return write_answer(Answer::Refused, none, out);
+        return Ok(Inspection::NoState);
     };
-    match text {
-        FlashText::State => {
-            let shown = stand_text(alloc, &mut flash, map, Some(state));
-            write_answer(Answer::Done, shown, out)
-        }
+    let found = find_state(alloc, &mut flash, map, state)?;
+    Ok(match what {
+        FlashText::State => Inspection::State(found),
         FlashText::Slots => {
-            let found = find_slots(&mut flash, map, &state);
-            let listing = listing_text(alloc, &mut flash, map, state, &found);
-            write_answer(answer_to(&found.decision), listing, out)
+            let slots = find_slots(&mut flash, map, &found.state);
+            Inspection::Slots(found, slots)
         }
-    }
+    })
 }

@@ -1,53 +1,43 @@
-//! `bootswap image`: prints the description of an image, or the check that it fails.
+//! `bootswap image`: finds and prints the description of an image, or the check that it fails.
 ghost use Rattle.std.specs.Fmt.{WritesOnOk};
 ghost use Rattle.std.specs.Prelude.{◌≡◌, IfOk, Some, string_bytes};
-ghost use Rattle.inspecting.specs.Answers.{AnswersDescription};
-ghost use Rattle.inspecting.specs.Describe.{WritesDescription};
+ghost use Rattle.inspecting.specs.Answers.{FindsDescription};
+ghost use Rattle.inspecting.specs.Describe.{IsDescribed};
 ghost use Rattle.inspecting.specs.ImageText.{described_text, description_text, refusal_text};
 ghost use Rattle.certificate.specs.DependencyText.{needs_one_text, needs_text};
 ghost use Rattle.common.specs.Lines.{printed_lines};
 
-use crate::answer::write_answer;
+use crate::inspection::Inspection;
 use certificate::{Needs, NeedsOne};
 use device_texts::refused_text;
-use host::{Answer, Host, MOST_FILE, Refusal, Source};
+use host::{Host, MOST_FILE, Refusal, Source};
 use image_reading::{Desc, ImageError, describe};
 use std::alloc::{AllocError, Global};
 use std::fmt;
-use std::io::Write;
 use version_order::{Dependency, Group};
 
-/// Reads an image from `host` into memory of `alloc`, and writes to `out` its description, or the
-/// first check that fails.
-pub fn run_image<H: Host, O: Write>(
+/// Reads an image from `host` into memory of `alloc`, and returns its description, or the first check
+/// that fails.
+pub fn inspect_image<H: Host>(
     alloc: Global,
     image: Source<'_>,
     host: &mut H,
-    out: &mut O,
-) -> Result<Answer, Refusal>
-    ensures { IfOk result (λ answer. AnswersDescription answer image.entry
-        (H.input host.old) (H.file host.old) (O.contents out.old) (O.contents out.new)) }
+) -> Result<Inspection, Refusal>
+    ensures { IfOk result (λ found. FindsDescription image.entry
+        (H.input host.old) (H.file host.old) found) }
 {
     let bytes = image.read(alloc, host, MOST_FILE)?;
-    describe_over(alloc, &bytes, out)
+    Ok(description_in(&bytes))
 }
 
-/// Writes to `out` the description of the image that `bytes` are, and answers `Done`. If they
-/// aren't an intact image, it writes the first check that fails, and answers `Refused`.
-///
-/// The text is made in memory of `alloc` before it is written.
-///
-/// # Errors
-/// `NoMemory` if memory runs out. Then nothing is written. `CannotWrite` if a write fails. Then
-/// `out` has taken a prefix of the text.
-pub fn describe_over<W: Write>(alloc: Global, bytes: &[u8], out: &mut W) -> Result<Answer, Refusal>
-    ensures { WritesDescription result bytes.now (W.contents out.old) (W.contents out.new) }
+/// Returns the description of the image that `bytes` are. If they aren't an intact image, returns
+/// the first check that fails. Does not allocate.
+pub fn description_in(bytes: &[u8]) -> Inspection
+    ensures { IsDescribed bytes.now result }
 {
     match describe(bytes) {
-        Ok(description) => {
-            write_answer(Answer::Done, description_text(alloc, &description), out)
-        }
-        Err(fault) => write_answer(Answer::Refused, refusal_text(alloc, fault), out),
+        Ok(description) => Inspection::Image(description),
+        Err(fault) => Inspection::RefusedImage(fault),
     }
 }
 
@@ -64,7 +54,7 @@ pub(crate) fn description_text(alloc: Global, description: &Desc) -> Result<Stri
 }
 
 /// The line of the first check that fails: its number and its name.
-fn refusal_text(alloc: Global, fault: ImageError) -> Result<String, AllocError>
+pub(crate) fn refusal_text(alloc: Global, fault: ImageError) -> Result<String, AllocError>
     ensures { IfOk result (λ text. string_bytes text ≡ refusal_text fault) }
 {
     refused_text(alloc, fault.code(), fault.name())

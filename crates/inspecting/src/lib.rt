@@ -1,27 +1,29 @@
 //! Runs the read-only commands `choose`, `check`, `plan`, `image`, `manifest`, `show`, `slots` and
 //! `codes`.
 //!
-//! - Promises: Exactly the text of the answer is written, or of the refusal. If a write fails, a
-//!   prefix of the text is. A command answers `Done` only if its answer is the one for the contents
-//!   of the named files.
-//! - Main calls: `choose_over`, `check_over`, `plan_over`, `merge_over`, `describe_over`,
-//!   `tell_over`, `flash_text_over`, `run_inspection`, `run_plan`
-//! - Allocates: the input, a flash in memory, the text of the answer. For a fleet: one device, and a
-//!   summary.
+//! - Promises: Exactly the text or the JSON object of the answer is written. If a write fails, a
+//!   prefix of it is. A command answers `Done` only if its answer is the one for the contents of the
+//!   named files.
+//! - Main calls: `choose_over`, `inspect`, `write_inspection`, `run_inspection`, `plan_over`,
+//!   `merge_over`, `run_plan`
+//! - Allocates: the input, a flash in memory, the text or object of the answer. For a fleet: one
+//!   device, and a summary.
 //! - Callers: `boot_cli`
 //!
-//! Each command has a module. Its `run_` function reads the files that the arguments name, and its
-//! `_over` function writes the answer for bytes in memory.
+//! Each command has a module. Its `inspect_` function reads the files that the arguments name, and
+//! finds a value in them, an `Inspection`. `inspection` writes such a value as a text or as JSON.
 #![tactic(auto)]
 
 mod answer;
 mod check;
 mod choose;
-mod codes;
 mod device_flash;
+mod flash_state;
 mod flash_text;
 mod fleet;
 mod image;
+mod inspection;
+mod json;
 mod manifest_file;
 mod program;
 mod reading;
@@ -31,14 +33,17 @@ mod slots_found;
 mod slots_text;
 mod table_input;
 
-pub use check::check_over;
-pub use choose::{ChooseEnd, choose_over};
-pub use flash_text::{FlashText, flash_text_over};
+pub use check::{is_right, table_in};
+pub use choose::{ChooseEnd, choice_in, choose_over};
+pub use flash_state::{FlashState, ImageFloor, ImageSwap};
+pub use flash_text::{FlashText, found_on};
 pub use fleet::{
     Decision, MergeFault, MergeRefusal, Outcome, Requests, Telling, merge_over, plan_over,
     run_plan, sums_are_summaries,
 };
-pub use image::describe_over;
-pub use manifest_file::tell_over;
-pub use program::run_inspection;
+pub use image::description_in;
+pub use inspection::{Form, Inspection, write_inspection};
+pub use manifest_file::manifest_in;
+pub use program::{inspect, run_inspection};
 pub use reading::{ReadError, read_all};
+pub use slots_found::{ImageSlots, SlotContent, SlotsFound};

@@ -1,67 +1,71 @@
-//! `bootswap manifest`: prints the contents of a manifest for a device, or why it isn't one.
-ghost use Rattle.std.specs.Prelude.{◌≡◌, ◌≢◌, ◌∷◌, ◌++◌, [], IfOk, string_bytes};
-ghost use Rattle.inspecting.specs.Answers.{AnswersManifest};
-ghost use Rattle.inspecting.specs.ManifestFile.{WritesManifest};
+//! `bootswap manifest`: finds and prints the contents of a manifest for a device, or why it isn't one.
+ghost use Rattle.std.specs.Prelude.{◌≡◌, ◌≢◌, ◌∷◌, ◌++◌, [], IfErr, IfOk, string_bytes};
+ghost use Rattle.inspecting.specs.Answers.{FindsManifest};
+ghost use Rattle.inspecting.specs.ManifestFile.{IsManifestRead};
 ghost use Rattle.inspecting.specs.ManifestText.{component_text, manifest_text, precursor_text};
 ghost use Rattle.inspecting.specs.ManifestText.{refusal_text};
 ghost use Rattle.manifest.specs.Component.{kind_text};
 
-use crate::answer::write_answer;
+use crate::inspection::Inspection;
 use device_texts::refused_text;
-use host::{Answer, Host, MOST_JSON, Refusal, Source};
-use inputs::read_device;
+use host::{Host, MOST_JSON, Refusal, Source};
+use inputs::device_or_fault;
 use manifest::{Component, Identity, Manifest, ManifestError};
 use std::alloc::{AllocError, Global};
-use std::io::Write;
 
-/// Reads a device file and a manifest from `host`. Writes to `out` the contents of the manifest, or
-/// why it isn't one for the device.
+/// Reads a device file and a manifest from `host`. Returns the contents of the manifest, or why it
+/// isn't one for the device.
 ///
 /// Both files and their JSON values are in memory of `alloc`. The device file is checked before the
-/// manifest is read. If its sizes make no map, that is written.
-pub fn run_manifest<H: Host, O: Write>(
+/// manifest is read. If its sizes make no map, that is returned.
+pub fn inspect_manifest<H: Host>(
     alloc: Global,
     device: Source<'_>,
     file: Source<'_>,
     host: &mut H,
-    out: &mut O,
-) -> Result<Answer, Refusal>
-    ensures { IfOk result (λ answer. AnswersManifest answer device.entry file.entry
-        (H.input host.old) (H.file host.old) (O.contents out.old) (O.contents out.new)) }
+) -> Result<Inspection, Refusal>
+    ensures { IfOk result (λ found. FindsManifest device.entry file.entry
+        (H.input host.old) (H.file host.old) found) }
 {
-    let Some(of_device) = read_device(alloc, device, host, out)? else {
-        return Ok(Answer::Refused);
-    };
-    let bytes = file.read(alloc, host, MOST_JSON)?;
-    tell_over(alloc, &bytes, &of_device.identity, out)
+    match device_or_fault(alloc, device, host)? {
+        Ok(of_device) => {
+            let bytes = file.read(alloc, host, MOST_JSON)?;
+            manifest_in(alloc, &bytes, &of_device.identity)
+        }
+        Err(fault) => Ok(Inspection::RefusedMap(fault)),
+    }
 }
 
-/// Writes to `out` the contents of the manifest that `bytes` are for a device of this identity, and
-/// answers `Done`. If they aren't such a manifest, it writes the lowest refusal that applies, and
-/// answers `Refused`.
-///
-/// The JSON value and the text are in memory of `alloc`. The text is made before it is written.
+/// Returns the contents of the manifest that `bytes` are for a device of this identity. If they
+/// aren't such a manifest, returns the lowest refusal that applies. The JSON value is in memory of
+/// `alloc`.
 ///
 /// # Errors
-/// `NoMemory` if memory runs out. Then nothing is written. `CannotWrite` if a write fails. Then
-/// `out` has taken a prefix of the text.
-pub fn tell_over<W: Write>(
-    alloc: Global,
-    bytes: &[u8],
-    identity: &Identity,
-    out: &mut W,
-) -> Result<Answer, Refusal>
-    ensures { WritesManifest result identity.now bytes.now
-        (W.contents out.old) (W.contents out.new) }
+/// `NoMemory` if memory runs out.
+pub fn manifest_in(alloc: Global, bytes: &[u8], identity: &Identity) -> Result<Inspection, Refusal>
+    ensures read { IfOk result (λ found. IsManifestRead identity.now bytes.now found) }
+    ensures no_memory { IfErr result (λ refusal. refusal ≡ Refusal.NoMemory) }
 {
     match Manifest::read(alloc, bytes, identity) {
-        Ok(manifest) => write_answer(Answer::Done, manifest_text(alloc, &manifest), out),
-        Err(fault) => write_answer(Answer::Refused, refusal_text(alloc, fault), out),
+        Ok(manifest) => Ok(Inspection::Manifest(manifest)),
+        Err(fault) => refused(fault),
+    }
+}
+
+/// Returns why bytes aren't a manifest. Lack of memory says nothing about them, so it is an error.
+fn refused(fault: ManifestError) -> Result<Inspection, Refusal>
+    ensures refused { IfOk result (λ found.
+        (fault ≢ ManifestError.NoMemory) × (found ≡ Inspection.RefusedManifest fault)) }
+    ensures no_memory { IfErr result (λ refusal. refusal ≡ Refusal.NoMemory) }
+{
+    match fault {
+        ManifestError::NoMemory => Err(Refusal::NoMemory),
+        _ => Ok(Inspection::RefusedManifest(fault)),
     }
 }
 
 /// The text of a manifest's contents.
-fn manifest_text(alloc: Global, manifest: &Manifest) -> Result<String, AllocError>
+pub(crate) fn manifest_text(alloc: Global, manifest: &Manifest) -> Result<String, AllocError>
     ensures { IfOk result (λ text. string_bytes text ≡ manifest_text manifest.now) }
 {
     let sequence = manifest.sequence;
@@ -90,7 +94,7 @@ fn write_component(
 }
 
 /// The word for the kind of a request.
-fn kind_text(permanent: bool) -> &'static str
+pub(crate) fn kind_text(permanent: bool) -> &'static str
     ensures { result.now ≡ kind_text permanent }
 {
     if permanent { "permanent" } else { "test" }
@@ -110,14 +114,9 @@ fn precursor_text(alloc: Global, precursor: Option<[u8; 32]>) -> Result<String, 
     }
 }
 
-/// The line of the lowest refusal that applies: its number and its name. `NoMemory` says nothing
-/// about the manifest, so it has no line.
-fn refusal_text(alloc: Global, fault: ManifestError) -> Result<String, AllocError>
-    ensures { IfOk result (λ text. (fault ≢ ManifestError.NoMemory)
-        × (string_bytes text ≡ refusal_text fault)) }
+/// The line of the lowest refusal that applies: its number and its name.
+pub(crate) fn refusal_text(alloc: Global, fault: ManifestError) -> Result<String, AllocError>
+    ensures { IfOk result (λ text. string_bytes text ≡ refusal_text fault) }
 {
-    match fault {
-        ManifestError::NoMemory => Err(AllocError),
-        _ => refused_text(alloc, fault.code(), fault.name()),
-    }
+    refused_text(alloc, fault.code(), fault.name())
 }

@@ -1,16 +1,21 @@
 //! Runs the read-only command that an order names.
 ghost use Rattle.std.specs.Prelude.{IfOk};
-ghost use Rattle.inspecting.specs.ReadingEnd.{AnswersReading};
+ghost use Rattle.inspecting.specs.ReadingEnd.{AnswersReading, Finds};
+ghost use Rattle.inspecting.specs.declared.inspection.Form.TheVariants as form;
 
-use crate::flash_text::FlashText;
-use crate::{check, choose, codes, flash_text, image, manifest_file};
+use crate::check::inspect_report;
+use crate::choose::inspect_table;
+use crate::flash_text::{FlashText, inspect_flash};
+use crate::image::inspect_image;
+use crate::inspection::{Form, Inspection, write_inspection};
+use crate::manifest_file::inspect_manifest;
 use command_line::ReadOrder;
 use host::{Answer, Host, Refusal, Source};
 use std::alloc::Global;
 use std::io::Write;
 
-/// Runs the command of an order, and writes its answer to `out`. Its inputs are read from `host`
-/// into memory of `alloc`.
+/// Runs the command of an order, and writes the text of its answer to `out`. Its inputs are read
+/// from `host` into memory of `alloc`.
 ///
 /// # Errors
 /// The errors of the command.
@@ -20,28 +25,43 @@ pub fn run_inspection<H: Host, O: Write>(
     host: &mut H,
     out: &mut O,
 ) -> Result<Answer, Refusal>
-    ensures { IfOk result (λ answer. AnswersReading answer order.entry
+    ensures { IfOk result (λ answer. AnswersReading form.Text answer order.entry
         (H.input host.old) (H.file host.old) (O.contents out.old) (O.contents out.new)) }
 {
+    let found = inspect(alloc, order, host)?;
+    write_inspection(alloc, Form::Text, &[], &found, out)
+}
+
+/// Returns what the command of an order finds. Its inputs are read from `host` into memory of
+/// `alloc`.
+///
+/// # Errors
+/// The errors of the command.
+pub fn inspect<H: Host>(
+    alloc: Global,
+    order: ReadOrder<'_>,
+    host: &mut H,
+) -> Result<Inspection, Refusal>
+    ensures { IfOk result (λ found. Finds order.entry
+        (H.input host.old) (H.file host.old) found) }
+{
     match order {
-        ReadOrder::Choose { table } => choose::run_choose(alloc, Source::named(table), host, out),
+        ReadOrder::Choose { table } => inspect_table(alloc, Source::named(table), host),
         ReadOrder::Check { table, report } => {
-            let (table, report) = (Source::named(table), Source::named(report));
-            check::run_check(alloc, table, report, host, out)
+            inspect_report(alloc, Source::named(table), Source::named(report), host)
         }
-        ReadOrder::Image { file } => image::run_image(alloc, Source::named(file), host, out),
+        ReadOrder::Image { file } => inspect_image(alloc, Source::named(file), host),
         ReadOrder::Manifest { device, file } => {
-            let (device, file) = (Source::named(device), Source::named(file));
-            manifest_file::run_manifest(alloc, device, file, host, out)
+            inspect_manifest(alloc, Source::named(device), Source::named(file), host)
         }
         ReadOrder::Show { device, flash } => {
             let (device, flash) = (Source::named(device), Source::named(flash));
-            flash_text::run_flash_text(alloc, FlashText::State, device, flash, host, out)
+            inspect_flash(alloc, FlashText::State, device, flash, host)
         }
         ReadOrder::Slots { device, flash } => {
             let (device, flash) = (Source::named(device), Source::named(flash));
-            flash_text::run_flash_text(alloc, FlashText::Slots, device, flash, host, out)
+            inspect_flash(alloc, FlashText::Slots, device, flash, host)
         }
-        ReadOrder::Codes => codes::run_codes(out),
+        ReadOrder::Codes => Ok(Inspection::Codes),
     }
 }

@@ -1,35 +1,27 @@
 //! `bootswap slots`: makes the text of what the slots hold, and of the decision of the next boot.
-ghost use Rattle.std.specs.Prelude.{◌≡◌, ◌++◌, IfOk, Some, string_bytes, true};
-ghost use Rattle.flash_model.specs.Chip.{Chip};
-ghost use Rattle.sector_map.specs.Map.{IsLaidOut};
-ghost use Rattle.inspecting.specs.Show.{stand_text};
+ghost use Rattle.std.specs.Prelude.{◌≡◌, ◌++◌, IfOk, string_bytes};
 ghost use Rattle.inspecting.specs.Slots.{answer_to};
 ghost use Rattle.inspecting.specs.SlotsText.{found_text};
+ghost use Rattle.inspecting.specs.StateText.{state_text};
 
-use crate::show::stand_text;
+use crate::flash_state::FlashState;
+use crate::show::state_text;
 use crate::slots_found::SlotsFound;
 use crate::slots_text::write_found;
-use flash_model::Flash;
 use host::Answer;
 use machine::Finding;
-use sector_map::SectorMap;
-use set_log::State;
 use std::alloc::{AllocError, Global};
 
-/// The text for a flash that has power, whose log has this state and whose slots hold this.
-pub(crate) fn listing_text<F: Flash>(
+/// The text of the state of a device, and of what its slots hold.
+pub(crate) fn listing_text(
     alloc: Global,
-    flash: &mut F,
-    map: &SectorMap,
-    state: State,
+    state: &FlashState,
     found: &SlotsFound,
 ) -> Result<String, AllocError>
-    requires laid_out { IsLaidOut map.now (F.chip flash.old) }
-    requires on { (F.chip flash.old).is_on ≡ true }
-    ensures { IfOk result (λ text. string_bytes text
-        ≡ stand_text map.now (F.chip flash.old) (Some state) ++ found_text found.now) }
+    ensures { IfOk result
+        (λ text. string_bytes text ≡ state_text state.now ++ found_text found.now) }
 {
-    let mut text = stand_text(alloc, flash, map, Some(state))?;
+    let mut text = state_text(alloc, state)?;
     write_found(alloc, &mut text, found)?;
     Ok(text)
 }

@@ -72,7 +72,7 @@ fn content_text(alloc: Global, content: &SlotContent) -> Result<String, AllocErr
 }
 
 /// The word for the pending request.
-fn request_text(request: Option<Kind>) -> &'static str
+pub(crate) fn request_text(request: Option<Kind>) -> &'static str
     ensures { result.now ≡ request_text request }
 {
     match request {

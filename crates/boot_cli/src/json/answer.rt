@@ -7,7 +7,7 @@ use crate::json::fields::Members;
 use crate::json::grammar::Grammar;
 use crate::json::grammars;
 use crate::json::reading::members_of;
-use command_line::{Order, ReadOrder};
+use command_line::Order;
 use device_texts::write_all;
 use host::{Answer, Refusal};
 use serde_json::{Value, push, put};
@@ -23,17 +23,11 @@ pub enum Layout {
     CodeList,
 }
 
-/// Returns how the answer to an order is read. Commands that don't accept `--json` are read as
-/// `run` is.
+/// Returns how the answer to an order is read. Of the read-only commands only that of `codes` is.
+/// Commands that don't accept `--json` are read as `run` is.
 pub fn layout_of(order: &Order<'_>) -> Layout {
     match order {
-        Order::Read(ReadOrder::Choose { .. }) => Layout::Lines(grammars::CHOOSE),
-        Order::Read(ReadOrder::Check { .. }) => Layout::Lines(grammars::CHECK),
-        Order::Read(ReadOrder::Image { .. }) => Layout::Lines(grammars::IMAGE),
-        Order::Read(ReadOrder::Manifest { .. }) => Layout::Lines(grammars::MANIFEST),
-        Order::Read(ReadOrder::Show { .. }) => Layout::Lines(grammars::SHOW),
-        Order::Read(ReadOrder::Slots { .. }) => Layout::Lines(grammars::SLOTS),
-        Order::Read(ReadOrder::Codes) => Layout::CodeList,
+        Order::Read(_) => Layout::CodeList,
         Order::Plan(_) => Layout::Lines(grammars::SUMMARY),
         Order::Sweep { .. } | Order::MergeSweeps { .. } => Layout::Lines(grammars::SWEEP),
         _ => Layout::Lines(grammars::REPLY),

@@ -4,12 +4,11 @@ use Rattle.inspecting.proofs.device_flash.read_device_flash.Goals as goal
 -- Both inputs are what their sources gave, and the first is a device file.
 pub returns-clause-read : goal.returns-clause-read
 returns-clause-read g c =
-    let read = rw c.in-Some.is at c.in_ok-device.ensures.read in (
-      read.0.0,
-      GiveBoth-read _ _ _ _ _ _ _ _ read.0.1 c.in_ok-device.ensures.others c.in_ok-bytes.ensures.bytes,
-      read.0.2,
+    let read = rw c.in-Ok.is at c.in_ok-device.ensures.read in (
+      read.0,
+      GiveBoth-read _ _ _ _ _ _ _ _ read.1 c.in_ok-device.ensures.others c.in_ok-bytes.ensures.bytes,
+      read.2,
       c.in_ok-bytes.ensures.whole,
-      read.1,
     )
 
 -- No file changed.

@@ -1,7 +1,9 @@
-use Rattle.std.proofs.Common.{◌≡◌, ◌++◌, string_bytes}
-use Rattle.inspecting.specs.StateText.{floor_lines}
+use Rattle.std.proofs.Common.{◌≡◌, ◌++◌, string_bytes, take}
+use Rattle.std.specs.List.{flat_map}
+use Rattle.inspecting.specs.StateText.{floor_line}
 use Rattle.inspecting.proofs.show.write_floors.Given as goal
 
--- The floors of the images so far follow the old text.
-abbrev pub invariant-loop-image : goal.invariant-loop-image
-invariant-loop-image l = string_bytes l.text ≡ string_bytes l.fn.text ++ floor_lines l.image-counter l.state
+-- The lines of the images so far follow the old text.
+abbrev pub invariant-loop-it : goal.invariant-loop-it
+invariant-loop-it l =
+    string_bytes l.text ≡ string_bytes l.fn.text ++ flat_map floor_line (take l.it-index l.floors)

@@ -1,0 +1,90 @@
+-- What a read-only command finds in its inputs, its answer, and the two forms in which it is written.
+use Rattle.std.specs.Prelude.{◌≡◌, ℕ, List, ◌++◌, Option, Result, Ok, Err, codes, if◌then◌else◌}
+use Rattle.std.specs.Io.KnownBytes.{Appends, Keeps}
+use Rattle.serde_json.specs.Data.{Data, Members, boolean, no_members, object}
+use Rattle.device_texts.specs.AnswerText.{map_refusal_text}
+use Rattle.device_texts.specs.ReplyText.{refused_fault_text}
+use Rattle.certificate.specs.ReportText.{report_text}
+use Rattle.command_line.specs.declared.codes.TheConstants.{REFUSALS}
+use Rattle.host.specs.declared.answer.Answer.{Answer}
+use Rattle.host.specs.declared.answer.Answer.TheVariants.{Done, Refused}
+use Rattle.host.specs.declared.error.Refusal.{Refusal}
+use Rattle.host.specs.declared.error.Refusal.TheVariants.{CannotWrite, NoMemory}
+use Rattle.image_reading.specs.Codes as image
+use Rattle.machine.specs.declared.error.Fault.TheVariants.{NotProvisioned}
+use Rattle.manifest.specs.Codes as manifest
+use Rattle.inspecting.specs.Check.{verdict_text}
+use Rattle.inspecting.specs.ImageText as image_text
+use Rattle.inspecting.specs.Json.{code_json, fault_json, json_line, map_json, with_description, with_manifest, with_member, with_notes, with_refused, with_report, with_slots, with_state}
+use Rattle.inspecting.specs.ManifestText as manifest_text
+use Rattle.inspecting.specs.Slots.{answer_to}
+use Rattle.inspecting.specs.SlotsText.{found_text}
+use Rattle.inspecting.specs.StateText.{state_text}
+use Rattle.inspecting.specs.Written.{TakesPrefix}
+use Rattle.inspecting.specs.declared.inspection.Form.{Form}
+use Rattle.inspecting.specs.declared.inspection.Form.TheVariants as form
+use Rattle.inspecting.specs.declared.inspection.Inspection.{Inspection}
+use Rattle.inspecting.specs.declared.inspection.Inspection.TheVariants as found
+
+-- The answer: `Refused` if something is refused, or for a no.
+abbrev pub answer_of : Inspection → Answer
+answer_of (found.Choice report) = Done
+answer_of (found.Verdict is_right) = if is_right then Done else Refused
+answer_of (found.Image description) = Done
+answer_of (found.RefusedImage check) = Refused
+answer_of (found.Manifest manifest) = Done
+answer_of (found.RefusedManifest error) = Refused
+answer_of (found.RefusedMap error) = Refused
+answer_of (found.State state) = Done
+answer_of found.NoState = Refused
+answer_of (found.Slots state slots) = answer_to slots.decision
+answer_of found.Codes = Done
+
+-- The text.
+abbrev pub text_of : Inspection → List ℕ
+text_of (found.Choice report) = report_text report
+text_of (found.Verdict is_right) = verdict_text is_right
+text_of (found.Image description) = image_text.description_text description
+text_of (found.RefusedImage check) = image_text.refusal_text check
+text_of (found.Manifest manifest) = manifest_text.manifest_text manifest
+text_of (found.RefusedManifest error) = manifest_text.refusal_text error
+text_of (found.RefusedMap error) = map_refusal_text error
+text_of (found.State state) = state_text state
+text_of found.NoState = refused_fault_text NotProvisioned
+text_of (found.Slots state slots) = state_text state ++ found_text slots
+text_of found.Codes = REFUSALS.now
+
+-- The members of the object. That of the list of codes is made of its text, and nothing is said of it
+-- here.
+abbrev pub members_of : Inspection → Members
+members_of (found.Choice report) = with_report report no_members
+members_of (found.Verdict is_right) = with_member (codes "right") (boolean is_right) no_members
+members_of (found.Image description) = with_description description no_members
+members_of (found.RefusedImage check) =
+    with_refused (code_json (image.code_of check) (image.name_of check)) no_members
+members_of (found.Manifest manifest) = with_manifest manifest no_members
+members_of (found.RefusedManifest error) =
+    with_refused (code_json (manifest.code_of error) (manifest.name_of error)) no_members
+members_of (found.RefusedMap error) = with_refused (map_json error) no_members
+members_of (found.State state) = with_state state no_members
+members_of found.NoState = with_refused (fault_json NotProvisioned) no_members
+members_of (found.Slots state slots) = with_state state (with_slots slots no_members)
+members_of found.Codes = no_members
+
+-- The object.
+abbrev pub json_of : Inspection → Data
+json_of it = object (members_of it)
+
+-- What is written in this form: the text, or the object with these notes.
+abbrev pub written : Form → List (List ℕ) → Inspection → List ℕ
+written form.Text notes it = text_of it
+written form.Json notes it = json_line (object (with_notes notes (members_of it)))
+
+-- What a writer takes of this, by the result of writing it: everything, nothing if memory runs out,
+-- or a prefix if a write fails.
+abbrev pub WritesInspection : Result Answer Refusal → Answer → List ℕ → Option (List ℕ)
+    → Option (List ℕ) → Type 0
+WritesInspection (Ok answer) said bytes old new = (answer ≡ said) × Appends old new bytes
+WritesInspection (Err NoMemory) said bytes old new = Keeps old new
+WritesInspection (Err CannotWrite) said bytes old new = TakesPrefix bytes old new
+WritesInspection (Err refusal) said bytes old new = ⊥

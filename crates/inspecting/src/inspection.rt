@@ -1,0 +1,222 @@
+//! What a read-only command finds in its inputs, and the two forms in which it is written.
+ghost use Rattle.std.specs.Prelude.{◌≡◌, IfOk, OnOk, map, string_bytes};
+ghost use Rattle.serde_json.specs.Data.{no_members, string};
+ghost use Rattle.serde_json.specs.View.{members_view, view};
+ghost use Rattle.inspecting.specs.Inspection.{WritesInspection, answer_of, members_of, text_of, written};
+ghost use Rattle.inspecting.specs.Json.{with_refused};
+ghost use Rattle.inspecting.specs.declared.inspection.Form.TheVariants as form;
+
+use crate::answer::{write_answer, write_text};
+use crate::flash_state::FlashState;
+use crate::json::{
+    Json, Object, code_value, fault_value, line_of, map_value, put_description, put_each,
+    put_manifest, put_report, put_slots, put_state, put_value,
+};
+use crate::slots::{answer_to, listing_text};
+use crate::slots_found::SlotsFound;
+use crate::{check, image, manifest_file, show};
+use certificate::Report;
+use command_line::REFUSALS;
+use device_texts::{map_refusal_text, refused_fault_text, write_all};
+use host::{Answer, Refusal};
+use image_reading::{Desc, ImageError};
+use machine::Fault;
+use manifest::{Manifest, ManifestError};
+use sector_map::MapError;
+use serde_json::{Map, Value};
+use std::alloc::{AllocError, Global};
+use std::io::Write;
+
+/// What a read-only command finds in its inputs.
+#[derive(Drop)]
+pub enum Inspection {
+    /// The right report on a table.
+    Choice(Report),
+    /// Whether a report is right for a table.
+    Verdict(bool),
+    /// The description of an intact image.
+    Image(Desc),
+    /// Bytes that aren't an intact image fail this check first.
+    RefusedImage(ImageError),
+    /// A manifest for a device.
+    Manifest(Manifest),
+    /// Bytes that aren't a manifest for a device have this lowest refusal.
+    RefusedManifest(ManifestError),
+    /// The sizes in a device file make no map, for this reason.
+    RefusedMap(MapError),
+    /// The state of a device.
+    State(FlashState),
+    /// The log of a flash has no state.
+    NoState,
+    /// The state of a device, what its slots hold, and the decision of its next boot.
+    Slots(FlashState, SlotsFound),
+    /// The list of all codes and names.
+    Codes,
+}
+
+/// The form in which an answer is written.
+#[derive(Clone, Copy, PartialEq, Eq)]
+pub enum Form {
+    /// The text.
+    Text,
+    /// A JSON object in a line.
+    Json,
+}
+
+impl Inspection {
+    /// Returns the answer: `Refused` if something is refused, or for a no.
+    pub fn answer(&self) -> Answer
+        ensures { result ≡ answer_of self.now }
+    {
+        match self {
+            Inspection::Choice(_)
+            | Inspection::Verdict(true)
+            | Inspection::Image(_)
+            | Inspection::Manifest(_)
+            | Inspection::State(_)
+            | Inspection::Codes => Answer::Done,
+            Inspection::Verdict(false)
+            | Inspection::RefusedImage(_)
+            | Inspection::RefusedManifest(_)
+            | Inspection::RefusedMap(_)
+            | Inspection::NoState => Answer::Refused,
+            Inspection::Slots(_, slots) => answer_to(&slots.decision),
+        }
+    }
+
+    /// Makes the text in memory of `alloc`.
+    fn text(&self, alloc: Global) -> Result<String, AllocError>
+        ensures { IfOk result (λ text. string_bytes text ≡ text_of self.now) }
+    {
+        match self {
+            Inspection::Choice(report) => format!(in alloc; "{report}"),
+            Inspection::Verdict(is_right) => String::from_str(
+                alloc,
+                check::verdict_text(*is_right),
+            ),
+            Inspection::Image(description) => image::description_text(alloc, description),
+            Inspection::RefusedImage(check) => image::refusal_text(alloc, *check),
+            Inspection::Manifest(manifest) => manifest_file::manifest_text(alloc, manifest),
+            Inspection::RefusedManifest(error) => manifest_file::refusal_text(alloc, *error),
+            Inspection::RefusedMap(error) => map_refusal_text(alloc, *error),
+            Inspection::State(state) => show::state_text(alloc, state),
+            Inspection::NoState => refused_fault_text(alloc, Fault::NotProvisioned),
+            Inspection::Slots(state, slots) => listing_text(alloc, state, slots),
+            Inspection::Codes => String::from_str(alloc, REFUSALS),
+        }
+    }
+
+    /// Makes the members of the object in memory of `alloc`.
+    fn members(&self, alloc: Global) -> Result<Object, AllocError>
+        ensures { IfOk result (λ object. members_view object.entries ≡ members_of self.now) }
+    {
+        let mut object = Map::new(alloc);
+        self.put_members(alloc, &mut object)?;
+        Ok(object)
+    }
+
+    /// Adds the members of the object to an object without members.
+    fn put_members(&self, alloc: Global, object: &mut Object) -> Result<(), AllocError>
+        requires { members_view object.old.entries ≡ no_members }
+        ensures { OnOk result (members_view object.new.entries ≡ members_of self.now) }
+    {
+        match self {
+            Inspection::Choice(report) => put_report(alloc, object, report),
+            Inspection::Verdict(is_right) => put_value(
+                alloc,
+                object,
+                "right",
+                Value::Bool(*is_right),
+            ),
+            Inspection::Image(description) => put_description(alloc, object, description),
+            Inspection::RefusedImage(check) => {
+                put_refused(
+                    alloc,
+                    object,
+                    code_value(alloc, check.code(), check.name())?,
+                )
+            }
+            Inspection::Manifest(manifest) => put_manifest(alloc, object, manifest),
+            Inspection::RefusedManifest(error) => {
+                put_refused(
+                    alloc,
+                    object,
+                    code_value(alloc, error.code(), error.name())?,
+                )
+            }
+            Inspection::RefusedMap(error) => {
+                put_refused(alloc, object, map_value(alloc, *error)?)
+            }
+            Inspection::State(state) => put_state(alloc, object, state),
+            Inspection::NoState => {
+                put_refused(alloc, object, fault_value(alloc, Fault::NotProvisioned)?)
+            }
+            Inspection::Slots(state, slots) => {
+                put_slots(alloc, object, slots)?;
+                put_state(alloc, object, state)
+            }
+            Inspection::Codes => Ok(()),
+        }
+    }
+}
+
+/// Adds the member of a refusal.
+fn put_refused(alloc: Global, object: &mut Object, refused: Value) -> Result<(), AllocError>
+    ensures { OnOk result (members_view object.new.entries
+        ≡ with_refused (view refused) (members_view object.old.entries)) }
+{
+    put_value(alloc, object, "refused", refused)
+}
+
+/// Writes what was found to `out` in a form, and returns the answer. The object has the notes in
+/// its member `notes`, if there are any. The text has none.
+///
+/// The text or the object is made in memory of `alloc` before it is written. `yes`, `no` and the
+/// list of codes need no memory.
+///
+/// # Errors
+/// `NoMemory` if memory runs out. Then nothing is written. `CannotWrite` if a write fails. Then
+/// `out` has taken a prefix.
+pub fn write_inspection<W: Write>(
+    alloc: Global,
+    form: Form,
+    notes: &[&str],
+    found: &Inspection,
+    out: &mut W,
+) -> Result<Answer, Refusal>
+    ensures { WritesInspection result (answer_of found.now)
+        (written form (map (λ note. note.now) notes.now) found.now)
+        (W.contents out.old) (W.contents out.new) }
+{
+    let answer = found.answer();
+    match form {
+        Form::Text => match found {
+            Inspection::Verdict(is_right) => write_text(
+                answer,
+                check::verdict_text(*is_right),
+                out,
+            ),
+            Inspection::Codes => write_text(answer, REFUSALS, out),
+            _ => write_answer(answer, found.text(alloc), out),
+        },
+        Form::Json => write_answer(answer, object_line(alloc, notes, found), out),
+    }
+}
+
+/// Makes the line of the object with its notes.
+fn object_line(alloc: Global, notes: &[&str], found: &Inspection) -> Result<String, AllocError>
+    ensures { IfOk result (λ line. string_bytes line
+        ≡ written form.Json (map (λ note. note.now) notes.now) found.now) }
+{
+    let mut object = found.members(alloc)?;
+    put_each(alloc, &mut object, "notes", notes)?;
+    line_of(alloc, &Value::Object(object))
+}
+
+impl Json for &str {
+    ghost json = { λ note. string note.now };
+
+    fn json(&self, alloc: Global) -> Result<Value, AllocError> {
+        Value::try_from_str(alloc, self)
+    }
+}
