@@ -9,14 +9,14 @@ ghost use Rattle.serde_json.specs.View.{members_view, view};
 ghost use Rattle.inspecting.specs.Json.{json_line, number_json, with_member, with_some};
 
 mod image;
-mod manifest;
+mod manifest_members;
 mod refusals;
 mod report;
 mod slots;
 mod state;
 
 pub(crate) use image::put_description;
-pub(crate) use manifest::put_manifest;
+pub(crate) use manifest_members::put_manifest;
 pub(crate) use refusals::{code_value, fault_value, map_value};
 pub(crate) use report::put_report;
 use serde_json::{Map, Value, push, put};
