@@ -33,10 +33,16 @@ class CortexMExampleTest(ProgramTest):
         self.empty, clone = f"{self.folder}/empty", f"{self.folder}/clone"
         shutil.copytree(EXAMPLE, self.empty)
         c_folder(f"{clone}/out/c")
-        os.symlink(f"{ROOT}/board", f"{clone}/board")
-        self.words = ["make", f"BOOTSWAP={clone}", f"IMAGE={self.program} make-image"]
+        for name in ("board", "examples"):
+            os.symlink(f"{ROOT}/{name}", f"{clone}/{name}")
+        self.words = ["make", f"BOOTSWAP={clone}"]
         faults, output = ran(self.words, cwd=self.empty)
         self.case("it is made", faults or [short(output)] * (b"warning" in output))
+        for name, number in (("old", "1.0.0"), ("new", "2.0.0")):
+            made, words = f"{self.empty}/by_program.img", ["--version", number, "--header-size", "512"]
+            faults, _ = ran([self.program, "make-image", made, f"{self.empty}/{name}.bin", *words])
+            self.case(f"{name}.img", faults or ["the program makes another"] * (read(made) != read(f"{self.empty}/{name}.img")))
+            os.remove(made)
 
     def run_machine(self, last, seconds=None):
         """Runs the machine until it prints a line, or N seconds more, takes its power away, and returns the lines."""
@@ -60,12 +66,12 @@ class CortexMExampleTest(ProgramTest):
         self.make()
         got = self.run_machine(wanted[-1])
         self.case("an upgrade", [short("\n".join(got).encode())] * (got != wanted))
-        again = ["loader: boot returns 1", *wanted[-3:-2], wanted[-1]]
+        again = [*wanted[-5:-3], *wanted[-3:-2], wanted[-1]]
         got = self.run_machine(wanted[-1])
         self.case("the start after it", [short("\n".join(got).encode())] * (got != again))
         for seconds in (0.2, 0.8, 1.6, 2.4):
             os.remove(f"{self.empty}/flash")
-            self.run_machine(wanted[3], seconds)
+            self.run_machine(wanted[4], seconds)
             got = self.run_machine(wanted[-1])
             faults = [short("\n".join(got).encode())] * (got[-1:] != wanted[-1:] or wanted[-3] not in got)
             self.case(f"power fails {seconds} s after the upload begins", faults)

@@ -26,6 +26,7 @@ static uint32_t boot(void) {
 
 int main(void) {
     serial_start();
+    serial_write_text("loader: starts\n");
     flash_attach(&device);
     uint32_t status = bootswap_open(&device);
     if (status == BOOTSWAP_DONE) {

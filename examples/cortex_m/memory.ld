@@ -1,11 +1,11 @@
-/* The memory of both programs. Each is linked with a script that defines PROGRAM before this one. */
+/* The memory of both programs. The Makefile makes the script of each: it replaces the word PROGRAM. */
 MEMORY {
     loader (rx) : ORIGIN = 0, LENGTH = 80K
     application (rx) : ORIGIN = 0x00200200, LENGTH = 243K /* after a header of 512 bytes */
     slots (r) : ORIGIN = 0x00200000, LENGTH = 512K
     ram (rw) : ORIGIN = 0x20000000, LENGTH = 128K
 }
-STACK_SIZE = 20K;
+STACK_SIZE = 20K; /* a boot of eight images takes 14K */
 ENTRY(start)
 SECTIONS {
     .text : { KEEP(*(.vectors)) *(.text*) *(.rodata*) . = ALIGN(8); } > PROGRAM
