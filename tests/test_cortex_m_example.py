@@ -37,7 +37,7 @@ class CortexMExampleTest(ProgramTest):
             os.symlink(f"{ROOT}/{name}", f"{clone}/{name}")
         self.words = ["make", f"BOOTSWAP={clone}"]
         faults, output = ran(self.words, cwd=self.empty)
-        self.case("it is made", faults or [short(output)] * (b"warning" in output))
+        self.case("it is made", faults or [short(output)] * (b"warning:" in output))
         for name, number in (("old", "1.0.0"), ("new", "2.0.0")):
             made, words = f"{self.empty}/by_program.img", ["--version", number, "--header-size", "512"]
             faults, _ = ran([self.program, "make-image", made, f"{self.empty}/{name}.bin", *words])
