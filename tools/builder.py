@@ -32,7 +32,7 @@ BUILD = f"{ROOT}/crates/bootswap/out/rlib"
 COSTS = {
     "bootswap": "the program: from nothing it takes 45 to 100 minutes of one processor, 1.8 GB of disk",
     "bootswap_core": "the core of the program: from nothing it takes 25 to 55 minutes of one processor, 1.1 GB of disk",
-    "c_interface": "the library: from nothing it takes 25 to 45 minutes of one processor, 1 GB of disk",
+    "c_interface": "the library: from nothing it takes 25 to 55 minutes of one processor, 1 GB of disk",
     "manifest_interface": "the library for manifests: from nothing it takes 5 to 10 minutes of one processor, 0.2 GB of disk",
 }
 
