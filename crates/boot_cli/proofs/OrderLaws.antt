@@ -11,13 +11,13 @@ use Rattle.host.specs.Status.{Ends}
 use Rattle.host.specs.Input.{FileBytes}
 use Rattle.inspecting.proofs.PlanAnswerLaws.{AnswersPlan-kept}
 use Rattle.inspecting.proofs.ReadingLaws.{AnswersReading-kept}
-use Rattle.inspecting.specs.declared.inspection.Form.TheVariants as form
+use Rattle.device_texts.specs.declared.form.Form.TheVariants as form
 use Rattle.device_commands.proofs.KeptLaws.{AnswersCore-kept}
 use Rattle.device_commands.proofs.WordsLaws.{only_cut}
 use Rattle.boot_cli.specs.JsonEnd.{AnswersIn}
 use Rattle.boot_cli.specs.OrderEnd.{AnswersOrder}
 use Rattle.boot_cli.specs.WordsEnd.{EndsByCut}
-use Rattle.boot_cli.proofs.JsonLaws.{AnswersJson-kept}
+use Rattle.boot_cli.proofs.JsonLaws.{AnswersJson-kept, AnswersSwept-kept}
 use Rattle.creating.proofs.CopyLaws.{AnswersCopy-kept}
 use Rattle.creating.proofs.NewDeviceLaws.{AnswersNewDevice-kept}
 use Rattle.creating.proofs.NewImageLaws.{AnswersNewImage-kept}
@@ -45,12 +45,13 @@ AnswersOrder-kept (order.Extract device flash image side out) input file then ol
   answered.4,
 )
 AnswersOrder-kept (order.Sweep device script images choices) input file then old mid new answered kept =
-    (answered.0, answered.1, answered.2, answered.3, answered.4)
-AnswersOrder-kept (order.MergeSweeps outputs picture forced) input file then old mid new answered kept = answered
+    AnswersSwept-kept form.Text Done (order.Sweep device script images choices) input file then old mid new answered kept
+AnswersOrder-kept (order.MergeSweeps outputs picture forced) input file then old mid new answered kept =
+    AnswersSwept-kept form.Text Done (order.MergeSweeps outputs picture forced) input file then old mid new answered kept
 AnswersOrder-kept (order.Device asked) input file then old mid new answered kept =
-    AnswersCore-kept asked input file then old mid new answered kept
+    AnswersCore-kept form.Text asked input file then old mid new answered kept
 AnswersOrder-kept (order.Plan asked) input file then old mid new answered kept =
-    AnswersPlan-kept asked input file old mid new answered kept
+    AnswersPlan-kept form.Text asked input file old mid new answered kept
 AnswersOrder-kept (order.Read asked) input file then old mid new answered kept =
     AnswersReading-kept form.Text Done asked input file old mid new answered kept
 

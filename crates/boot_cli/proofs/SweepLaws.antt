@@ -1,5 +1,9 @@
 -- The result of a sweep from what it read in turn, and the files that it keeps.
-use Rattle.std.proofs.Common.{◌⊎◌, ◌≤◌, ℕ, Bool, List, [], ◌∷◌, None, Option, Some, arith, inl, inr, subst, sym}
+use Rattle.std.proofs.Common.{◌≡◌, ◌⊎◌, IfOk, Ok, Result, ℕ, Bool, List, [], ◌∷◌, None, Option, Some, inl, inr, subst, sym}
+use Rattle.std.proofs.KnownBytes.{Appends-kept}
+use Rattle.std.proofs.lemmas.Result.{IfOk-weaker}
+use Rattle.host.specs.declared.error.Refusal.{Refusal}
+use Rattle.std.specs.Io.KnownBytes.{Keeps}
 use Rattle.common.specs.Lines.{lines_of}
 use Rattle.device_texts.specs.LineText.{IsLineText}
 use Rattle.device_texts.specs.Said.{Said, said}
@@ -10,7 +14,6 @@ use Rattle.inputs.specs.declared.lines.Lines.{Lines}
 use Rattle.std.specs.Prelude.{IfSome, IsSomeAnd}
 use Rattle.std.specs.Borrow.{Bor}
 use Rattle.host.specs.declared.answer.Answer.{Answer}
-use Rattle.host.specs.declared.answer.Answer.TheVariants.{Done, Refused, Cut}
 use Rattle.common.specs.declared.event.Event.{Event}
 use Rattle.device_texts.specs.declared.device.DeviceFile.{DeviceFile}
 use Rattle.host.specs.declared.source.Source.{Source}
@@ -19,33 +22,36 @@ use Rattle.host.specs.declared.source.Source.TheVariants.{StandardInput, File}
 use Rattle.host.specs.Doings.{KeepsSource}
 use Rattle.host.specs.Input.{FileBytes, Gives, IsKnownAs, KeepsFiles, KeepsOthers}
 use Rattle.device_commands.specs.ProvisionEnd.{AreOthers}
-use Rattle.boot_cli.specs.SweepEnd.{AnswersSweep, KeepsBesides, KeepsOutputs, IsNamedBy, IsNamedIn, IsOther, KeepsInputs, KeepsRead, LineNames, SaysFile, SomeNames, SweepsDevice}
+use Rattle.boot_cli.specs.SweepEnd.{FindsSweep, HasDevice, WritesSwept, KeepsBesides, KeepsOutputs, IsNamedBy, IsNamedIn, IsOther, KeepsInputs, KeepsRead, LineNames, SaysFile, SomeNames, SweepsDevice}
 use Rattle.inputs.specs.Script.{IsScript, Known, StaysKnown, known_after}
-use Rattle.host.specs.Status.{status_of_answer}
+use Rattle.device_texts.specs.declared.form.Form.{Form}
+use Rattle.sweep.specs.Swept.{written}
+use Rattle.sweep.specs.declared.swept.Swept.{Swept}
+use Rattle.sweep.specs.declared.swept.Swept.TheVariants as swept
 use Rattle.host.proofs.InputLaws.{IsKnownAs-kept, GiveEach-one, GiveEach-read, KeepsFiles-twice, KeepsSource-kept, kept_twice}
 use Rattle.inputs.proofs.ScriptLaws.{StaysKnown-itself, StaysKnown-read}
 
-AnswersSweep-swept : (answer : Answer) (device script : Source) (input : Option (List ℕ)) (file : FileBytes)
-    (old new : Option (List ℕ)) → status_of_answer answer ≤ 1 → SweepsDevice device script input file
-    → AnswersSweep answer device script input file old new
-AnswersSweep-swept Done device script input file old new low sweeps = sweeps
-AnswersSweep-swept Refused device script input file old new low sweeps = inl sweeps
-AnswersSweep-swept Cut device script input file old new low sweeps = absurd (omega (arith, low))
+FindsSweep-ran : (it : Swept) (device script : Source) (input : Option (List ℕ)) (file : FileBytes)
+    → HasDevice it → SweepsDevice device script input file → FindsSweep it device script input file
+FindsSweep-ran (swept.Found found) device script input file ran sweeps = sweeps
+FindsSweep-ran (swept.RefusedMap refused) device script input file ran sweeps = absurd ran
+FindsSweep-ran (swept.RefusedDevice fault) device script input file ran sweeps = sweeps
+FindsSweep-ran swept.Nothing device script input file ran sweeps = absurd ran
 
 -- The sweep read a device file, and then a script with the files that it names.
-pub AnswersSweep-read : (answer : Answer) (device script : Source) (input second_input third_input : Option (List ℕ))
-    (file second_file third_file : FileBytes) (old new : Option (List ℕ)) (text : List ℕ)
+pub FindsSweep-read : (it : Swept) (device script : Source) (input second_input third_input : Option (List ℕ))
+    (file second_file third_file : FileBytes) (text : List ℕ)
     (came : List (Event (List ℕ))) (of_device : DeviceFile)
     → GivesDevice device input file of_device → KeepsOthers device input file second_input second_file
     → Gives script second_input second_file text → KeepsOthers script second_input second_file third_input third_file
     → ((known : Known) → StaysKnown known third_input third_file → IsScript text known [] came)
-    → status_of_answer answer ≤ 1 → AnswersSweep answer device script input file old new
-AnswersSweep-read answer device script input second_input third_input file second_file third_file old new text came
-    of_device given kept script_given script_kept says low =
+    → HasDevice it → FindsSweep it device script input file
+FindsSweep-read it device script input second_input third_input file second_file third_file text
+    came of_device given kept script_given script_kept says ran =
     let first : Known = record { input = input; files = file } in
     let second = known_after device first in
     let stays = StaysKnown-read device first input second_input file second_file (StaysKnown-itself input file) kept in
-    AnswersSweep-swept answer device script input file old new low (record {
+    FindsSweep-ran it device script input file ran (record {
       device_bytes = given.0;
       of_device = of_device;
       text = text;
@@ -56,6 +62,23 @@ AnswersSweep-read answer device script input second_input third_input file secon
       says = says (known_after script second)
           (StaysKnown-read script second second_input third_input second_file third_file stays script_kept);
     })
+
+-- A flush after the answer changes nothing.
+pub WritesSwept-kept : (form : Form) (answer : Answer) (it : Swept) (old mid new : Option (List ℕ))
+    → WritesSwept form answer it old mid → Keeps mid new → WritesSwept form answer it old new
+WritesSwept-kept form answer it old mid new writes kept = record {
+  notes = writes.notes;
+  answered = writes.answered;
+  taken = Appends-kept old mid new (written form writes.notes it) writes.taken kept;
+}
+
+-- What was found for a result is found for the result that is written.
+pub written-found : (Finds : Swept → Type 0) (form : Form) (swept : Result Swept Refusal)
+    (result : Result Answer Refusal) (old new : Option (List ℕ)) → IfOk swept Finds
+    → IfOk result (λ answer. (it : Swept) × (swept ≡ Ok it) × WritesSwept form answer it old new)
+    → IfOk result (λ answer. (it : Swept) × Finds it × WritesSwept form answer it old new)
+written-found Finds form swept result old new found told =
+    IfOk-weaker result _ _ (λ answer one. (one.0, rw one.1 at found, one.2)) told
 
 -- If all files were kept, the inputs of a sweep were.
 pub inputs_kept : (device script : Source) (images : List (Bor (List ℕ))) (IsNamed : List ℕ → Type 0)

@@ -1,8 +1,9 @@
 -- The answer to an order as JSON, or as text.
-use Rattle.std.specs.Prelude.{ℕ, Bool, List, [], ◌∷◌, ◌++◌, MatchBool, None, Option, Some, false, not, true}
+use Rattle.std.specs.Prelude.{ℕ, Bool, List, [], ◌∷◌, ◌++◌, MatchBool, Option, Some, false, not, true}
 use Rattle.std.specs.Io.KnownBytes.{Appends}
 use Rattle.serde_json.specs.Data.{Data}
 use Rattle.serde_json.specs.Written.{IsInOrder}
+use Rattle.command_line.specs.declared.device_orders.DeviceOrder.{DeviceOrder}
 use Rattle.command_line.specs.declared.orders.Order.{Order}
 use Rattle.command_line.specs.declared.orders.PlanOrder.{PlanOrder}
 use Rattle.command_line.specs.declared.orders.PlanOrder.TheVariants.{Fleet, Merge}
@@ -11,9 +12,12 @@ use Rattle.command_line.specs.declared.read_orders.ReadOrder.{ReadOrder}
 use Rattle.command_line.specs.declared.read_orders.ReadOrder.TheVariants as read
 use Rattle.host.specs.declared.answer.Answer.{Answer}
 use Rattle.host.specs.Input.{FileBytes}
+use Rattle.device_commands.specs.CoreEnd.{AnswersCore}
+use Rattle.device_texts.specs.ReplyJson.{last_notes}
+use Rattle.inspecting.specs.PlanAnswers.{AnswersPlan}
 use Rattle.inspecting.specs.ReadingEnd.{AnswersReading}
-use Rattle.inspecting.specs.declared.inspection.Form.TheVariants as form
-use Rattle.boot_cli.specs.OrderEnd.{AnswersOrder}
+use Rattle.device_texts.specs.declared.form.Form.TheVariants as form
+use Rattle.boot_cli.specs.OrderEnd.{AnswersOrder, AnswersSwept}
 
 -- The writer took the JSON text of a value, and a line feed.
 pub record WritesValue (old new : Option (List ℕ)) : Type 0 where
@@ -39,19 +43,30 @@ abbrev pub is_codes : ReadOrder → Bool
 is_codes read.Codes = true
 is_codes asked = false
 
--- The answer to an order as JSON: of a read-only command the object of what it finds. Of several
--- objects, one for each reply of a run or for each device
--- of a plan, this says nothing: it says what the command did with its files, as without JSON.
+-- The answer to an order to a device as JSON: an object for each reply of a run, and then one of
+-- the notes on its end, if there are any.
+abbrev pub AnswersReplies : Answer → DeviceOrder → Option (List ℕ) → FileBytes → FileBytes
+    → Option (List ℕ) → Option (List ℕ) → Type 0
+AnswersReplies answer asked input file then old new =
+    (mid : Option (List ℕ)) × (notes : List (List ℕ))
+    × AnswersCore form.Json answer asked input file then old mid × Appends mid new (last_notes notes)
+
+-- The answer to an order as JSON: of a read-only command the object of what it finds, of a sweep that
+-- of its result, of a run an object for each reply, and of a plan one for each device.
 abbrev pub AnswersJson : Answer → Order → Option (List ℕ) → FileBytes → FileBytes
     → Option (List ℕ) → Option (List ℕ) → Type 0
 AnswersJson answer (order.Read asked) input file then old new = MatchBool (is_codes asked)
     (AnswersObject answer (order.Read asked) input file then old new)
     (AnswersReading form.Json answer asked input file old new)
 AnswersJson answer (order.Device asked) input file then old new =
-    AnswersOrder answer (order.Device asked) input file then None None
+    AnswersReplies answer asked input file then old new
 AnswersJson answer (order.Plan asked) input file then old new = MatchBool (lists_devices asked)
-    (AnswersOrder answer (order.Plan asked) input file then None None)
+    (AnswersPlan form.Json answer asked input file old new)
     (AnswersObject answer (order.Plan asked) input file then old new)
+AnswersJson answer (order.Sweep device script images choices) input file then old new =
+    AnswersSwept form.Json answer (order.Sweep device script images choices) input file then old new
+AnswersJson answer (order.MergeSweeps outputs picture forced) input file then old new =
+    AnswersSwept form.Json answer (order.MergeSweeps outputs picture forced) input file then old new
 AnswersJson answer asked input file then old new =
     AnswersObject answer asked input file then old new
 

@@ -1,12 +1,11 @@
 -- The answer to an order, and which files a sweep keeps.
-use Rattle.std.specs.Prelude.{◌≤◌, ℕ, Bool, List, Option}
+use Rattle.std.specs.Prelude.{ℕ, Bool, List, Option}
 use Rattle.command_line.specs.declared.orders.Order.{Order}
 use Rattle.command_line.specs.declared.orders.Order.TheVariants as order
 use Rattle.host.specs.declared.answer.Answer.{Answer}
 use Rattle.host.specs.declared.source.Source.{Source}
 use Rattle.host.specs.Doings.{Openings}
 use Rattle.host.specs.Input.{AreNamed, FileBytes, IsNamed}
-use Rattle.host.specs.Status.{status_of_answer}
 use Rattle.creating.specs.CopyEnd.{AnswersCopy}
 use Rattle.creating.specs.NewDeviceEnd.{AnswersNewDevice}
 use Rattle.creating.specs.NewFileEnd.{Replaces}
@@ -14,10 +13,22 @@ use Rattle.creating.specs.NewImageEnd.{AnswersNewImage}
 use Rattle.creating.specs.NewManifestEnd.{AnswersNewManifest}
 use Rattle.inspecting.specs.PlanAnswers.{AnswersPlan}
 use Rattle.inspecting.specs.ReadingEnd.{AnswersReading}
-use Rattle.inspecting.specs.declared.inspection.Form.TheVariants as form
+use Rattle.device_texts.specs.declared.form.Form.{Form}
+use Rattle.device_texts.specs.declared.form.Form.TheVariants as form
 use Rattle.device_commands.specs.CoreEnd.{AnswersCore}
 use Rattle.device_commands.specs.CoreEnd as core
-use Rattle.boot_cli.specs.SweepEnd.{AnswersSweep, KeepsInputs, KeepsOutputs}
+use Rattle.boot_cli.specs.SweepEnd.{AnswersMerge, AnswersSweep, KeepsInputs, KeepsOutputs}
+
+-- The answer to an order to sweep, or to merge outputs of sweeps, in this form.
+abbrev pub AnswersSwept : Form → Answer → Order → Option (List ℕ) → FileBytes → FileBytes
+    → Option (List ℕ) → Option (List ℕ) → Type 0
+AnswersSwept form answer (order.Sweep device script images choices) input file then old new =
+    (one other : Source) × AreNamed device.now script.now one other
+    × AnswersSweep form answer one other input file old new
+    × KeepsInputs one other images.items choices.picture file then
+AnswersSwept form answer (order.MergeSweeps outputs picture forced) input file then old new =
+    AnswersMerge form answer old new × KeepsOutputs outputs.items picture file then
+AnswersSwept form answer asked input file then old new = ⊥
 
 -- The answer to an order of this command. The files hold `then` after it.
 abbrev pub AnswersOrder : Answer → Order → Option (List ℕ) → FileBytes → FileBytes
@@ -36,15 +47,13 @@ AnswersOrder answer (order.Extract device flash image side out) input file then 
     × AnswersCopy answer one other image side input file (then out.name.now) old new
     × Replaces answer out file
 AnswersOrder answer (order.Sweep device script images choices) input file then old new =
-    (one other : Source) × AreNamed device.now script.now one other
-    × AnswersSweep answer one other input file old new
-    × KeepsInputs one other images.items choices.picture file then
+    AnswersSwept form.Text answer (order.Sweep device script images choices) input file then old new
 AnswersOrder answer (order.MergeSweeps outputs picture forced) input file then old new =
-    (status_of_answer answer ≤ 1) × KeepsOutputs outputs.items picture file then
+    AnswersSwept form.Text answer (order.MergeSweeps outputs picture forced) input file then old new
 AnswersOrder answer (order.Device asked) input file then old new =
-    AnswersCore answer asked input file then old new
+    AnswersCore form.Text answer asked input file then old new
 AnswersOrder answer (order.Plan asked) input file then old new =
-    AnswersPlan answer asked input file old new
+    AnswersPlan form.Text answer asked input file old new
 AnswersOrder answer (order.Read asked) input file then old new =
     AnswersReading form.Text answer asked input file old new
 

@@ -1,6 +1,6 @@
 -- The result of `sweep`: what it read, and which files it keeps.
-use Rattle.std.specs.Prelude.{◌≡◌, ◌≢◌, ◌⊎◌, ℕ, Bool, IsSomeAnd, IsTrue, List, [], ◌∷◌, None, Option, Some, codes}
-use Rattle.std.specs.Io.KnownBytes.{Keeps}
+use Rattle.std.specs.Prelude.{◌≡◌, ◌≢◌, ◌⊎◌, ℕ, Bool, IsSomeAnd, IsTrue, List, [], ◌∷◌, None, Option, Some, codes, if◌then◌else◌}
+use Rattle.std.specs.Io.KnownBytes.{Appends, Keeps}
 use Rattle.std.specs.Borrow.{Bor}
 use Rattle.common.specs.Lines.{lines_of}
 use Rattle.common.specs.declared.event.Event.{Event}
@@ -9,20 +9,24 @@ use Rattle.device_texts.specs.LineText.{IsLineText}
 use Rattle.device_texts.specs.Said.{Said}
 use Rattle.device_texts.specs.Said as said
 use Rattle.host.specs.declared.answer.Answer.{Answer}
-use Rattle.host.specs.declared.answer.Answer.TheVariants.{Done, Refused, Cut}
+use Rattle.host.specs.declared.answer.Answer.TheVariants.{Done, Refused}
 use Rattle.host.specs.declared.source.Source.{Source}
 use Rattle.host.specs.declared.source.Source.TheVariants.{StandardInput, File}
-use Rattle.inputs.specs.DeviceInput.{RefusesMap}
+use Rattle.inputs.specs.DeviceInput.{GivesNoMap}
 use Rattle.host.specs.Doings.{IsApartFrom, KeepsApart, KeepsSource}
 use Rattle.host.specs.Input.{FileBytes, KeepsFiles}
 use Rattle.host.specs.Inputs.{GiveEach}
 use Rattle.device_texts.specs.declared.device.DeviceFile.{DeviceFile}
+use Rattle.device_texts.specs.declared.form.Form.{Form}
 use Rattle.device_texts.specs.DeviceFile.{IsDeviceFile}
 use Rattle.device_commands.specs.ProvisionEnd.{AreOthers, KeepsWords}
 use Rattle.inputs.specs.Script.{IsScript, known_after_each}
+use Rattle.sweep.specs.Swept.{is_good, written}
+use Rattle.sweep.specs.declared.swept.Swept.{Swept}
+use Rattle.sweep.specs.declared.swept.Swept.TheVariants as swept
 
 -- `sweep` read a device file, and a script that cuts no write, with the files that it names. This
--- says nothing of what is printed about the runs.
+-- says nothing of the runs.
 pub record SweepsDevice (device script : Source) (input : Option (List ℕ)) (files : FileBytes)
     : Type 0 where
   pub device_bytes : List ℕ
@@ -34,14 +38,43 @@ pub record SweepsDevice (device script : Source) (input : Option (List ℕ)) (fi
   pub says : IsScript text
       (known_after_each (device ∷ script ∷ []) (record { input = input; files = files })) [] came
 
--- The answer of `sweep`: it read the device file and the script, or wrote why the sizes of the
--- device file make no map. In the second case the script doesn't matter.
-abbrev pub AnswersSweep : Answer → Source → Source → Option (List ℕ) → FileBytes
+-- A device was made of its file, to run the script on it, whether it could be provisioned or not.
+abbrev pub HasDevice : Swept → Type 0
+HasDevice (swept.Found found) = Unit {0}
+HasDevice (swept.RefusedMap refused) = ⊥
+HasDevice (swept.RefusedDevice fault) = Unit {0}
+HasDevice swept.Nothing = ⊥
+
+-- What `sweep` read for its result: a device file and a script, or a device file whose sizes make no
+-- map. In the second case the script doesn't matter.
+abbrev pub FindsSweep : Swept → Source → Source → Option (List ℕ) → FileBytes → Type 0
+FindsSweep (swept.Found found) device script input files = SweepsDevice device script input files
+FindsSweep (swept.RefusedMap refused) device script input files =
+    GivesNoMap device input files refused
+FindsSweep (swept.RefusedDevice fault) device script input files =
+    SweepsDevice device script input files
+FindsSweep swept.Nothing device script input files = ⊥
+
+-- The answer: `Refused` if something is refused, or if a run had an unexpected end.
+abbrev pub answer_of : Swept → Answer
+answer_of it = if is_good it then Done else Refused
+
+-- A writer took the result of a sweep in this form. A JSON object may have notes.
+pub record WritesSwept (form : Form) (answer : Answer) (it : Swept) (old new : Option (List ℕ))
+    : Type 0 where
+  pub notes : List (List ℕ)
+  pub answered : answer ≡ answer_of it
+  pub taken : Appends old new (written form notes it)
+
+-- The answer of `sweep`: the result of a sweep, for what it read, is written in this form.
+abbrev pub AnswersSweep : Form → Answer → Source → Source → Option (List ℕ) → FileBytes
     → Option (List ℕ) → Option (List ℕ) → Type 0
-AnswersSweep Done device script input files old new = SweepsDevice device script input files
-AnswersSweep Refused device script input files old new =
-    SweepsDevice device script input files ⊎ RefusesMap device input files old new
-AnswersSweep Cut device script input files old new = ⊥
+AnswersSweep form answer device script input files old new =
+    (it : Swept) × FindsSweep it device script input files × WritesSwept form answer it old new
+
+-- The answer of `sweep --merge`: the result of a sweep is written in this form.
+abbrev pub AnswersMerge : Form → Answer → Option (List ℕ) → Option (List ℕ) → Type 0
+AnswersMerge form answer old new = (it : Swept) × WritesSwept form answer it old new
 
 -- What a line of a script says names this file, to use it or a part of it. The name `-` is no file.
 abbrev pub SaysFile : List ℕ → Said → Type 0

@@ -10,9 +10,10 @@ use creating::make_device::run_make_device;
 use creating::make_image::run_make_image;
 use creating::make_manifest::run_make_manifest;
 use device_commands::run_device_order;
+use device_texts::Form;
 use host::{Answer, Host, Refusal, Source};
 use inputs::NoNotes;
-use inspecting::{run_inspection, run_plan};
+use inspecting::{NoPlanNotes, run_inspection, run_plan};
 use sector_map::Side;
 use std::alloc::Global;
 use std::io::Write;
@@ -38,7 +39,7 @@ pub fn run_command<H: Host, O: Write, E: Write>(
 {
     match *order {
         Order::Read(order) => run_inspection(alloc, order, host, out),
-        Order::Plan(ref order) => run_plan(alloc, order, host, out),
+        Order::Plan(ref order) => run_plan(alloc, Form::Text, order, host, &mut NoPlanNotes, out),
         Order::MakeDevice { ref device } => run_make_device(alloc, device, out, err),
         Order::MakeImage {
             image,
@@ -49,7 +50,14 @@ pub fn run_command<H: Host, O: Write, E: Write>(
             device,
             ref manifest,
         } => run_make_manifest(alloc, Source::named(device), manifest, host, out, err),
-        Order::Device(ref order) => run_device_order(alloc, order, host, out, &mut NoNotes),
+        Order::Device(ref order) => run_device_order(
+            alloc,
+            order,
+            Form::Text,
+            host,
+            out,
+            &mut NoNotes,
+        ),
         Order::Extract {
             device,
             flash,
@@ -67,13 +75,13 @@ pub fn run_command<H: Host, O: Write, E: Write>(
             choices,
         } => {
             let named = Named::of(device, script, images, choices);
-            run_sweep(alloc, named, host, out, err)
+            run_sweep(alloc, Form::Text, named, host, out, err)
         }
         Order::MergeSweeps {
             ref outputs,
             picture,
             forced,
-        } => run_merge(alloc, outputs, picture, forced, host, out),
+        } => run_merge(alloc, Form::Text, outputs, picture, forced, host, out),
     }
 }
 

@@ -7,14 +7,17 @@ ghost use Rattle.boot_cli.specs.WordsEnd.{EndsByCut};
 use crate::commands::run_command;
 use crate::explained_plan::run_noted_plan;
 use crate::json::{
-    answer_devices, answer_noted_inspection, answer_noted_replies, is_codes, layout_of,
-    lists_devices, outcome_in_memory, write_note_object, write_object,
+    answer_devices, answer_noted_inspection, answer_noted_replies, answer_noted_sweep, is_codes,
+    lists_devices, outcome_in_memory, write_object,
 };
+use crate::merging::merge_outputs;
+use crate::sweeping::{Named, sweep_device};
 use crate::until_failed::UntilFailed;
 use command_line::{Order, Request};
 use core::mem::replace_with;
 use device_commands::run_device_order;
-use explaining::{Remembering, ReplyNotes, explain_end, explain_rows};
+use device_texts::Form;
+use explaining::{DeviceNotes, Remembering, WrittenNotes, explain_end, explain_rows};
 use host::{Answer, Host, Refusal, finish};
 use std::alloc::Global;
 use std::io::Write;
@@ -133,14 +136,11 @@ fn answer_noted<H: Host, O: Write, E: Write>(
     }
     match request.order {
         Order::Device(ref order) => {
-            let outcome = answer_noted_replies(alloc, order, host, out);
-            explain_end(alloc, &request.order, &outcome, host, notes);
-            let answer = outcome?;
-            write_note_object(alloc, notes, out)?;
-            Ok(answer)
+            answer_noted_replies(alloc, order, &request.order, host, out, notes)
         }
         Order::Plan(ref order) if lists_devices(order) => {
-            let outcome = answer_devices(alloc, order, true, host, out);
+            let mut noted = DeviceNotes::new(alloc, err);
+            let outcome = answer_devices(alloc, order, host, &mut noted, out);
             explain_end(alloc, &request.order, &outcome, host, notes);
             outcome
         }
@@ -149,6 +149,24 @@ fn answer_noted<H: Host, O: Write, E: Write>(
         }
         Order::Read(order) => {
             answer_noted_inspection(alloc, order, &request.order, host, out, notes)
+        }
+        Order::Sweep {
+            device,
+            script,
+            ref images,
+            choices,
+        } => {
+            let named = Named::of(device, script, images, choices);
+            let swept = sweep_device(alloc, named, host, err);
+            answer_noted_sweep(alloc, &request.order, swept, host, out, notes)
+        }
+        Order::MergeSweeps {
+            ref outputs,
+            picture,
+            forced,
+        } => {
+            let swept = merge_outputs(alloc, outputs, picture, forced, host);
+            answer_noted_sweep(alloc, &request.order, swept, host, out, notes)
         }
         _ => answer_noted_object(alloc, &request.order, host, out, err, notes),
     }
@@ -177,7 +195,7 @@ fn answer_noted_object<H: Host, O: Write, E: Write>(
     if let Order::Plan(_) = order {
         explain_rows(alloc, &text, notes);
     }
-    write_object(alloc, layout_of(order), &text, notes, out)?;
+    write_object(alloc, order, &text, notes, out)?;
     Ok(answer)
 }
 
@@ -198,7 +216,8 @@ fn run_noted<H: Host, O: Write, E: Write>(
 {
     match *order {
         Order::Device(ref order) => {
-            run_device_order(alloc, order, host, out, &mut ReplyNotes::new(alloc, err))
+            let mut notes = WrittenNotes::new(alloc, err);
+            run_device_order(alloc, order, Form::Text, host, out, &mut notes)
         }
         Order::Plan(ref order) => run_noted_plan(alloc, order, host, out, err),
         _ => run_command(alloc, order, host, out, err),

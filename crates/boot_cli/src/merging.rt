@@ -1,18 +1,39 @@
 //! `bootswap sweep --merge`: adds up the outputs of the parts of a sweep.
-ghost use Rattle.std.specs.Prelude.{◌≤◌, IfOk, IfSome, OnOk};
+ghost use Rattle.std.specs.Prelude.{IfOk, IfSome, OnOk};
 ghost use Rattle.device_commands.specs.ProvisionEnd.{AreOthers};
 ghost use Rattle.host.specs.Input.{KeepsFiles};
-ghost use Rattle.host.specs.Status.{status_of_answer};
-ghost use Rattle.boot_cli.specs.SweepEnd.{KeepsOutputs};
+ghost use Rattle.boot_cli.specs.SweepEnd.{AnswersMerge, KeepsOutputs};
 
-use crate::sweeping::{check_picture, hold_picture, tell_found};
+use crate::sweeping::{check_picture, hold_picture, make_picture, write_swept};
+use device_texts::Form;
 use host::{Answer, FlashFault, Host, MOST_FILE, Refusal, Source, SourceFault, refuse_input};
 use std::alloc::Global;
 use std::io::Write;
-use sweep::{Found, add_output};
+use sweep::{Found, Swept, add_output};
 
 /// Reads the outputs of the parts of a sweep from `host`, and writes to `out` the output of all their
-/// runs.
+/// runs, in this form. `merge_outputs` says what it reads and makes.
+///
+/// # Errors
+/// Those of `merge_outputs`, and `CannotWrite` if the answer can't be written.
+pub fn run_merge<H: Host, O: Write>(
+    alloc: Global,
+    form: Form,
+    outputs: &[&str],
+    picture: Option<&str>,
+    is_forced: bool,
+    host: &mut H,
+    out: &mut O,
+) -> Result<Answer, Refusal>
+    ensures answers { IfOk result (λ answer.
+        AnswersMerge form answer (O.contents out.old) (O.contents out.new)) }
+    ensures outputs { KeepsOutputs outputs.now picture.entry (H.file host.old) (H.file host.new) }
+{
+    let swept = merge_outputs(alloc, outputs, picture, is_forced, host)?;
+    write_swept(alloc, form, &[], &swept, out)
+}
+
+/// Reads the outputs of the parts of a sweep from `host`, and returns the result of all their runs.
 ///
 /// `outputs` has the names of the outputs, and `picture` that of the picture to make, if there is
 /// one. All outputs are read before the picture's file is looked up. It may be replaced if it is a
@@ -22,24 +43,23 @@ use sweep::{Found, add_output};
 /// # Errors
 /// `OfSource` with `CannotMerge` for the first output that is wrong, or that is of other events than
 /// those before it, and else as for any input. `PictureIsInput` if the picture is an output.
-/// `NoMemory` if memory runs out. `CannotWrite` if the answer can't be written.
-pub fn run_merge<H: Host, O: Write>(
+/// `NoMemory` if memory runs out.
+pub fn merge_outputs<H: Host>(
     alloc: Global,
     outputs: &[&str],
     picture: Option<&str>,
     is_forced: bool,
     host: &mut H,
-    out: &mut O,
-) -> Result<Answer, Refusal>
-    ensures answers { IfOk result (λ answer. status_of_answer answer ≤ 1) }
-    ensures outputs { KeepsOutputs outputs.now picture.entry (H.file host.old) (H.file host.new) }
+) -> Result<Swept, Refusal>
+    ensures { KeepsOutputs outputs.now picture.entry (H.file host.old) (H.file host.new) }
 {
     let Sum { found, held } = sum_of(alloc, outputs, picture, host)?;
     refuse_outputs(alloc, host, picture, is_forced, held, outputs)?;
     let Some(found) = found else {
-        return Ok(Answer::Done);
+        return Ok(Swept::Nothing);
     };
-    tell_found(alloc, &found, picture, host, out)
+    make_picture(alloc, &found, picture, host)?;
+    Ok(Swept::Found(found))
 }
 
 /// What outputs add up to.

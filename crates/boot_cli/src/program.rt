@@ -8,14 +8,18 @@ use crate::commands::run_command;
 use crate::explained::run_explained;
 use crate::hint::hint_at_notes;
 use crate::json::{
-    answer_devices, answer_inspection, answer_replies, is_codes, layout_of, lists_devices,
-    outcome_in_memory, write_object,
+    answer_devices, answer_inspection, answer_replies, is_codes, lists_devices, outcome_in_memory,
+    write_object,
 };
+use crate::merging::run_merge;
+use crate::sweeping::{Named, run_sweep};
 use crate::until_failed::UntilFailed;
 use crate::words::request_in;
 use command_line::{Order, Request};
 use device_commands::answer_words;
+use device_texts::Form;
 use host::{Answer, Host, Refusal, finish};
+use inspecting::NoPlanNotes;
 use std::alloc::Global;
 use std::convert::AsStr;
 use std::io::Write;
@@ -104,7 +108,7 @@ fn answer_request<H: Host, O: Write, E: Write>(
     match request.order {
         Order::Device(ref order) => answer_replies(alloc, order, host, out),
         Order::Plan(ref order) if lists_devices(order) => {
-            answer_devices(alloc, order, false, host, out)
+            answer_devices(alloc, order, host, &mut NoPlanNotes, out)
         }
         Order::Read(order) if is_codes(order) => answer_object(
             alloc,
@@ -114,6 +118,20 @@ fn answer_request<H: Host, O: Write, E: Write>(
             err,
         ),
         Order::Read(order) => answer_inspection(alloc, order, host, out),
+        Order::Sweep {
+            device,
+            script,
+            ref images,
+            choices,
+        } => {
+            let named = Named::of(device, script, images, choices);
+            run_sweep(alloc, Form::Json, named, host, out, err)
+        }
+        Order::MergeSweeps {
+            ref outputs,
+            picture,
+            forced,
+        } => run_merge(alloc, Form::Json, outputs, picture, forced, host, out),
         _ => answer_object(alloc, &request.order, host, out, err),
     }
 }
@@ -136,6 +154,6 @@ fn answer_object<H: Host, O: Write, E: Write>(
     let mut text = Vec::new(alloc);
     let outcome = run_command(alloc, order, host, &mut text, err);
     let answer = outcome_in_memory(outcome)?;
-    write_object(alloc, layout_of(order), &text, &[], out)?;
+    write_object(alloc, order, &text, &[], out)?;
     Ok(answer)
 }

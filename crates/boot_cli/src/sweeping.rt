@@ -1,29 +1,32 @@
 //! `bootswap sweep`: runs a script once for each write of the flash, with a power cut at that
 //! write.
-ghost use Rattle.std.specs.Prelude.{◌≡◌, ◌≤◌, IfErr, IfOk, IfSome, List, ℕ, OnOk};
+ghost use Rattle.std.specs.Prelude.{◌≡◌, IfErr, IfOk, IfSome, List, ℕ, OnOk, map};
+ghost use Rattle.std.specs.Io.KnownBytes.{Appends};
 ghost use Rattle.flash_model.specs.Blanks.{IsBlankOf};
 ghost use Rattle.host.specs.Doings.{KeepsApart};
 ghost use Rattle.host.specs.Input.{IsKnownAs, IsNamed, KeepsFiles};
-ghost use Rattle.host.specs.Status.{status_of_answer};
 ghost use Rattle.device_texts.specs.DeviceFile.{IsOfFile};
 ghost use Rattle.device_texts.specs.FlashOf.{IsFlashOf};
 ghost use Rattle.device_texts.specs.Said.{said};
-ghost use Rattle.boot_cli.specs.SweepEnd.{AnswersSweep, IsNamedBy, IsNoInput, IsOther, KeepsBesides, KeepsInputs, KeepsRead, SaysFile};
+ghost use Rattle.sweep.specs.Swept.{written};
+ghost use Rattle.boot_cli.specs.SweepEnd.{AnswersSweep, FindsSweep, HasDevice, answer_of};
+ghost use Rattle.boot_cli.specs.SweepEnd.{IsNamedBy, IsNoInput, IsOther, SaysFile};
+ghost use Rattle.boot_cli.specs.SweepEnd.{KeepsBesides, KeepsInputs, KeepsRead};
 
 use crate::progress::Progress;
 use command_line::{SweepChoices, SweepPart};
 use common::event::Event;
-use device_commands::provision::{read_images, write_refused};
-use device_texts::{DeviceFile, Line, flash_of, write_all};
+use device_commands::provision::read_images;
+use device_texts::{DeviceFile, Form, Line, flash_of, write_all};
 use host::{Answer, FlashFault, Host, Refusal, Replaced, Source, SourceFault, refuse_input};
-use inputs::{Lines, load, read_device, read_script};
+use inputs::{Lines, device_or_fault, load, read_script};
 use machine::Fault;
 use sector_map::SectorMap;
 use std::alloc::{AllocError, Global};
 use std::io::{ErrorKind, Write};
 use std::marker::Brand;
 use std::sync::ledger::{Blank, Ledger};
-use sweep::{Found, Part, Plan, Scenario, found_text, picture_of, sweep};
+use sweep::{Found, Part, Plan, Scenario, Swept, picture_of, sweep};
 
 /// The arguments of a sweep: the files that it reads, what it tries, and what it makes.
 #[derive(Clone, Copy)]
@@ -77,7 +80,64 @@ struct Start {
     held: Result<(), FlashFault>,
 }
 
-/// Runs a script on a device with power cuts, and writes to `out` how the runs ended.
+/// Runs a script on a device with power cuts, and writes to `out` how the runs ended, in this form.
+/// `sweep_device` says what it reads and makes.
+pub fn run_sweep<H: Host, O: Write, E: Write>(
+    alloc: Global,
+    form: Form,
+    named: Named<'_, '_>,
+    host: &mut H,
+    out: &mut O,
+    err: &mut E,
+) -> Result<Answer, Refusal>
+    ensures answers { IfOk result (λ answer.
+        AnswersSweep form answer named.entry.device named.entry.script
+        (H.input host.old) (H.file host.old) (O.contents out.old) (O.contents out.new)) }
+    ensures inputs { KeepsInputs named.entry.device named.entry.script named.entry.images.now
+        named.entry.choices.picture (H.file host.old) (H.file host.new) }
+{
+    let swept = sweep_device(alloc, named, host, err)?;
+    write_swept(alloc, form, &[], &swept, out)
+}
+
+/// Writes the result of a sweep to `out` in a form, and returns the answer. The object has the notes
+/// in its member `notes`, if there are any. The text has none.
+///
+/// # Errors
+/// `NoMemory` if memory of `alloc` runs out. Then nothing is written. `CannotWrite` if a write fails.
+pub fn write_swept<O: Write>(
+    alloc: Global,
+    form: Form,
+    notes: &[&str],
+    swept: &Swept,
+    out: &mut O,
+) -> Result<Answer, Refusal>
+    ensures { IfOk result (λ answer. (answer ≡ answer_of swept.now)
+        × Appends (O.contents out.old) (O.contents out.new)
+        (written form (map (λ note. note.now) notes.now) swept.now)) }
+{
+    let answer = answer_of(swept);
+    let Ok(text) = swept.written(alloc, form, notes) else {
+        return Err(Refusal::NoMemory);
+    };
+    match write_all(out, text.as_bytes()) {
+        Ok(()) => Ok(answer),
+        Err(_) => Err(Refusal::CannotWrite),
+    }
+}
+
+/// The answer of a sweep with this result.
+pub fn answer_of(swept: &Swept) -> Answer
+    ensures { result ≡ answer_of swept.now }
+{
+    if swept.is_good() {
+        Answer::Done
+    } else {
+        Answer::Refused
+    }
+}
+
+/// Runs a script on a device with power cuts, and returns how the runs ended.
 ///
 /// The device file, the script and the images are read from `host`. The flash is made and
 /// provisioned in memory of `alloc`. `named` says at which writes the power fails. At a terminal,
@@ -88,22 +148,21 @@ struct Start {
 /// forced. The picture is made or replaced after all runs. No other file changes. The device file,
 /// the script, the files that its lines name and the images keep their bytes on every path: none of
 /// them may be the picture.
-pub fn run_sweep<H: Host, O: Write, E: Write>(
+pub fn sweep_device<H: Host, E: Write>(
     alloc: Global,
     named: Named<'_, '_>,
     host: &mut H,
-    out: &mut O,
     err: &mut E,
-) -> Result<Answer, Refusal>
-    ensures answers { IfOk result (λ answer.
-        AnswersSweep answer named.entry.device named.entry.script
-        (H.input host.old) (H.file host.old) (O.contents out.old) (O.contents out.new)) }
+) -> Result<Swept, Refusal>
+    ensures finds { IfOk result (λ swept.
+        FindsSweep swept named.entry.device named.entry.script (H.input host.old) (H.file host.old)) }
     ensures inputs { KeepsInputs named.entry.device named.entry.script named.entry.images.now
         named.entry.choices.picture (H.file host.old) (H.file host.new) }
 {
     let is_input_read = reads_standard_input(&named);
-    let Some(device) = read_device(alloc, named.device, host, out)? else {
-        return Ok(Answer::Refused);
+    let device = match device_or_fault(alloc, named.device, host)? {
+        Ok(device) => device,
+        Err(refused) => return Ok(Swept::RefusedMap(refused)),
     };
     let text = read_script(alloc, named.script, host)?;
     let events = load(alloc, &text, is_input_read, host)?;
@@ -111,7 +170,7 @@ pub fn run_sweep<H: Host, O: Write, E: Write>(
         text: &text,
         events: &events,
     };
-    sweep_images(alloc, &device, script, &named, host, out, err)
+    sweep_images(alloc, &device, script, &named, host, err)
 }
 
 /// Whether one of these files is standard input.
@@ -183,17 +242,16 @@ fn refuse_line<H: Host>(
 }
 
 /// Reads the images, provisions a flash with them, and sweeps a script on it.
-fn sweep_images<H: Host, O: Write, E: Write>(
+fn sweep_images<H: Host, E: Write>(
     alloc: Global,
     device: &DeviceFile,
     script: Script<'_, '_>,
     named: &Named<'_, '_>,
     host: &mut H,
-    out: &mut O,
     err: &mut E,
-) -> Result<Answer, Refusal>
+) -> Result<Swept, Refusal>
     requires device { IsOfFile device.now }
-    ensures answers { IfOk result (λ answer. status_of_answer answer ≤ 1) }
+    ensures ran { IfOk result HasDevice }
     ensures inputs { KeepsRead named.now.device named.now.script named.now.images.now
         (IsNamedBy script.entry.text.now) named.now.choices.picture
         (H.file host.old) (H.file host.new) }
@@ -204,7 +262,7 @@ fn sweep_images<H: Host, O: Write, E: Write>(
         return Err(Refusal::NoMemory);
     };
     match made {
-        Err(fault) => write_refused(alloc, fault, out),
+        Err(fault) => Ok(Swept::RefusedDevice(fault)),
         Ok(bytes) => {
             let scenario = Scenario {
                 device,
@@ -213,7 +271,7 @@ fn sweep_images<H: Host, O: Write, E: Write>(
                 between: &[],
                 more: &[],
             };
-            tell_sweep(alloc, &scenario, &named.choices, host, out, err)
+            sweep_scenario(alloc, &scenario, &named.choices, host, err)
         }
     }
 }
@@ -266,16 +324,15 @@ fn provision_in_memory<L: Ledger>(
     Ok(Ok(Vec::from_slice(alloc, flash.bytes())?))
 }
 
-/// Sweeps a scenario, makes the picture if `choices` has one, and writes the findings to `out`.
-fn tell_sweep<H: Host, O: Write, E: Write>(
+/// Sweeps a scenario, and makes the picture if `choices` has one.
+fn sweep_scenario<H: Host, E: Write>(
     alloc: Global,
     scenario: &Scenario<'_>,
     choices: &SweepChoices<'_>,
     host: &mut H,
-    out: &mut O,
     err: &mut E,
-) -> Result<Answer, Refusal>
-    ensures answers { IfOk result (λ answer. status_of_answer answer ≤ 1) }
+) -> Result<Swept, Refusal>
+    ensures ran { IfOk result HasDevice }
     ensures others { KeepsBesides choices.now.picture (H.apart host.old)
         (H.file host.old) (H.file host.new) }
 {
@@ -285,29 +342,8 @@ fn tell_sweep<H: Host, O: Write, E: Write>(
     let Ok(found) = swept else {
         return Err(Refusal::NoMemory);
     };
-    tell_found(alloc, &found, choices.picture, host, out)
-}
-
-/// Makes the picture of a sweep, if it has a name, and writes the findings to `out`.
-pub(crate) fn tell_found<H: Host, O: Write>(
-    alloc: Global,
-    found: &Found,
-    picture: Option<&str>,
-    host: &mut H,
-    out: &mut O,
-) -> Result<Answer, Refusal>
-    ensures answers { IfOk result (λ answer. status_of_answer answer ≤ 1) }
-    ensures others { KeepsBesides picture.entry (H.apart host.old)
-        (H.file host.old) (H.file host.new) }
-{
-    make_picture(alloc, found, picture, host)?;
-    let Ok(text) = found_text(alloc, found) else {
-        return Err(Refusal::NoMemory);
-    };
-    match write_all(out, text.as_bytes()) {
-        Ok(()) => Ok(answer_of(found.is_good())),
-        Err(_) => Err(Refusal::CannotWrite),
-    }
+    make_picture(alloc, &found, choices.picture, host)?;
+    Ok(Swept::Found(found))
 }
 
 /// The plan of a sweep with these choices.
@@ -323,19 +359,8 @@ fn plan_of(choices: &SweepChoices<'_>) -> Plan {
     }
 }
 
-/// The answer of a sweep whose runs all ended well, or not.
-fn answer_of(is_good: bool) -> Answer
-    ensures { status_of_answer result ≤ 1 }
-{
-    if is_good {
-        Answer::Done
-    } else {
-        Answer::Refused
-    }
-}
-
 /// Makes the picture of a sweep, if it has a name.
-fn make_picture<H: Host>(
+pub(crate) fn make_picture<H: Host>(
     alloc: Global,
     found: &Found,
     picture: Option<&str>,

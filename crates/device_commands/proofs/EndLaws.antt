@@ -17,6 +17,7 @@ use Rattle.device_commands.specs.declared.provision.Provisioned.TheVariants as m
 use Rattle.device_texts.specs.declared.device.DeviceFile.{DeviceFile}
 use Rattle.host.specs.declared.source.Source.{Source}
 use Rattle.host.specs.declared.source.Source.TheVariants as source
+use Rattle.device_texts.specs.declared.form.Form.{Form}
 use Rattle.device_texts.specs.FlashOf.{IsFlashOf}
 use Rattle.inputs.specs.DeviceInput.{GivesDevice}
 use Rattle.host.specs.Input.{FileBytes, Gives, KeepsFiles, KeepsOthers}
@@ -114,19 +115,19 @@ KeepsFiles-told (Ok Cut) (made.Refused fault) files new_files old new answered l
 KeepsFiles-told (Err refusal) (made.Refused fault) files new_files old new answered late kept ends =
     kept (not_done fault)
 
-AnswersRun-runs : (is_strict : Bool) (answer : Answer) (device flash script : Source) (input : Option (List ℕ))
+AnswersRun-runs : (form : Form) (is_strict : Bool) (answer : Answer) (device flash script : Source) (input : Option (List ℕ))
     (file : FileBytes) (old new : Option (List ℕ))
-    → RunsDevice is_strict answer (device ∷ flash ∷ script ∷ []) input file old new
-    → AnswersRun is_strict answer device flash script input file old new
-AnswersRun-runs is_strict Done device flash script input file old new runs = runs
-AnswersRun-runs is_strict Refused device flash script input file old new runs = inl runs
-AnswersRun-runs is_strict Cut device flash script input file old new runs = runs
+    → RunsDevice form is_strict answer (device ∷ flash ∷ script ∷ []) input file old new
+    → AnswersRun form is_strict answer device flash script input file old new
+AnswersRun-runs form is_strict Done device flash script input file old new runs = runs
+AnswersRun-runs form is_strict Refused device flash script input file old new runs = inl runs
+AnswersRun-runs form is_strict Cut device flash script input file old new runs = runs
 
 -- `run` read a device file, then its flash, and then a script with the files that it names.
-pub AnswersRun-read : (is_strict : Bool) (answer : Answer) (device : Source) (flash : Bor (List ℕ)) (script : Source)
+pub AnswersRun-read : (form : Form) (is_strict : Bool) (answer : Answer) (device : Source) (flash : Bor (List ℕ)) (script : Source)
     (input second_input third_input fourth_input : Option (List ℕ))
     (file second_file third_file fourth_file : FileBytes)
-    (old mid new : Option (List ℕ)) (bytes text : List ℕ) (cuts : List Armed) (came : List (Event (List ℕ)))
+    (old new : Option (List ℕ)) (bytes text : List ℕ) (cuts : List Armed) (came : List (Event (List ℕ)))
     (of_device : DeviceFile)
     → GivesDevice device input file of_device → KeepsOthers device input file second_input second_file
     → Gives (source.File flash) second_input second_file bytes
@@ -134,16 +135,16 @@ pub AnswersRun-read : (is_strict : Bool) (answer : Answer) (device : Source) (fl
     → Gives script third_input third_file text
     → KeepsOthers script third_input third_file fourth_input fourth_file
     → ((known : Known) → StaysKnown known fourth_input fourth_file → IsScript text known cuts came)
-    → IsFlashOf of_device.map bytes → mid ≡ old → Plays is_strict answer of_device bytes cuts came mid new
-    → AnswersRun is_strict answer device (source.File flash) script input file old new
-AnswersRun-read is_strict answer device flash script input second_input third_input fourth_input file second_file third_file
-    fourth_file old mid new bytes text cuts came of_device given kept flash_given flash_kept script_given script_kept says
-    whole same plays =
+    → IsFlashOf of_device.map bytes → Plays form is_strict answer of_device bytes cuts came old new
+    → AnswersRun form is_strict answer device (source.File flash) script input file old new
+AnswersRun-read form is_strict answer device flash script input second_input third_input fourth_input file second_file third_file
+    fourth_file old new bytes text cuts came of_device given kept flash_given flash_kept script_given script_kept says
+    whole plays =
     let first : Known = record { input = input; files = file } in
     let second = known_after device first in
     let stays = StaysKnown-read device first input second_input file second_file (StaysKnown-itself input file) kept in
     let still = StaysKnown-read (source.File flash) second second_input third_input second_file third_file stays flash_kept in
-    AnswersRun-runs is_strict answer device (source.File flash) script input file old new (record {
+    AnswersRun-runs form is_strict answer device (source.File flash) script input file old new (record {
       device_bytes = given.0;
       of_device = of_device;
       bytes = bytes;
@@ -158,5 +159,5 @@ AnswersRun-read is_strict answer device flash script input second_input third_in
       whole = whole;
       script = says (known_after script second)
           (StaysKnown-read script second third_input fourth_input third_file fourth_file still script_kept);
-      plays = subst (λ o. Plays is_strict answer of_device bytes cuts came o new) same plays;
+      plays = plays;
     })

@@ -12,6 +12,7 @@ use Rattle.host.specs.declared.source.Source.{Source}
 use Rattle.host.specs.declared.source.Source.TheVariants as source
 use Rattle.host.specs.Input.{FileBytes}
 use Rattle.host.specs.Inputs.{names_of}
+use Rattle.device_texts.specs.declared.form.Form.{Form}
 use Rattle.device_commands.specs.CoreEnd.{AnswersCore}
 use Rattle.device_commands.specs.ProvisionEnd.{AnswersMade, AnswersProvision}
 use Rattle.device_commands.specs.RunEnd.{AnswersRun}
@@ -41,11 +42,11 @@ AnswersProvision-kept flash device names input file held old mid new answered ke
   answered = AnswersMade-kept answered.outcome old mid new answered.answered kept;
 }
 
-AnswersRun-kept : (is_strict : Bool) (device flash script : Source) (input : Option (List ℕ)) (file : FileBytes)
+AnswersRun-kept : (form : Form) (is_strict : Bool) (device flash script : Source) (input : Option (List ℕ)) (file : FileBytes)
     (old mid new : Option (List ℕ))
-    → AnswersRun is_strict Done device flash script input file old mid → Keeps mid new
-    → AnswersRun is_strict Done device flash script input file old new
-AnswersRun-kept is_strict device flash script input file old mid new answered kept = record {
+    → AnswersRun form is_strict Done device flash script input file old mid → Keeps mid new
+    → AnswersRun form is_strict Done device flash script input file old new
+AnswersRun-kept form is_strict device flash script input file old mid new answered kept = record {
   device_bytes = answered.device_bytes;
   of_device = answered.of_device;
   bytes = answered.bytes;
@@ -63,22 +64,24 @@ AnswersRun-kept is_strict device flash script input file old mid new answered ke
     played = answered.plays.played;
     cut = answered.plays.cut;
     answered = answered.plays.answered;
+    notes = answered.plays.notes;
+    noted = answered.plays.noted;
     written = Appends-kept old mid new _ answered.plays.written kept;
   };
 }
 
-pub AnswersCore-kept : (asked : DeviceOrder) (input : Option (List ℕ)) (file then : FileBytes)
+pub AnswersCore-kept : (form : Form) (asked : DeviceOrder) (input : Option (List ℕ)) (file then : FileBytes)
     (old mid new : Option (List ℕ))
-    → AnswersCore Done asked input file then old mid → Keeps mid new
-    → AnswersCore Done asked input file then old new
-AnswersCore-kept (Provision device flash images forced) input file then old mid new answered kept = (
+    → AnswersCore form Done asked input file then old mid → Keeps mid new
+    → AnswersCore form Done asked input file then old new
+AnswersCore-kept form (Provision device flash images forced) input file then old mid new answered kept = (
   answered.0,
   answered.1,
   AnswersProvision-kept (record { name = flash; is_forced = forced }) answered.0 (names_of images.items) input file (then flash.now) old mid new answered.2 kept,
 )
-AnswersCore-kept (Run device flash script durable strict) input file then old mid new answered kept = (
+AnswersCore-kept form (Run device flash script durable strict) input file then old mid new answered kept = (
   answered.0,
   answered.1,
   answered.2,
-  AnswersRun-kept strict answered.0 (source.File flash) answered.1 input file old mid new answered.3 kept,
+  AnswersRun-kept form strict answered.0 (source.File flash) answered.1 input file old mid new answered.3 kept,
 )

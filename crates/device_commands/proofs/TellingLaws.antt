@@ -5,7 +5,7 @@ use Rattle.std.specs.Io.KnownBytes.{Appends}
 use Rattle.std.specs.List.{list_any}
 use Rattle.std.proofs.KnownBytes.{Appends-nil, Appends-trans}
 use Rattle.std.proofs.Math.Bool.{or-false}
-use Rattle.std.proofs.Math.Seq.{get_or-append_seam}
+use Rattle.std.proofs.Math.Seq.{get_or-append_seam, take-append-add}
 use Rattle.std.proofs.lemmas.List.{length-map, map-append}
 use Rattle.std.proofs.lemmas.List.Folds.{list_any-append}
 use Rattle.std.proofs.lemmas.Option.{slice_get-get_or}
@@ -28,15 +28,16 @@ use Rattle.host.specs.declared.error.Refusal.TheVariants.{FlashFile, NoMemory}
 use Rattle.host.specs.Status.{status_of_refusal}
 use Rattle.device_texts.specs.declared.device.DeviceFile.{DeviceFile}
 use Rattle.device_texts.specs.FlashOf.{armed_chip}
-use Rattle.device_texts.specs.ReplyText.{replies_text, reply_text}
-use Rattle.device_texts.proofs.ReplyLaws.{replies_text-push}
+use Rattle.device_texts.specs.ReplyJson.{note_line, reply_line, reply_lines}
+use Rattle.device_texts.specs.declared.form.Form.{Form}
+use Rattle.device_texts.proofs.ReplyLaws.{note_line-none, reply_lines-none, reply_lines-one, reply_lines-push}
 use Rattle.common.specs.Lines.{lines_of}
 use Rattle.host.specs.Input.{FileBytes}
 use Rattle.inputs.specs.declared.checking.BufferedInput.{BufferedInput}
 use Rattle.device_commands.specs.declared.run.Told.{Told}
 use Rattle.device_commands.specs.RunEnd.{IsMadeOf, answer_after, came_by, ending, is_refusal, last_answer}
 use Rattle.device_texts.specs.DeviceFile.{setup_of}
-use Rattle.device_commands.specs.Telling.{BreaksEvent, BreaksText, PlaysRun, PlaysText, RepliesTo, RepliesToAll, TellsAll, TellsEvent, TellsFirst, TellsSome, TellsText}
+use Rattle.device_commands.specs.Telling.{BreaksEvent, BreaksOff, BreaksText, PlaysRun, PlaysText, RepliesTo, RepliesToAll, TellsAll, TellsEvent, TellsFirst, TellsSome, TellsText}
 use Rattle.inputs.specs.Loading.{LoadsAll}
 use Rattle.inputs.proofs.ScriptLaws.{AreTaken, LoadsFirst-none, LoadsFirst-taken}
 
@@ -80,28 +81,30 @@ RepliesToAll-more setup here old mid new came one replies so_far same step =
     }
 
 -- There was no event yet.
-pub TellsAll-none : (setup : Setup) (here : DeviceView) (written : Option (List ℕ))
-    → here.flash.faults ≡ 0 → TellsAll Done false false setup here here [] written written
-TellsAll-none setup here written sound = record {
+pub TellsAll-none : (form : Form) (setup : Setup) (here : DeviceView) (written : Option (List ℕ))
+    → here.flash.faults ≡ 0 → TellsAll form Done false false setup here here [] written written
+TellsAll-none form setup here written sound = record {
   replies = [];
   run = record { events = []; come = refl; runs = runs_none setup here; each = refl; due = refl };
   sound = λ none. (sound, refl);
   answered = refl;
   is_refused = refl;
-  written = Appends-nil written;
+  notes = [];
+  noted = refl;
+  written = subst (Appends written written) (sym (reply_lines-none form 1)) (Appends-nil written);
 }
 
 -- The reply to one more event was written.
-pub TellsAll-more : (setup here : Setup) (old mid new : DeviceView) (came : List (Event (List ℕ)))
+pub TellsAll-more : (form : Form) (setup here : Setup) (old mid new : DeviceView) (came : List (Event (List ℕ)))
     (one : Event (List ℕ)) (number : ℕ) (answer : Answer) (next : Told) (refused refuses failed fails : Bool)
     (before between after : Option (List ℕ))
-    → TellsAll answer refused failed setup old mid came before between → number ≡ length came + 1 → here ≡ setup
-    → TellsEvent next number here mid new one between after
+    → TellsAll form answer refused failed setup old mid came before between → number ≡ length came + 1 → here ≡ setup
+    → TellsEvent form next number here mid new one between after
     → refuses ≡ (refused || next.has_refused)
     → (fails ≡ false → (failed ≡ false) × (new.flash.faults ≡ 0))
-    → TellsAll next.answer refuses fails setup old new (came ++ one ∷ []) before after
+    → TellsAll form next.answer refuses fails setup old new (came ++ one ∷ []) before after
 unfolding RepliesToAll-more
-TellsAll-more setup here old mid new came one number answer next refused refuses failed fails before between after
+TellsAll-more form setup here old mid new came one number answer next refused refuses failed fails before between after
     so_far counted same told refusing sound =
     let run = so_far.run in
     let step = told.step in
@@ -122,19 +125,23 @@ TellsAll-more setup here old mid new came one number answer next refused refuses
       is_refused = refusing ∙ ap (λ (b : Bool). b || next.has_refused) so_far.is_refused
           ∙ ap (λ (b : Bool). list_any is_refusal so_far.replies || b) told.refused
           ∙ sym (any_refusal-push so_far.replies step.reply);
-      written = subst (Appends before after) (sym (replies_text-push 1 so_far.replies step.reply))
+      notes = so_far.notes ++ told.notes ∷ [];
+      noted = length-append so_far.notes (told.notes ∷ []) ∙ ap (λ k. k + 1) so_far.noted
+          ∙ sym (length-append so_far.replies (step.reply ∷ []));
+      written = subst (Appends before after)
+          (sym (reply_lines-push form 1 so_far.replies so_far.notes step.reply told.notes so_far.noted))
           (Appends-trans before between after _ _ so_far.written
-          (subst (λ k. Appends between after (reply_text k step.reply)) place told.written));
+          (subst (λ k. Appends between after (reply_line form k step.reply ++ note_line form k told.notes)) place told.written));
     }
 
 -- The reply to one more event was not written.
-pub TellsSome-more : (refusal : Refusal) (setup here : Setup) (old mid new : DeviceView)
+pub TellsSome-more : (form : Form) (refusal : Refusal) (setup here : Setup) (old mid new : DeviceView)
     (came : List (Event (List ℕ))) (one : Event (List ℕ)) (number : ℕ) (answer : Answer) (refused failed : Bool)
     (before between after : Option (List ℕ))
-    → TellsAll answer refused failed setup old mid came before between → number ≡ length came + 1 → here ≡ setup
-    → BreaksEvent refusal number here mid new one between after
-    → TellsSome refusal setup old new (came ++ one ∷ []) before after
-TellsSome-more refusal setup here old mid new came one number answer refused failed before between after so_far counted
+    → TellsAll form answer refused failed setup old mid came before between → number ≡ length came + 1 → here ≡ setup
+    → BreaksEvent form refusal number here mid new one between after
+    → TellsSome form refusal setup old new (came ++ one ∷ []) before after
+TellsSome-more form refusal setup here old mid new came one number answer refused failed before between after so_far counted
     same told =
     let run = so_far.run in
     let reply = told.step.reply in
@@ -144,15 +151,36 @@ TellsSome-more refusal setup here old mid new came one number answer refused fai
     record {
       told = so_far.replies;
       untold = reply ∷ [];
+      notes = so_far.notes;
+      late = told.notes ∷ [];
       count = broken.count;
       run = RepliesToAll-more setup here old mid new came one so_far.replies run same told.step;
       one = omega arith;
       written = Appends-trans before between after _ _ so_far.written
           (subst (λ text. Appends between after (take broken.count text))
-          (ap (λ k. reply_text k reply) place ∙ sym (append-nil (reply_text (1 + length so_far.replies) reply)))
+          (ap (λ k. reply_line form k reply ++ note_line form k told.notes) place
+          ∙ sym (reply_lines-one form (1 + length so_far.replies) reply told.notes))
           broken.begun);
       output = λ file. absurd (broken.output file);
     }
+
+-- The line of a reply was written in part, and so were its lines.
+pub BreaksOff-reply : (form : Form) (number : ℕ) (refusal : Refusal) (line : List ℕ) (before after : Option (List ℕ))
+    → BreaksOff refusal line before after → BreaksOff refusal (line ++ note_line form number []) before after
+BreaksOff-reply form number refusal line before after broken =
+    subst (λ text. BreaksOff refusal text before after)
+    (sym (ap (λ notes. line ++ notes) (note_line-none form number) ∙ append-nil line)) broken
+
+-- The line of a reply was written, and that of its notes in part.
+pub BreaksOff-notes : (refusal : Refusal) (line notes : List ℕ) (before between after : Option (List ℕ))
+    → Appends before between line → BreaksOff refusal notes between after
+    → BreaksOff refusal (line ++ notes) before after
+BreaksOff-notes refusal line notes before between after written broken = record {
+  count = length line + broken.count;
+  begun = subst (Appends before after) (sym (take-append-add line notes broken.count))
+      (Appends-trans before between after _ _ written broken.begun);
+  output = broken.output;
+}
 
 -- A refusal with another status isn't that of the flash file.
 pub not_of_file : (refusal : Refusal) → status_of_refusal refusal ≡ 1 → refusal ≡ FlashFile → ⊥
@@ -160,27 +188,29 @@ not_of_file refusal one file =
     let same : 1 ≡ 4 = sym one ∙ ap status_of_refusal file in omega (arith, same)
 
 -- All replies so far were written. Then the next line could not be read, or the flash file failed.
-pub TellsSome-all : (refusal : Refusal) (setup : Setup) (old new : DeviceView) (came : List (Event (List ℕ)))
+pub TellsSome-all : (form : Form) (refusal : Refusal) (setup : Setup) (old new : DeviceView) (came : List (Event (List ℕ)))
     (answer : Answer) (refused failed : Bool) (before after : Option (List ℕ))
-    → TellsAll answer refused failed setup old new came before after
-    → TellsSome refusal setup old new came before after
-TellsSome-all refusal setup old new came answer refused failed before after told = record {
+    → TellsAll form answer refused failed setup old new came before after
+    → TellsSome form refusal setup old new came before after
+TellsSome-all form refusal setup old new came answer refused failed before after told = record {
   told = told.replies;
   untold = [];
+  notes = told.notes;
+  late = [];
   count = 0;
   run = subst (RepliesToAll setup old new came) (sym (append-nil told.replies)) told.run;
   one = omega arith;
-  written = subst (Appends before after) (sym (append-nil (replies_text 1 told.replies))) told.written;
+  written = subst (Appends before after) (sym (append-nil (reply_lines form 1 told.replies told.notes))) told.written;
   output = λ file. refl;
 }
 
 -- A run broke off at some line.
-pub BreaksText-some : (refusal : Refusal) (setup : Setup) (old new : DeviceView) (text rest : List ℕ)
+pub BreaksText-some : (form : Form) (refusal : Refusal) (setup : Setup) (old new : DeviceView) (text rest : List ℕ)
     (line_order : LineOrder) (taken : ℕ) (buffered : List BufferedInput) (files : FileBytes) (came : List (Event (List ℕ)))
     (before after : Option (List ℕ)) → AreTaken text rest line_order taken buffered files came
-    → TellsSome refusal setup old new came before after → (refusal ≡ FlashFile → ⊥)
-    → BreaksText refusal setup old new text buffered files before after
-BreaksText-some refusal setup old new text rest line_order taken buffered files came before after are tells other = record {
+    → TellsSome form refusal setup old new came before after → (refusal ≡ FlashFile → ⊥)
+    → BreaksText form refusal setup old new text buffered files before after
+BreaksText-some form refusal setup old new text rest line_order taken buffered files came before after are tells other = record {
   lines = taken;
   came = came;
   comes = LoadsFirst-taken text rest line_order taken buffered files came are;
@@ -189,25 +219,25 @@ BreaksText-some refusal setup old new text rest line_order taken buffered files 
 }
 
 -- A run reached the end of its script, and the flash file failed.
-pub BreaksText-all : (setup : Setup) (old new : DeviceView) (text : List ℕ) (buffered : List BufferedInput) (files : FileBytes)
+pub BreaksText-all : (form : Form) (setup : Setup) (old new : DeviceView) (text : List ℕ) (buffered : List BufferedInput) (files : FileBytes)
     (came : List (Event (List ℕ))) (answer : Answer) (refused failed : Bool) (before after : Option (List ℕ))
-    → LoadsAll text buffered files came → TellsAll answer refused failed setup old new came before after
-    → BreaksText FlashFile setup old new text buffered files before after
-BreaksText-all setup old new text buffered files came answer refused failed before after comes told = record {
+    → LoadsAll text buffered files came → TellsAll form answer refused failed setup old new came before after
+    → BreaksText form FlashFile setup old new text buffered files before after
+BreaksText-all form setup old new text buffered files came answer refused failed before after comes told = record {
   lines = length (lines_of text);
   came = came;
   comes = comes;
-  tells = TellsSome-all FlashFile setup old new came answer refused failed before after told;
+  tells = TellsSome-all form FlashFile setup old new came answer refused failed before after told;
   whole = λ file. refl;
 }
 
 -- All replies of a new device were written.
-PlaysText-told : (is_strict : Bool) (device : DeviceFile) (bytes : List ℕ) (cuts : List Armed) (text : List ℕ)
+PlaysText-told : (form : Form) (is_strict : Bool) (device : DeviceFile) (bytes : List ℕ) (cuts : List Armed) (text : List ℕ)
     (buffered : List BufferedInput) (files : FileBytes) (old new : DeviceView) (answer : Answer)
     (before after : Option (List ℕ)) → IsMadeOf device.map bytes cuts old
-    → TellsText is_strict answer (setup_of device) old new text buffered files before after
-    → PlaysText is_strict answer device bytes cuts text buffered files before after
-PlaysText-told is_strict device bytes cuts text buffered files old new answer before after made all =
+    → TellsText form is_strict answer (setup_of device) old new text buffered files before after
+    → PlaysText form is_strict answer device bytes cuts text buffered files before after
+PlaysText-told form is_strict device bytes cuts text buffered files old new answer before after made all =
     let told = all.tells in
     let run = told.run in
     record {
@@ -221,15 +251,17 @@ PlaysText-told is_strict device bytes cuts text buffered files old new answer be
         cut = (told.sound refl).1;
         answered = all.ends ∙ ap (λ (b : Bool). ending is_strict b all.last) told.is_refused
             ∙ ap (ending is_strict (list_any is_refusal told.replies)) told.answered;
+        notes = told.notes;
+        noted = told.noted;
         written = told.written;
       };
     }
 
 -- There was no memory for the flash of a new device.
-pub TellsFirst-none : (device : DeviceFile) (bytes : List ℕ) (cuts : List Armed) (text : List ℕ)
+pub TellsFirst-none : (form : Form) (device : DeviceFile) (bytes : List ℕ) (cuts : List Armed) (text : List ℕ)
     (buffered : List BufferedInput) (files : FileBytes) (written : Option (List ℕ))
-    → TellsFirst NoMemory device bytes cuts text buffered files written written
-TellsFirst-none device bytes cuts text buffered files written =
+    → TellsFirst form NoMemory device bytes cuts text buffered files written written
+TellsFirst-none form device bytes cuts text buffered files written =
     let here : DeviceView = seen (armed_chip device.map bytes cuts) [] false in
     let setup = setup_of device in
     record {
@@ -240,24 +272,24 @@ TellsFirst-none device bytes cuts text buffered files written =
         lines = 0;
         came = [];
         comes = LoadsFirst-none text buffered files;
-        tells = TellsSome-all NoMemory setup here here [] Done false false written written
-            (TellsAll-none setup here written refl);
+        tells = TellsSome-all form NoMemory setup here here [] Done false false written written
+            (TellsAll-none form setup here written refl);
         whole = λ file. absurd (not_of_file NoMemory refl file);
       };
     }
 
 -- A run of a new device was answered, or ended without an answer.
-pub PlaysRun-made : (is_strict : Bool) (device : DeviceFile) (bytes : List ℕ) (cuts : List Armed) (text : List ℕ)
+pub PlaysRun-made : (form : Form) (is_strict : Bool) (device : DeviceFile) (bytes : List ℕ) (cuts : List Armed) (text : List ℕ)
     (buffered : List BufferedInput) (files : FileBytes) (old new : DeviceView) (before after : Option (List ℕ))
     → IsMadeOf device.map bytes cuts old → (result : Result Answer Refusal)
-    → IfOk result (λ answer. TellsText is_strict answer (setup_of device) old new text buffered files before after)
-    → IfErr result (λ refusal. BreaksText refusal (setup_of device) old new text buffered files before after)
-    → PlaysRun is_strict result device bytes cuts text buffered files before after
-PlaysRun-made is_strict device bytes cuts text buffered files old new before after made (Ok answer) all some = record {
-  plays = PlaysText-told is_strict device bytes cuts text buffered files old new answer before after made all;
+    → IfOk result (λ answer. TellsText form is_strict answer (setup_of device) old new text buffered files before after)
+    → IfErr result (λ refusal. BreaksText form refusal (setup_of device) old new text buffered files before after)
+    → PlaysRun form is_strict result device bytes cuts text buffered files before after
+PlaysRun-made form is_strict device bytes cuts text buffered files old new before after made (Ok answer) all some = record {
+  plays = PlaysText-told form is_strict device bytes cuts text buffered files old new answer before after made all;
   tells = tt;
 }
-PlaysRun-made is_strict device bytes cuts text buffered files old new before after made (Err refusal) all some = record {
+PlaysRun-made form is_strict device bytes cuts text buffered files old new before after made (Err refusal) all some = record {
   plays = tt;
   tells = record { old = old; new = new; made = made; breaks = some };
 }

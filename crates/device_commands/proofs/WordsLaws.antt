@@ -18,6 +18,7 @@ use Rattle.host.specs.declared.error.Refusal.TheVariants as no
 use Rattle.host.specs.Input.{FileBytes}
 use Rattle.host.specs.Status.{Ends, status_of, status_of_refusal}
 use Rattle.host.proofs.InputLaws.{KeepsFiles-itself}
+use Rattle.device_texts.specs.declared.form.Form.TheVariants as form
 use Rattle.device_commands.specs.CoreEnd.{AnswersCore}
 use Rattle.device_commands.specs.WordsEnd.{AskNothing, EndsByCut, EndsCore, EndsWith, IsPlain}
 
@@ -160,7 +161,7 @@ EndsCore-other words status Uses input file old new ends =
 -- An order of the core is answered.
 pub EndsCore-order : (words : List Text) (order : DeviceOrder) (status : ℕ) (Uses : DeviceOrder → Type 0) (input : Option (List ℕ))
     (file after : FileBytes) (old new : Option (List ℕ)) → GiveOrder words (Device order) → IsPlain words
-    → (status ≡ 0 → AnswersCore Done order input file after old new) → status ≢ 2
+    → (status ≡ 0 → AnswersCore form.Text Done order input file after old new) → status ≢ 2
     → (status ≡ 3 → EndsByCut order input file after old new) → (status ≡ 0 → Uses order)
     → EndsCore words status Uses input file after old new
 EndsCore-order words order status Uses input file after old new given plain answered other ends used =

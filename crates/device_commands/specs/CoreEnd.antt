@@ -10,6 +10,7 @@ use Rattle.host.specs.declared.source.Source.{Source}
 use Rattle.host.specs.declared.source.Source.TheVariants as source
 use Rattle.host.specs.Input.{AreNamed, FileBytes, IsNamed}
 use Rattle.host.specs.Inputs.{names_of}
+use Rattle.device_texts.specs.declared.form.Form.{Form}
 use Rattle.device_commands.specs.ProvisionEnd.{AnswersProvision}
 use Rattle.device_commands.specs.RunEnd.{AnswersRun}
 
@@ -25,13 +26,14 @@ UsesFlash (Provision device flash images forced) old new synced = Unit {0}
 UsesFlash (Run device flash script durable strict) old new synced =
     IsOpenedFor (access_for durable) old new × IsTrue synced
 
--- The answer to an order of this command, and what the files hold after it.
-abbrev pub AnswersCore : Answer → DeviceOrder → Option (List ℕ) → FileBytes → FileBytes
+-- The answer to an order of this command, and what the files hold after it. The replies of a run are
+-- written in this form.
+abbrev pub AnswersCore : Form → Answer → DeviceOrder → Option (List ℕ) → FileBytes → FileBytes
     → Option (List ℕ) → Option (List ℕ) → Type 0
-AnswersCore answer (Provision device flash images forced) input file then old new =
+AnswersCore form answer (Provision device flash images forced) input file then old new =
     (source : Source) × IsNamed device.now source
     × AnswersProvision answer (record { name = flash; is_forced = forced }) source
     (names_of images.items) input file (then flash.now) old new
-AnswersCore answer (Run device flash script durable strict) input file then old new =
+AnswersCore form answer (Run device flash script durable strict) input file then old new =
     (one other : Source) × AreNamed device.now script.now one other
-    × AnswersRun strict answer one (source.File flash) other input file old new
+    × AnswersRun form strict answer one (source.File flash) other input file old new

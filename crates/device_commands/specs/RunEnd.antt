@@ -5,6 +5,7 @@ use Rattle.std.specs.Io.KnownBytes.{Appends}
 use Rattle.common.specs.declared.event.Event.{Event}
 use Rattle.common.specs.Event.{event_map}
 use Rattle.flash_model.specs.declared.torn.Armed.{Armed}
+use Rattle.sector_map.specs.declared.error.MapError.{MapError}
 use Rattle.sector_map.specs.declared.layout.SectorMap.{SectorMap}
 use Rattle.upload.specs.Sessions.{AllClosed}
 use Rattle.machine.specs.Holding.{DeviceView}
@@ -19,10 +20,11 @@ use Rattle.device_texts.specs.declared.device.DeviceFile.{DeviceFile}
 use Rattle.host.specs.declared.source.Source.{Source}
 use Rattle.device_texts.specs.DeviceFile.{IsDeviceFile, setup_of}
 use Rattle.device_texts.specs.FlashOf.{IsFlashOf, armed_chip}
-use Rattle.inputs.specs.DeviceInput.{RefusesMap}
+use Rattle.inputs.specs.DeviceInput.{GivesNoMap}
 use Rattle.host.specs.Input.{FileBytes}
 use Rattle.host.specs.Inputs.{GiveEach}
-use Rattle.device_texts.specs.ReplyText.{replies_text}
+use Rattle.device_texts.specs.ReplyJson.{map_refusal_line, reply_lines}
+use Rattle.device_texts.specs.declared.form.Form.{Form}
 use Rattle.inputs.specs.Script.{IsScript, known_after_each}
 
 -- A new device over a flash with these bytes that is armed with exactly these cuts. It isn't
@@ -84,9 +86,9 @@ abbrev pub came_by : DeviceEvent → Event (List ℕ)
 came_by lent = event_map (λ bytes. bytes.now) lent
 
 -- The answer of a run of these events on a device of this file, whose flash has these bytes and is
--- armed with these cuts. A writer took the replies. Event by event, the reply is Cut exactly if the
--- flash took an armed write in it.
-pub record Plays (is_strict : Bool) (answer : Answer) (device : DeviceFile) (bytes : List ℕ)
+-- armed with these cuts. A writer took the replies and the notes on each, in this form. Event by
+-- event, the reply is Cut exactly if the flash took an armed write in it.
+pub record Plays (form : Form) (is_strict : Bool) (answer : Answer) (device : DeviceFile) (bytes : List ℕ)
     (cuts : List Armed) (came : List (Event (List ℕ))) (old new : Option (List ℕ)) : Type 0 where
   pub events : List DeviceEvent
   pub replies : List Reply
@@ -94,12 +96,14 @@ pub record Plays (is_strict : Bool) (answer : Answer) (device : DeviceFile) (byt
   pub played : IsPlayed device bytes cuts events replies
   pub cut : CutsEach (setup_of device) played.old events replies played.new
   pub answered : answer ≡ answer_of is_strict replies
-  pub written : Appends old new (replies_text 1 replies)
+  pub notes : List (List (List ℕ))
+  pub noted : length notes ≡ length replies
+  pub written : Appends old new (reply_lines form 1 replies notes)
 
 -- `run` read a device file, its flash and a script with the files that it names. It wrote the
 -- replies of the device to the events of the script. Exactly the writes of the flash that the
 -- script names were cut.
-pub record RunsDevice (is_strict : Bool) (answer : Answer) (sources : List Source)
+pub record RunsDevice (form : Form) (is_strict : Bool) (answer : Answer) (sources : List Source)
     (input : Option (List ℕ)) (files : FileBytes) (old new : Option (List ℕ)) : Type 0 where
   pub device_bytes : List ℕ
   pub of_device : DeviceFile
@@ -112,16 +116,24 @@ pub record RunsDevice (is_strict : Bool) (answer : Answer) (sources : List Sourc
   pub whole : IsFlashOf of_device.map bytes
   pub script : IsScript text (known_after_each sources (record { input = input; files = files }))
       cuts came
-  pub plays : Plays is_strict answer of_device bytes cuts came old new
+  pub plays : Plays form is_strict answer of_device bytes cuts came old new
+
+-- The source contains a device file whose sizes make no map, and a writer took the line that says
+-- why, in this form.
+abbrev pub WritesNoMap : Form → Source → Option (List ℕ) → FileBytes
+    → Option (List ℕ) → Option (List ℕ) → Type 0
+WritesNoMap form source input files old new =
+    (refused : MapError) × GivesNoMap source input files refused
+    × Appends old new (map_refusal_line form refused)
 
 -- The answer of `run`: it ran the device, or wrote why the sizes of the device file make no map. In
 -- the second case the other files don't matter.
-abbrev pub AnswersRun : Bool → Answer → Source → Source → Source → Option (List ℕ) → FileBytes
-    → Option (List ℕ) → Option (List ℕ) → Type 0
-AnswersRun is_strict Done device flash script input files old new =
-    RunsDevice is_strict Done (device ∷ flash ∷ script ∷ []) input files old new
-AnswersRun is_strict Refused device flash script input files old new =
-    RunsDevice is_strict Refused (device ∷ flash ∷ script ∷ []) input files old new
-    ⊎ RefusesMap device input files old new
-AnswersRun is_strict Cut device flash script input files old new =
-    RunsDevice is_strict Cut (device ∷ flash ∷ script ∷ []) input files old new
+abbrev pub AnswersRun : Form → Bool → Answer → Source → Source → Source → Option (List ℕ)
+    → FileBytes → Option (List ℕ) → Option (List ℕ) → Type 0
+AnswersRun form is_strict Done device flash script input files old new =
+    RunsDevice form is_strict Done (device ∷ flash ∷ script ∷ []) input files old new
+AnswersRun form is_strict Refused device flash script input files old new =
+    RunsDevice form is_strict Refused (device ∷ flash ∷ script ∷ []) input files old new
+    ⊎ WritesNoMap form device input files old new
+AnswersRun form is_strict Cut device flash script input files old new =
+    RunsDevice form is_strict Cut (device ∷ flash ∷ script ∷ []) input files old new

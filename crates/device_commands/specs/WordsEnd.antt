@@ -12,6 +12,7 @@ use Rattle.std.specs.Io.KnownBytes.{Keeps}
 use Rattle.host.specs.declared.answer.Answer.{Answer}
 use Rattle.host.specs.declared.answer.Answer.TheVariants.{Cut, Done}
 use Rattle.host.specs.Input.{FileBytes, KeepsFiles}
+use Rattle.device_texts.specs.declared.form.Form.TheVariants as form
 use Rattle.device_commands.specs.CoreEnd.{AnswersCore}
 
 -- The arguments ask for an order that has this property.
@@ -59,7 +60,7 @@ pub record IsCutAnswer (Answers : Answer → Option (List ℕ) → Type 0) (new 
 abbrev pub EndsByCut : DeviceOrder → Option (List ℕ) → FileBytes → FileBytes
     → Option (List ℕ) → Option (List ℕ) → Type 0
 EndsByCut order input file then old new =
-    IsCutAnswer (λ answer written. AnswersCore answer order input file then old written) new
+    IsCutAnswer (λ answer written. AnswersCore form.Text answer order input file then old written) new
 
 -- The answer isn't to be explained, and isn't to be JSON.
 abbrev pub IsPlain : List Text → Type 0
@@ -71,6 +72,6 @@ abbrev pub EndsCore : List Text → ℕ → (DeviceOrder → Type 0) → Option 
     → FileBytes → Option (List ℕ) → Option (List ℕ) → Type 0
 EndsCore words status Uses input file then old new =
     EndsWith words (λ order. GiveOrder words (Device order)) (IsDeviceFault words)
-    (λ order. IsPlain words × AnswersCore Done order input file then old new × Uses order)
+    (λ order. IsPlain words × AnswersCore form.Text Done order input file then old new × Uses order)
     (λ order. IsPlain words × EndsByCut order input file then old new)
     status file then

@@ -11,6 +11,7 @@ mod answering;
 mod host_file;
 mod program;
 pub mod provision;
+mod replies;
 mod run;
 
 pub use answering::{answer_words, refuse_coloring, refuse_words, words_of};

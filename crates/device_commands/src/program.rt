@@ -1,12 +1,14 @@
 //! Runs the command that the arguments ask for: `provision` or `run`.
 ghost use Rattle.std.specs.Prelude.{◌≡◌, ◌≢◌, IfOk, map};
+ghost use Rattle.device_texts.specs.declared.form.Form.TheVariants as form;
 ghost use Rattle.device_commands.specs.CoreEnd.{AnswersCore, UsesFlash, access_for};
 ghost use Rattle.device_commands.specs.WordsEnd.{EndsByCut, EndsCore};
 
 use crate::answering::answer_words;
 use crate::provision::{NewFlash, run_provision};
-use crate::run::{RunFiles, run_device};
+use crate::run::{RunFiles, RunOptions, run_device};
 use command_line::{DeviceOrder, device_request};
+use device_texts::Form;
 use host::{Access, Answer, Host, Refusal, Source, finish};
 use inputs::{NoNotes, RunNotes};
 use std::alloc::Global;
@@ -50,7 +52,7 @@ pub fn run_core_order<H: Host, O: Write, E: Write>(
     out: &mut O,
     err: &mut E,
 ) -> u8
-    ensures done { result ≡ 0 → AnswersCore Answer.Done order.now (H.input host.old)
+    ensures done { result ≡ 0 → AnswersCore form.Text Answer.Done order.now (H.input host.old)
         (H.file host.old) (H.file host.new) (O.contents out.old) (O.contents out.new) }
     ensures cut { result ≡ 3 → EndsByCut order.now (H.input host.old) (H.file host.old)
         (H.file host.new) (O.contents out.old) (O.contents out.new) }
@@ -58,23 +60,24 @@ pub fn run_core_order<H: Host, O: Write, E: Write>(
         (H.synced host.new) }
     ensures other { result ≢ 2 }
 {
-    let outcome = run_device_order(alloc, order, host, out, &mut NoNotes);
+    let outcome = run_device_order(alloc, order, Form::Text, host, out, &mut NoNotes);
     finish(&outcome, out, err)
 }
 
-/// Runs a command on the files of `host`, and writes its answer to `out`. `notes` is called after
-/// each reply of a run.
+/// Runs a command on the files of `host`, and writes its answer to `out`: the replies of a run in
+/// this form, and everything else as a text. `notes` is called after each reply.
 ///
 /// # Errors
 /// The errors of the command.
 pub fn run_device_order<H: Host, O: Write, N: RunNotes>(
     alloc: Global,
     order: &DeviceOrder<'_>,
+    form: Form,
     host: &mut H,
     out: &mut O,
     notes: &mut N,
 ) -> Result<Answer, Refusal>
-    ensures answers { IfOk result (λ answer. AnswersCore answer order.now
+    ensures answers { IfOk result (λ answer. AnswersCore form answer order.now
         (H.input host.old) (H.file host.old) (H.file host.new)
         (O.contents out.old) (O.contents out.new)) }
     ensures used { IfOk result (λ answer. answer ≡ Answer.Done
@@ -106,7 +109,11 @@ pub fn run_device_order<H: Host, O: Write, N: RunNotes>(
                 access: access_of(durable),
                 script: Source::named(script),
             };
-            run_device(alloc, files, strict, host, out, notes)
+            let options = RunOptions {
+                is_strict: strict,
+                form,
+            };
+            run_device(alloc, files, options, host, out, notes)
         }
     }
 }

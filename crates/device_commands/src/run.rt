@@ -1,24 +1,23 @@
 //! `bootswap run`: runs the events of a script on a device, and writes its replies.
 ghost use Rattle.host.specs.Doings.{IsOpenedFor};
-ghost use Rattle.std.specs.Prelude.{◌≡◌, IfErr, IfOk, IsTrue, OnOk, Some, length, true};
-ghost use Rattle.std.specs.Io.KnownBytes.{Appends};
+ghost use Rattle.std.specs.Prelude.{◌≡◌, IfErr, IfOk, IsTrue, Some, length, true};
 ghost use Rattle.flash_model.specs.Blanks.{IsBlankOf};
 ghost use Rattle.device_texts.specs.DeviceFile.{IsOfFile};
 ghost use Rattle.device_texts.specs.FlashOf.{IsFlashOf, armed_in};
-ghost use Rattle.device_texts.specs.ReplyText.{reply_text};
 ghost use Rattle.inputs.specs.Loading.{came_of};
 ghost use Rattle.device_commands.specs.RunEnd.{AnswersRun, answer_after, ending, is_refusal};
-ghost use Rattle.device_commands.specs.Telling.{BreaksEvent, BreaksOff, BreaksText, PlaysRun, TellsEvent, TellsText};
+ghost use Rattle.device_commands.specs.Telling.{BreaksEvent, BreaksText, PlaysRun, TellsEvent, TellsText};
 ghost use Rattle.host.specs.declared.source.Source.TheVariants as source;
 
 use crate::host_file::HostFile;
+use crate::replies::{write_no_map, write_notes, write_reply};
 use boot_core::{Device, step};
 use common::event::Event;
-use device_texts::{CutWrite, DeviceFile, Line, arm_all, flash_of, reply_text, write_all};
+use device_texts::{CutWrite, DeviceFile, Form, Line, arm_all, flash_of};
 use flash_model::Flash;
 use host::{Access, Answer, Host, Refusal, Source};
 use inputs::{
-    CheckedScript, FileFlash, FlashFile, Lines, RunNotes, Sources, check_script, read_device,
+    CheckedScript, FileFlash, FlashFile, Lines, RunNotes, Sources, check_script, device_or_fault,
     read_flash, read_script,
 };
 use machine::Reply;
@@ -40,6 +39,15 @@ pub struct RunFiles<'a> {
     pub script: Source<'a>,
 }
 
+/// How a run is answered.
+#[derive(Clone, Copy)]
+pub struct RunOptions {
+    /// Whether any reply that refuses something makes the answer `Refused`.
+    pub is_strict: bool,
+    /// The form of the replies.
+    pub form: Form,
+}
+
 /// A device and the script to run on it, after all files were checked.
 #[derive(Drop)]
 struct Run<'d, 't> {
@@ -51,8 +59,8 @@ struct Run<'d, 't> {
     cuts: Vec<CutWrite>,
     /// The text of the script.
     text: &'t [u8],
-    /// Whether any reply that refuses something makes the answer `Refused`.
-    is_strict: bool,
+    /// How it is answered.
+    options: RunOptions,
 }
 
 /// What a reply means for the run.
@@ -66,7 +74,8 @@ struct Told {
 
 /// Runs the events of a script on a device, and writes each reply to `out` when its event is done.
 /// The device file, the flash and the script are read from `host`. Each change of the flash is
-/// written to its file immediately. `notes` is called after each reply.
+/// written to its file immediately. `notes` is called after each reply. If the form is
+/// [`Form::Json`], an object of the notes that it returns follows the object of the reply.
 ///
 /// The answer is that of the last reply. With `is_strict` it is `Refused` if any reply is a refusal,
 /// or the report of a boot that refuses a request, unless the last reply is that the power failed.
@@ -81,21 +90,22 @@ struct Told {
 pub fn run_device<H: Host, O: Write, N: RunNotes>(
     alloc: Global,
     files: RunFiles<'_>,
-    is_strict: bool,
+    options: RunOptions,
     host: &mut H,
     out: &mut O,
     notes: &mut N,
 ) -> Result<Answer, Refusal>
-    ensures answers { IfOk result (λ answer. AnswersRun is_strict answer files.entry.device
-        (source.File files.entry.flash) files.entry.script
-        (H.input host.old) (H.file host.old) (O.contents out.old) (O.contents out.new)) }
+    ensures answers { IfOk result (λ answer. AnswersRun options.form options.is_strict answer
+        files.entry.device (source.File files.entry.flash) files.entry.script (H.input host.old)
+        (H.file host.old) (O.contents out.old) (O.contents out.new)) }
     ensures synced { IfOk result (λ answer. answer ≡ Answer.Done → IsTrue (H.synced host.new)) }
     ensures opened { IfOk result (λ answer. answer ≡ Answer.Done
         → IsOpenedFor files.entry.access (H.opened host.old) (H.opened host.new)) }
 {
     let is_input_read = files.device.is_standard_input() || files.script.is_standard_input();
-    let Some(device) = read_device(alloc, files.device, host, out)? else {
-        return Ok(Answer::Refused);
+    let device = match device_or_fault(alloc, files.device, host)? {
+        Ok(device) => device,
+        Err(fault) => return write_no_map(alloc, options.form, fault, out),
     };
     let flash = Source::File(files.flash);
     let bytes = read_flash(alloc, flash, &device.map, files.access, host)?;
@@ -118,7 +128,7 @@ pub fn run_device<H: Host, O: Write, N: RunNotes>(
         bytes,
         cuts,
         text: &text,
-        is_strict,
+        options,
     };
     let (blank, memory_blank) = (Blank::new(2), Blank::new(2));
     let played = play::<Brand, Brand, _, _, _>(blank, memory_blank, run, &sources, out, notes);
@@ -145,7 +155,7 @@ fn play<L: Ledger, M: Ledger, H: Host, O: Write, N: RunNotes>(
     requires memory_two { M.parts ≡ 2 }
     requires device { IsOfFile run.device.now }
     requires whole { IsFlashOf run.device.now.map run.bytes.items }
-    ensures { PlaysRun run.entry.is_strict result run.entry.device.now run.entry.bytes.items
+    ensures { PlaysRun run.entry.options.form run.entry.options.is_strict result run.entry.device.now run.entry.bytes.items
         (armed_in run.entry.cuts.items) run.entry.text.now sources.now.buffered.now
         (H.file sources.now.host.now) (O.contents out.old) (O.contents out.new) }
 {
@@ -154,7 +164,7 @@ fn play<L: Ledger, M: Ledger, H: Host, O: Write, N: RunNotes>(
         bytes,
         cuts,
         text,
-        is_strict,
+        options,
     } = run;
     let alloc = sources.alloc;
     let mut memory = flash_of::<M>(alloc, memory_blank, &device.map, bytes);
@@ -164,7 +174,7 @@ fn play<L: Ledger, M: Ledger, H: Host, O: Write, N: RunNotes>(
     let file = HostFile { host: sources.host };
     let flash = FileFlash::<_, L, M>::over(memory, blank, file);
     let mut device = Device::with_trial(flash, device.map, device.identity, device.trial_boots);
-    run_events(alloc, &mut device, text, is_strict, sources, out, notes)
+    run_events(alloc, &mut device, text, options, sources, out, notes)
 }
 
 /// Runs the events of a script's lines on a device, in order. Writes each reply to `out` when its
@@ -176,7 +186,7 @@ fn run_events<L: Ledger, M: Ledger, F: FlashFile + Drop, H: Host, O: Write, N: R
     alloc: Global,
     device: &mut Device<FileFlash<F, L, M>>,
     text: &[u8],
-    is_strict: bool,
+    options: RunOptions,
     sources: &Sources<'_, '_, '_, H>,
     out: &mut O,
     notes: &mut N,
@@ -184,11 +194,11 @@ fn run_events<L: Ledger, M: Ledger, F: FlashFile + Drop, H: Host, O: Write, N: R
     requires on { device.old.here.flash.is_on ≡ true }
     requires sound { device.old.here.flash.faults ≡ 0 }
     ensures all { IfOk result (λ answer.
-        TellsText is_strict answer device.old.setup device.old.here device.new.here text.now
+        TellsText options.form options.is_strict answer device.old.setup device.old.here device.new.here text.now
         sources.now.buffered.now (H.file sources.now.host.now)
         (O.contents out.old) (O.contents out.new)) }
     ensures some { IfErr result (λ refusal.
-        BreaksText refusal device.old.setup device.old.here device.new.here text.now
+        BreaksText options.form refusal device.old.setup device.old.here device.new.here text.now
         sources.now.buffered.now (H.file sources.now.host.now)
         (O.contents out.old) (O.contents out.new)) }
 {
@@ -202,7 +212,7 @@ fn run_events<L: Ledger, M: Ledger, F: FlashFile + Drop, H: Host, O: Write, N: R
         if let Line::Event(event) = lines.next_line()? {
             let event = sources.load_event(&mut used, lines.number, event)?;
             number += 1;
-            let told = run_event(alloc, device, number, event, out, notes)?;
+            let told = run_event(alloc, device, options.form, number, event, out, notes)?;
             last = told.answer;
             has_refused |= told.has_refused;
             // Checked after each event: while no write has failed, only an armed write is cut.
@@ -212,7 +222,7 @@ fn run_events<L: Ledger, M: Ledger, F: FlashFile + Drop, H: Host, O: Write, N: R
     if has_failed {
         return Err(Refusal::FlashFile);
     }
-    Ok(ending(is_strict, has_refused, last))
+    Ok(ending(options.is_strict, has_refused, last))
 }
 
 /// The answer of a run whose last reply has the answer `last`. With `is_strict` a reply that refuses
@@ -226,10 +236,11 @@ fn ending(is_strict: bool, has_refused: bool, last: Answer) -> Answer
     }
 }
 
-/// Runs an event on a device, and writes the reply to `out`.
+/// Runs an event on a device, and writes the reply and the notes on it to `out`.
 fn run_event<F: Flash, O: Write, N: RunNotes>(
     alloc: Global,
     device: &mut Device<F>,
+    form: Form,
     number: usize,
     event: Event<Vec<u8>>,
     out: &mut O,
@@ -239,45 +250,20 @@ fn run_event<F: Flash, O: Write, N: RunNotes>(
     ensures setup { device.new.setup ≡ device.old.setup }
     ensures on { device.new.here.flash.is_on ≡ true }
     ensures told { IfOk result (λ told.
-        TellsEvent told number device.old.setup device.old.here device.new.here
+        TellsEvent form told number device.old.setup device.old.here device.new.here
         (came_of event) (O.contents out.old) (O.contents out.new)) }
     ensures begun { IfErr result (λ refusal.
-        BreaksEvent refusal number device.old.setup device.old.here device.new.here
+        BreaksEvent form refusal number device.old.setup device.old.here device.new.here
         (came_of event) (O.contents out.old) (O.contents out.new)) }
 {
     let borrowed = event.as_deref();
     let reply = step(alloc, device, &borrowed);
-    write_reply(alloc, number, &reply, out)?;
-    notes.tell(number, &event, &reply);
+    write_reply(alloc, form, number, &reply, out)?;
+    write_notes(alloc, form, number, notes.tell(number, &event, &reply), out)?;
     Ok(Told {
         answer: answer_after(&reply),
         has_refused: is_refusal(&reply),
     })
-}
-
-/// Writes the reply to the event of this number to `out`, and flushes it.
-fn write_reply<O: Write>(
-    alloc: Global,
-    number: usize,
-    reply: &Reply,
-    out: &mut O,
-) -> Result<(), Refusal>
-    ensures told { OnOk result (Appends (O.contents out.old) (O.contents out.new)
-        (reply_text number reply.now)) }
-    ensures begun { IfErr result (λ refusal.
-        BreaksOff refusal (reply_text number reply.now)
-        (O.contents out.old) (O.contents out.new)) }
-{
-    let Ok(text) = reply_text(alloc, number, reply) else {
-        return Err(Refusal::NoMemory);
-    };
-    if write_all(out, text.as_bytes()).is_err() {
-        return Err(Refusal::CannotWrite);
-    }
-    match out.flush() {
-        Ok(()) => Ok(()),
-        Err(_) => Err(Refusal::CannotWrite),
-    }
 }
 
 /// Whether a reply is a refusal, or the report of a boot that refuses a request.

@@ -1,5 +1,7 @@
 pub mod ArmedLaws
 pub mod DeviceLaws
+pub mod JsonLaws
+pub mod JsonWholeLaws
 pub mod LineLaws
 pub mod Parts
 pub mod ReplyLaws

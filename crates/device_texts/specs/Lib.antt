@@ -3,8 +3,10 @@ pub mod Cuts
 pub mod DeviceFile
 pub mod FlashOf
 pub mod InOrder
+pub mod Json
 pub mod LineReading
 pub mod LineText
 pub mod Part
+pub mod ReplyJson
 pub mod ReplyText
 pub mod Said

@@ -18,6 +18,8 @@
 mod cuts;
 mod device;
 mod flash;
+mod form;
+pub mod json;
 mod laws;
 mod line;
 mod line_order;
@@ -31,6 +33,7 @@ mod writing;
 pub use common::event::Event;
 pub use device::{DeviceFault, DeviceFile};
 pub use flash::{CutWrite, arm_all, flash_of};
+pub use form::Form;
 pub use laws::a_text_says_one_line;
 pub use line::{FileText, Line, TornText};
 pub use line_order::LineOrder;

@@ -57,7 +57,7 @@ fn word_text(alloc: Global, number: usize, word: &str) -> Result<String, AllocEr
 
 /// The decision of a boot with a report: `plain` if it took no request, else `permanent` or
 /// `trial`.
-fn decision_text(report: &Report, permanent: bool) -> &'static str
+pub(crate) fn decision_text(report: &Report, permanent: bool) -> &'static str
     ensures { result.now ≡ decision_text report.now permanent }
 {
     if !is_some_taken(report.images.as_slice()) {

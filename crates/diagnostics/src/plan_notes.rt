@@ -1,42 +1,15 @@
-//! Explains the results of a plan, from its text.
+//! Explains the reports of a plan, and the rows of a summary from their text.
 
 use crate::Result;
 use certificate::{Reason, Refusal, Report};
-use common::lines::first_line;
 use std::alloc::Global;
 use version_order::{Dependency, Version};
 
-/// The word before the name of a device, with the space between them.
-const DEVICE: &str = "device ";
-
-/// Adds why a device refuses requests, or why it has no report.
-///
-/// `text` is what `plan` prints for the device: its line `device NAME` and the lines of its result.
-/// Another text adds nothing.
+/// Adds why the device of this name refuses each request that its report refuses.
 ///
 /// # Errors
 /// `AllocError` if memory is refused. Then `notes` has a part of the text.
-pub fn explain_planned(notes: &mut String, text: &[u8]) -> Result {
-    if text.is_empty() {
-        return Ok(());
-    }
-    let (line, lines) = first_line(text);
-    let Some(name) = name_in(line) else {
-        return Ok(());
-    };
-    match Report::parse(lines) {
-        Ok(report) => explain_report(notes, name, &report),
-        Err(_) => explain_bad(notes, name, lines),
-    }
-}
-
-/// Returns the name of the device that a line begins.
-fn name_in(line: &[u8]) -> Option<&str> {
-    str::from_utf8(line).ok()?.strip_prefix(DEVICE)
-}
-
-/// Adds why a device refuses each request that its report refuses.
-fn explain_report(notes: &mut String, name: &str, report: &Report) -> Result {
+pub fn explain_planned(notes: &mut String, name: &str, report: &Report) -> Result {
     for refusal in report.refusals.iter() {
         let number = refusal.image;
         write!(notes, "note: {name} refuses image {number}, because ")?;
@@ -52,27 +25,6 @@ fn explain_report(notes: &mut String, name: &str, report: &Report) -> Result {
 /// Adds that this version runs, which is newer than the requested one.
 fn add_newer(notes: &mut String, running: Version) -> Result {
     write!(notes, "{running} runs, which is newer")
-}
-
-/// Adds why a device has no report.
-fn explain_bad(notes: &mut String, name: &str, lines: &[u8]) -> Result {
-    let Ok(text) = str::from_utf8(lines) else {
-        return Ok(());
-    };
-    let text = text.trim_end();
-    if text == "not-valid" {
-        return writeln!(notes, "note: {name} runs images that don't fit each other");
-    }
-    if text == "too-long" {
-        return writeln!(notes, "note: {name} has a table of more than 65536 bytes");
-    }
-    match text.strip_prefix("bad-line ") {
-        Some(line) => writeln!(
-            notes,
-            "note: {name} has a bad table: its line {line} is the first wrong one"
-        ),
-        None => Ok(()),
-    }
 }
 
 /// Adds a reason to refuse an image, as the end of a sentence.

@@ -7,9 +7,10 @@
 //!
 //! A command runs over a host that remembers what was read ([`Remembering`]). After its end, the
 //! notes are made from that ([`explain_end`]). Notes on a reply of a run follow the reply
-//! ([`ReplyNotes`]), and notes on a plan follow its text ([`NotedPlan`]). So nothing is read twice,
-//! and a note speaks of the bytes that the command read. Only the length of a file that is too
-//! short or too long is read afterwards. `diagnostics` makes most sentences.
+//! ([`ReplyNotes`], [`WrittenNotes`]), and those on a device of a plan follow the device
+//! ([`DeviceNotes`]). Notes on a row of a summary follow its text ([`NotedPlan`]). So nothing is
+//! read twice, and a note speaks of the bytes that the command read. Only the length of a file that
+//! is too short or too long is read afterwards. `diagnostics` makes most sentences.
 //!
 //! Tests check the notes. If memory for a note runs out, or standard error takes no more, the other
 //! notes are left out. The exit status doesn't change.
@@ -17,6 +18,7 @@
 
 mod answers;
 mod choices;
+mod device_notes;
 mod done;
 mod ended;
 mod ends;
@@ -39,9 +41,9 @@ mod trials;
 mod upload_log;
 mod uploads;
 
+pub use device_notes::DeviceNotes;
 pub use ends::explain_end;
-pub use noted_plan::{NotedPlan, explain_rows, notes_on_item};
-pub use plan_items::{PlanItems, first_piece};
+pub use noted_plan::{NotedPlan, explain_rows};
 pub use read_log::ReadLog;
 pub use remembering::Remembering;
-pub use replies::ReplyNotes;
+pub use replies::{ReplyNotes, WrittenNotes};

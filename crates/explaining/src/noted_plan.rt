@@ -1,18 +1,18 @@
-//! Explains a plan while it is written.
+//! Explains the summary of a plan while it is written.
 
 ghost use Rattle.std.specs.Prelude.{◌≡◌};
 ghost use Rattle.std.specs.Io.{WritesAtMost};
 ghost use Rattle.std.specs.Io.KnownBytes.{Keeps, WriteAppends};
 
 use crate::plan_items::{PlanItems, first_piece};
-use diagnostics::{explain_planned, explain_row};
+use diagnostics::explain_row;
 use host::{Answer, Refusal};
-use std::alloc::{AllocError, Global};
+use std::alloc::Global;
 use std::io;
 use std::io::Write;
 
-/// A writer that passes the text of a plan on, and writes notes on it to standard error. The notes
-/// on a device follow its lines, and the note on a row of a summary follows the row.
+/// A writer that passes the text of a summary on, and writes notes on it to standard error. The
+/// note on a row follows the row.
 #[derive(Drop)]
 pub struct NotedPlan<'e, O, E> {
     /// The writer that gets the text.
@@ -20,32 +20,32 @@ pub struct NotedPlan<'e, O, E> {
     notes: ItemNotes<'e, E>,
 }
 
-/// The notes on the items of a plan.
+/// The notes on the rows of a summary.
 #[derive(Drop)]
 struct ItemNotes<'e, E> {
     alloc: Global,
     items: PlanItems,
     err: &'e mut E,
-    /// Whether memory for an item ran out. Then the other notes are left out.
+    /// Whether memory for a row ran out. Then the other notes are left out.
     lacks_memory: bool,
 }
 
 impl<'e, O: Write, E: Write> NotedPlan<'e, O, E> {
-    /// A writer that passes the text on to `out`. Notes go to `err`. The notes and one item are in
+    /// A writer that passes the text on to `out`. Notes go to `err`. The notes and one row are in
     /// memory of `alloc`.
-    pub fn over(alloc: Global, items: PlanItems, out: O, err: &'e mut E) -> Self
+    pub fn over(alloc: Global, out: O, err: &'e mut E) -> Self
         ensures { result.out ≡ out }
     {
         let notes = ItemNotes {
             alloc,
-            items,
+            items: PlanItems::new(alloc),
             err,
             lacks_memory: false,
         };
         NotedPlan { out, notes }
     }
 
-    /// Writes the notes on the last item of a plan that ended with `outcome`.
+    /// Writes the notes on the last row of a plan that ended with `outcome`.
     pub fn end(&mut self, outcome: &Result<Answer, Refusal>)
         ensures { Keeps (O.contents self.old.out) (O.contents self.new.out) }
     {
@@ -93,32 +93,33 @@ impl<O: Write, E: Write> Write for NotedPlan<'_, O, E> {
 }
 
 impl<E: Write> ItemNotes<'_, E> {
-    /// Returns the notes on the item that ends before this piece of text, if one does.
+    /// Returns the notes on the row that ends before this piece of text, if one does.
     fn on_item_before(&mut self, piece: &[u8]) -> String {
-        if self.items.is_head(piece) {
+        if self.items.is_row(piece) {
             self.on_last()
         } else {
             String::new(self.alloc)
         }
     }
 
-    /// Returns the notes on the item that is read.
+    /// Returns the notes on the row that is read.
     fn on_last(&mut self) -> String {
         if self.lacks_memory {
             return String::new(self.alloc);
         }
         let item = self.items.end();
-        notes_on_item(self.alloc, &item)
+        notes_on_row(self.alloc, &item)
     }
 
-    /// Reads a piece of text that is written. If it completes an item, writes the notes on it.
+    /// Reads a piece of text that is written. If it completes a row, writes the notes on
+    /// the one before it.
     fn read(&mut self, piece: &[u8]) {
         if self.lacks_memory {
             return;
         }
         match self.items.add(piece) {
             Ok(item) => {
-                let notes = notes_on_item(self.alloc, &item);
+                let notes = notes_on_row(self.alloc, &item);
                 self.tell(&notes);
             }
             Err(_) => self.lacks_memory = true,
@@ -133,28 +134,19 @@ impl<E: Write> ItemNotes<'_, E> {
     }
 }
 
-/// Returns the notes on an item of a plan, in memory of `alloc`. If memory runs out, returns the
+/// Returns the notes on a row of a summary, in memory of `alloc`. If memory runs out, returns the
 /// notes so far.
-pub fn notes_on_item(alloc: Global, item: &[u8]) -> String {
+fn notes_on_row(alloc: Global, row: &[u8]) -> String {
     let mut notes = String::new(alloc);
-    let _ = explain_item(&mut notes, alloc, item);
+    let _ = explain_row(&mut notes, alloc, row);
     notes
 }
 
 /// Writes the notes on the rows of a summary to `err`. They are in memory of `alloc`.
 pub fn explain_rows<E: Write>(alloc: Global, text: &[u8], err: &mut E) {
     for row in text.split_inclusive(|byte| *byte == b'\n') {
-        let notes = notes_on_item(alloc, row);
+        let notes = notes_on_row(alloc, row);
         // The notes are no part of the answer, so a failed write changes nothing.
         let _ = err.write_all(notes.as_bytes());
-    }
-}
-
-/// Adds the notes on the lines of a device, or on a row of a summary.
-fn explain_item(notes: &mut String, alloc: Global, item: &[u8]) -> Result<(), AllocError> {
-    if item.starts_with(b"device ") {
-        explain_planned(notes, item)
-    } else {
-        explain_row(notes, alloc, item)
     }
 }

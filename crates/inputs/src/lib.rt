@@ -31,5 +31,5 @@ pub use flash_file::FlashFile;
 pub use lines::Lines;
 pub use loading::{load, read_script};
 pub use resting_table::{Intake, has_state, intake_on, table_on};
-pub use run_notes::{NoNotes, RunNotes};
+pub use run_notes::{NoNotes, RunNotes, notes_in};
 pub use sources::Sources;

@@ -1,13 +1,17 @@
 -- Lemmas about the device whose table is read.
-use Rattle.std.proofs.Common.{◌≡◌, ℕ, ◌≤◌, List, [], ◌∷◌, ◌++◌, length, arith, inl, inr, rules, sym, ap, ◌∙◌, subst}
+use Rattle.std.proofs.Common.{◌≡◌, ℕ, ◌<◌, ◌≤◌, true, List, [], ◌∷◌, ◌++◌, length, arith, inl, inr, rules, sym, ap, ◌∙◌, subst}
 use Rattle.std.proofs.lemmas.Bool.{cases_Bool}
 use Rattle.std.proofs.lemmas.Grind.{flat_map-append}
 use Rattle.std.proofs.lemmas.List.{append-nil}
 use Rattle.std.proofs.lemmas.List.Concat.{flat_map-cons}
+use Rattle.std.proofs.lemmas.List.Sums.{AllPass-from_list_all}
+use Rattle.std.proofs.lemmas.Str.{IsUtf8-from_ascii}
+use Rattle.std.proofs.lemmas.Str.Ascii.{IsAscii-from_all}
+use Rattle.std.specs.Str.{IsUtf8}
 use Rattle.common.proofs.Lists.{AllByRecursion-append}
 use Rattle.common.specs.Lines.{text_of_lines}
 use Rattle.inspecting.specs.Bounded.{Holds}
-use Rattle.inspecting.specs.Fleet.{BeginsDevice, BeginsNone, Device, with_line}
+use Rattle.inspecting.specs.Fleet.{BeginsDevice, BeginsNone, Device, IsName, is_name_byte, with_line}
 use Rattle.inspecting.specs.Planning.{IsReadSoFar}
 use Rattle.inspecting.specs.declared.fleet.bounded.Bounded.{Bounded}
 use Rattle.inspecting.specs.declared.fleet.planner.Current.{Current}
@@ -38,6 +42,15 @@ IsReadSoFar-begun name line current begins first kept = record {
   first = first ∙ ap (λ l. l ++ 10 ∷ []) begins.spelled;
   table = kept;
 }
+
+name_byte-ascii : (b : ℕ) → is_name_byte b ≡ true → b < 128
+name_byte-ascii b is = grind arith
+
+-- A name is ASCII, and so UTF-8.
+pub IsUtf8-name : (name : List ℕ) → IsName name → IsUtf8 name
+IsUtf8-name name named =
+    IsUtf8-from_ascii name (IsAscii-from_all name
+    (λ k d below. name_byte-ascii _ (AllPass-from_list_all is_name_byte name named.bytes k d below)))
 
 -- The line that begins a device isn't too long.
 pub begins-whole : (line name : List ℕ) (kept : Bounded) → Holds line kept → BeginsDevice line name → kept.bytes.items ≡ line

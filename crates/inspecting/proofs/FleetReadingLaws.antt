@@ -77,7 +77,7 @@ AllByRecursion-map_devices (planned ∷ plan) all = (all.0, AllByRecursion-map_d
 
 -- What is written of devices, and then of more.
 pub told-append : (telling : Telling) (first second : List Planned) → told_text telling (first ++ second) ≡ told_text telling first ++ told_text telling second
-told-append tell.Devices first second = flat_map-append planned_text first second
+told-append (tell.Devices form) first second = flat_map-append (planned_text form) first second
 told-append tell.Summary first second = refl
 
 pub told-both : (telling : Telling) (a b c : Option (List ℕ)) (first second : List Planned)
@@ -86,7 +86,7 @@ told-both telling a b c first second one two =
     subst (Appends a c) (sym (told-append telling first second)) (Appends-trans a b c _ _ one two)
 
 pub told-none : (telling : Telling) (known : Option (List ℕ)) → Appends known known (told_text telling [])
-told-none tell.Devices known = Appends-nil known
+told-none (tell.Devices form) known = Appends-nil known
 told-none tell.Summary known = Appends-nil known
 
 -- A planner that reads nothing.

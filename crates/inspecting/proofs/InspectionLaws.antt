@@ -27,9 +27,3 @@ written-made (Ok text) bytes_of answer said bytes result old new is same unmade 
     written-text answer said (bytes_of text) bytes result old new is same written
 written-made (Err fault) bytes_of answer said bytes result old new is same unmade written =
     subst (λ end. WritesInspection end said bytes old new) (sym unmade.0) unmade.1
-
--- The texts of notes.
-pub notes-mapped : (notes : List (Bor (List ℕ)))
-    → map (λ note. string note.now) notes ≡ map string (map (λ note. note.now) notes)
-notes-mapped [] = refl
-notes-mapped (note ∷ notes) = ap (λ rest. string note.now ∷ rest) (notes-mapped notes)

@@ -1,101 +1,30 @@
 -- What is found by a read-only command has no number that isn't whole.
-use Rattle.std.proofs.Common.{ℕ, ◌+◌, ◌==◌, List, [], ◌∷◌, Bool, true, false, Option, None, Some, codes, map, refl}
-use Rattle.std.specs.List.{flat_map, range_with_len}
-use Rattle.std.specs.Prelude.{if◌then◌else◌, not}
-use Rattle.common.specs.Limits.{MOST_IMAGES}
-use Rattle.serde_json.specs.Data.{Data, Members, no_members, object, string}
-use Rattle.version_order.specs.declared.dependency.Dependency.{Dependency}
-use Rattle.version_order.specs.declared.group.Group.{Group}
-use Rattle.version_order.specs.declared.version.Version.{Version}
-use Rattle.certificate.specs.declared.report.Reason.{Reason}
-use Rattle.certificate.specs.declared.report.Reason.TheVariants.{Damaged, Older, Counter, NoSuchImage, Needs, NeedsOne}
-use Rattle.certificate.specs.declared.report.Refusal.{Refusal}
-use Rattle.certificate.specs.declared.report.Report.{Report}
-use Rattle.certificate.specs.declared.report.ReportedImage.{ReportedImage}
+use Rattle.std.proofs.Common.{ℕ, ◌==◌, List, [], ◌∷◌, Bool, true, false, Option, None, Some, codes, map, refl}
+use Rattle.std.specs.List.{flat_map}
+use Rattle.std.specs.Prelude.{if◌then◌else◌}
+use Rattle.serde_json.specs.Data.{Data, Members, no_members, object}
 use Rattle.image_reading.specs.declared.desc.Desc.{Desc}
-use Rattle.machine.specs.declared.error.Fault.{Fault}
 use Rattle.machine.specs.declared.error.Fault.TheVariants as fault
 use Rattle.machine.specs.declared.finding.Finding.{Finding}
 use Rattle.machine.specs.declared.finding.Finding.TheVariants as finding
 use Rattle.manifest.specs.declared.manifest.Component.{Component}
 use Rattle.swap_scratch.specs.declared.progress.Progress.{Progress}
-use Rattle.upload.specs.declared.error.UploadError.{UploadError}
-use Rattle.upload.specs.declared.error.UploadError.TheVariants.{NotAnImage}
+use Rattle.device_texts.specs.Json.{group_json, number_json, with_member, with_notes}
+use Rattle.device_texts.proofs.JsonLaws.{AreAllWhole, AreWhole, IsWhole, flat_map-whole, map-whole, member-whole, none-whole, nothing-whole, value-whole, with_some-whole}
+use Rattle.device_texts.proofs.JsonWholeLaws.{code-whole, dependencies-whole, fault-whole, group-whole, layer-whole, notes-whole, number-whole, refused-whole, report-whole, set-whole, text-whole}
 use Rattle.inspecting.specs.Inspection.{members_of}
-use Rattle.inspecting.specs.Json.{component_json, dependency_json, fault_json, floor_json, group_json, layer_json, moved_json, needs_of, number_json, refusal_json, reported_images, reported_json, request_json, set_json, slots_json, swap_json, upload_json, versioned_json, with_content, with_decision, with_description, with_member, with_notes, with_precursor, with_report, with_slots, with_state}
+use Rattle.inspecting.specs.Json.{component_json, floor_json, moved_json, request_json, set_json, slots_json, swap_json, with_content, with_decision, with_description, with_precursor, with_slots, with_state}
 use Rattle.inspecting.specs.Json as json
+use Rattle.inspecting.specs.PlanJson.{outcome_members, result_json}
 use Rattle.inspecting.specs.declared.flash_state.FlashState.{FlashState}
+use Rattle.inspecting.specs.declared.fleet.outcome.Outcome.{Outcome}
+use Rattle.inspecting.specs.declared.fleet.outcome.Outcome.TheVariants as outcome
 use Rattle.inspecting.specs.declared.inspection.Inspection.{Inspection}
 use Rattle.inspecting.specs.declared.inspection.Inspection.TheVariants as found
 use Rattle.inspecting.specs.declared.slots_found.ImageSlots.{ImageSlots}
 use Rattle.inspecting.specs.declared.slots_found.SlotContent.{SlotContent}
 use Rattle.inspecting.specs.declared.slots_found.SlotContent.TheVariants as content
 use Rattle.inspecting.specs.declared.slots_found.SlotsFound.{SlotsFound}
-use Rattle.inspecting.proofs.JsonLaws.{AreAllWhole, AreWhole, IsWhole, append-whole, flat_map-whole, map-whole, member-whole, none-whole, nothing-whole, value-whole, with_some-whole}
-
--- One more number, or text.
-number-whole : (k : List ℕ) (n : ℕ) (ms : Members) → AreWhole ms → AreWhole (with_member k (number_json n) ms)
-number-whole k n ms all = member-whole k (number_json n) ms refl all
-
-text-whole : (k text : List ℕ) (ms : Members) → AreWhole ms → AreWhole (with_member k (string text) ms)
-text-whole k text ms all = member-whole k (string text) ms refl all
-
-versioned-whole : (n : ℕ) (version : Version) → IsWhole (versioned_json n version)
-versioned-whole n version = (number-whole _ n _ (text-whole _ _ no_members nothing-whole)).none
-
-dependencies-whole : (all : List Dependency) → AreAllWhole (map dependency_json all)
-dependencies-whole all = map-whole dependency_json all (λ it. versioned-whole it.image it.minimum)
-
-group-whole : (group : Group) → IsWhole (group_json group)
-group-whole group = (with_some-whole _ _ no_members (dependencies-whole group.alternatives.items) nothing-whole).none
-
-needs-whole : (reason : Reason) → AreAllWhole (needs_of reason)
-needs-whole Damaged = none-whole
-needs-whole Older = none-whole
-needs-whole Counter = none-whole
-needs-whole (NoSuchImage n) = value-whole _ [] (number-whole _ n no_members nothing-whole).none none-whole
-needs-whole (Needs n minimum) = value-whole _ [] (versioned-whole n minimum) none-whole
-needs-whole (NeedsOne group) = dependencies-whole group.alternatives.items
-
-refusal-whole : (refusal : Refusal) → IsWhole (refusal_json refusal)
-refusal-whole refusal =
-    (number-whole _ refusal.image _
-    (with_some-whole _ _ _ (needs-whole refusal.reason) (text-whole _ _ no_members nothing-whole))).none
-
-reported-whole : (b : Bool) (n : ℕ) (version : Version) → AreAllWhole (if b then versioned_json n version ∷ [] else [])
-reported-whole true n version = value-whole _ [] (versioned-whole n version) none-whole
-reported-whole false n version = none-whole
-
-reports-whole : (is_taken : Bool) (n : ℕ) (images : List ReportedImage)
-    → AreAllWhole (reported_images is_taken n images)
-reports-whole is_taken n [] = none-whole
-reports-whole is_taken n (image ∷ images) =
-    append-whole (reported_json is_taken n image) (reported_images is_taken (n + 1) images)
-    (reported-whole (if is_taken then image.is_taken else not image.is_taken) n image.version)
-    (reports-whole is_taken (n + 1) images)
-
-report-whole : (report : Report) (ms : Members) → AreWhole ms → AreWhole (with_report report ms)
-report-whole report ms all =
-    with_some-whole _ _ _ (reports-whole true 0 report.images.items)
-    (with_some-whole _ _ _ (reports-whole false 0 report.images.items)
-    (with_some-whole _ _ _ (map-whole refusal_json report.refusals.items refusal-whole) all))
-
-code-whole : (code : ℕ) (name : List ℕ) (ms : Members) → AreWhole ms → AreWhole (json.with_code code name ms)
-code-whole code name ms all = number-whole _ code _ (text-whole _ name ms all)
-
-layer-whole : (layer : List ℕ) (code : ℕ) (name : List ℕ) (ms : Members) → AreWhole ms
-    → IsWhole (layer_json layer code name ms)
-layer-whole layer code name ms all = (text-whole _ layer _ (code-whole code name ms all)).none
-
-upload-whole : (error : UploadError) → IsWhole (upload_json error)
-upload-whole (NotAnImage check) = layer-whole _ _ _ _ (number-whole _ _ no_members nothing-whole)
-upload-whole error = layer-whole _ _ _ no_members nothing-whole
-
-fault-whole : (reason : Fault) → IsWhole (fault_json reason)
-fault-whole (fault.Manifest error) = layer-whole _ _ _ no_members nothing-whole
-fault-whole (fault.Upload error) = upload-whole error
-fault-whole (fault.RunningDamaged n) = layer-whole _ _ _ _ (number-whole _ n no_members nothing-whole)
-fault-whole reason = layer-whole _ _ _ no_members nothing-whole
 
 description-whole : (description : Desc) (ms : Members) → AreWhole ms → AreWhole (with_description description ms)
 description-whole description ms all =
@@ -120,7 +49,7 @@ left-whole false left ms all = number-whole _ left ms all
 state-whole : (state : FlashState) (ms : Members) → AreWhole ms → AreWhole (with_state state ms)
 state-whole it ms all =
     text-whole _ _ _ (member-whole _ (set_json it.state.mask) _
-    (map-whole number_json (flat_map (json.member it.state.mask) (range_with_len 0 MOST_IMAGES)) (λ n. refl)).none
+    (set-whole it.state.mask).none
     (left-whole (it.state.left == 0) it.state.left _ (number-whole _ it.state.sequence _
     (with_some-whole _ _ _ (map-whole floor_json it.floors.items
     (λ it. (number-whole _ it.image _ (number-whole _ it.floor no_members nothing-whole)).none))
@@ -161,9 +90,6 @@ slots-whole slots ms all =
     (with_some-whole _ _ _ (flat_map-whole (λ it. moved_json it.image it.moved) slots.images.items
     (λ it. moved-whole it.image it.moved)) (decision-whole slots.decision ms all)))
 
-refused-whole : (value : Data) → IsWhole value → AreWhole (json.with_refused value no_members)
-refused-whole value whole = member-whole _ value no_members whole nothing-whole
-
 members-whole : (it : Inspection) → AreWhole (members_of it)
 members-whole (found.Choice report) = report-whole report no_members nothing-whole
 members-whole (found.Verdict is_right) = member-whole _ _ no_members refl nothing-whole
@@ -181,4 +107,14 @@ members-whole found.Codes = nothing-whole
 
 -- The object with its notes.
 pub noted-whole : (notes : List (List ℕ)) (it : Inspection) → IsWhole (object (with_notes notes (members_of it)))
-noted-whole notes it = (with_some-whole _ _ _ (map-whole string notes (λ note. refl)) (members-whole it)).none
+noted-whole notes it = (notes-whole notes _ (members-whole it)).none
+
+-- The object of a device with its result and its notes.
+outcome-whole : (it : Outcome) → AreWhole (outcome_members it)
+outcome-whole (outcome.Decided decision) = report-whole decision.report no_members nothing-whole
+outcome-whole outcome.NotValid = member-whole _ _ no_members refl nothing-whole
+outcome-whole (outcome.BadLine n) = number-whole _ n no_members nothing-whole
+outcome-whole outcome.TooLong = member-whole _ _ no_members refl nothing-whole
+
+pub result-whole : (name : List ℕ) (it : Outcome) (notes : List (List ℕ)) → IsWhole (result_json name it notes)
+result-whole name it notes = (notes-whole notes _ (text-whole _ name _ (outcome-whole it))).none

@@ -4,7 +4,6 @@ mod DeviceFileLaws
 mod DeviceLaws
 mod FleetReadingLaws
 mod InspectionLaws
-mod JsonLaws
 mod JsonWholeLaws
 mod MergingLaws
 mod PlanEndLaws

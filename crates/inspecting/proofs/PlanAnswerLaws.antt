@@ -7,6 +7,7 @@ use Rattle.std.specs.Io.KnownBytes.{Keeps}
 use Rattle.certificate.specs.declared.table.Entry.{Entry}
 use Rattle.command_line.specs.declared.orders.PlanOrder.{PlanOrder}
 use Rattle.command_line.specs.declared.orders.PlanOrder.TheVariants.{Fleet, Merge}
+use Rattle.device_texts.specs.declared.form.Form.{Form}
 use Rattle.host.specs.declared.answer.Answer.{Answer}
 use Rattle.host.specs.declared.answer.Answer.TheVariants.{Done}
 use Rattle.host.specs.declared.source.Source.{Source}
@@ -92,10 +93,10 @@ WritesPlan-kept telling old mid new writes kept = record {
 }
 
 -- The same of an answer.
-pub AnswersPlan-kept : (asked : PlanOrder) (input : Option (List ℕ)) (file : FileBytes)
-    (old mid new : Option (List ℕ)) → AnswersPlan Done asked input file old mid → Keeps mid new
-    → AnswersPlan Done asked input file old new
-AnswersPlan-kept (Fleet fleet requests is_summary) input file old mid new answered kept =
+pub AnswersPlan-kept : (form : Form) (asked : PlanOrder) (input : Option (List ℕ)) (file : FileBytes)
+    (old mid new : Option (List ℕ)) → AnswersPlan form Done asked input file old mid → Keeps mid new
+    → AnswersPlan form Done asked input file old new
+AnswersPlan-kept form (Fleet fleet requests is_summary) input file old mid new answered kept =
     let plans = answered.2.plans in (
       answered.0,
       answered.1,
@@ -105,11 +106,11 @@ AnswersPlan-kept (Fleet fleet requests is_summary) input file old mid new answer
         plans = record {
           bytes = plans.bytes;
           given = plans.given;
-          writes = WritesPlan-kept (telling_of is_summary) old mid new plans.writes kept;
+          writes = WritesPlan-kept (telling_of form is_summary) old mid new plans.writes kept;
         };
       },
     )
-AnswersPlan-kept (Merge summaries) input file old mid new answered kept = record {
+AnswersPlan-kept form (Merge summaries) input file old mid new answered kept = record {
   texts = answered.texts;
   read = answered.read;
   parts = answered.parts;

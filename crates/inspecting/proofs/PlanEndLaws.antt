@@ -1,9 +1,10 @@
 -- Lemmas by which a plan goes on from piece to piece, and ends.
-use Rattle.std.proofs.Common.{◌≡◌, ℕ, List, [], ◌++◌, append_assoc, Option, Some, None, ap, ◌∙◌, refl, subst}
+use Rattle.std.proofs.Common.{◌≡◌, ℕ, List, [], ◌++◌, append_assoc, Option, ap, ◌∙◌, refl, subst}
 use Rattle.std.proofs.KnownBytes.{Appends-nil, Appends-trans, Consumes-kept, Consumes-trans}
 use Rattle.std.proofs.lemmas.List.{append-nil}
 use Rattle.std.specs.Io.KnownBytes.{Appends, Consumes, IsAtEnd, Keeps}
 use Rattle.certificate.specs.declared.table.Entry.{Entry}
+use Rattle.device_texts.specs.declared.form.Form.{Form}
 use Rattle.host.specs.declared.answer.Answer.{Answer}
 use Rattle.inspecting.proofs.FleetReadingLaws.{told-append, told-both}
 use Rattle.inspecting.specs.Plan.{Planned, plan_text}
@@ -16,6 +17,7 @@ use Rattle.inspecting.specs.declared.fleet.planner.Planner.{Planner}
 use Rattle.inspecting.specs.declared.fleet.summary.Summary.{Summary}
 use Rattle.inspecting.specs.declared.fleet.telling.Telling.{Telling}
 use Rattle.inspecting.specs.declared.fleet.telling.Telling.TheVariants as tell
+use Rattle.inspecting.specs.declared.fleet.telling.Told.TheVariants as how
 
 -- One more piece is read and planned.
 pub HasPlanned-more : {entries : List (Option Entry)} {telling : Telling} {old new : Planner} {input mid rest a b c : Option (List ℕ)} (bytes : List ℕ)
@@ -45,7 +47,7 @@ HasPlanned-kept {input = input} {mid = mid} {rest = rest} was kept = record {
 -- The text that ends a plan follows what was written while the fleet was read.
 pub EndsWith-done : {entries : List (Option Entry)} {answer : Answer} {planner : Planner} {a b c : Option (List ℕ)} (telling : Telling) (bytes : List ℕ) (plan : List Planned)
     → EndsPlan entries telling planner bytes plan a b
-    → ((all : List Planned) → IsTold telling planner.summary all → WritesRest telling all b c)
+    → ((all : List Planned) → IsTold telling planner.told all → WritesRest telling all b c)
     → IsAnswerFor planner.has_bad answer → EndsWith entries telling answer bytes plan a c
 EndsWith-done {answer = answer} {a = a} {b = b} {c = c} telling bytes plan ended writes answered =
     let all = plan ++ ended.more in
@@ -62,16 +64,16 @@ EndsWith-done {answer = answer} {a = a} {b = b} {c = c} telling bytes plan ended
     }
 
 -- Each device was written while the fleet was read.
-pub WritesRest-none : (telling : Telling) (plan : List Planned) (summary : Option Summary) (known : Option (List ℕ))
-    → summary ≡ None → IsTold telling summary plan → WritesRest telling plan known known
-WritesRest-none tell.Devices plan summary known none told = record { text = []; is_text = append-nil (plan_text plan); written = Appends-nil known }
-WritesRest-none tell.Summary plan summary known none told = absurd (subst (λ s. IsTold tell.Summary s plan) none told)
+pub WritesRest-none : (telling : Telling) (plan : List Planned) (used : Form) (known : Option (List ℕ))
+    → IsTold telling (how.Written used) plan → WritesRest telling plan known known
+WritesRest-none (tell.Devices form) plan used known told = record { text = []; is_text = append-nil (plan_text form plan); written = Appends-nil known }
+WritesRest-none tell.Summary plan used known told = absurd told
 
 -- The summary is written.
 pub WritesRest-summary : (telling : Telling) (plan : List Planned) (summary : Summary) (old new : Option (List ℕ))
     → (Summarizes plan summary → (rows : List Row) × IsSummary plan rows × Appends old new (summary_text rows))
-    → IsTold telling (Some summary) plan → WritesRest telling plan old new
-WritesRest-summary tell.Devices plan summary old new writes told = absurd told
+    → IsTold telling (how.Counted summary) plan → WritesRest telling plan old new
+WritesRest-summary (tell.Devices form) plan summary old new writes told = absurd told
 WritesRest-summary tell.Summary plan summary old new writes told =
     let (rows, is, written) = writes told in
     record { text = summary_text rows; is_text = (rows, is, refl); written = written }

@@ -7,7 +7,7 @@ use Rattle.host.specs.declared.answer.Answer.{Answer}
 use Rattle.host.specs.Input.{FileBytes}
 use Rattle.inspecting.specs.Inspection.{written}
 use Rattle.inspecting.specs.ReadingEnd.{AnswersReading}
-use Rattle.inspecting.specs.declared.inspection.Form.{Form}
+use Rattle.device_texts.specs.declared.form.Form.{Form}
 
 pub AnswersReading-kept : (form : Form) (answer : Answer) (asked : ReadOrder) (input : Option (List ℕ)) (file : FileBytes)
     (old mid new : Option (List ℕ)) → AnswersReading form answer asked input file old mid → Keeps mid new

@@ -3,6 +3,7 @@ use Rattle.std.specs.Prelude.{◌≡◌, ℕ, List, ◌++◌, Option, Result, Ok
 use Rattle.std.specs.Io.KnownBytes.{Appends, Keeps}
 use Rattle.serde_json.specs.Data.{Data, Members, boolean, no_members, object}
 use Rattle.device_texts.specs.AnswerText.{map_refusal_text}
+use Rattle.device_texts.specs.Json.{code_json, fault_json, json_line, map_json, with_member, with_notes, with_refused, with_report}
 use Rattle.device_texts.specs.ReplyText.{refused_fault_text}
 use Rattle.certificate.specs.ReportText.{report_text}
 use Rattle.command_line.specs.declared.codes.TheConstants.{REFUSALS}
@@ -15,14 +16,14 @@ use Rattle.machine.specs.declared.error.Fault.TheVariants.{NotProvisioned}
 use Rattle.manifest.specs.Codes as manifest
 use Rattle.inspecting.specs.Check.{verdict_text}
 use Rattle.inspecting.specs.ImageText as image_text
-use Rattle.inspecting.specs.Json.{code_json, fault_json, json_line, map_json, with_description, with_manifest, with_member, with_notes, with_refused, with_report, with_slots, with_state}
+use Rattle.inspecting.specs.Json.{with_description, with_manifest, with_slots, with_state}
 use Rattle.inspecting.specs.ManifestText as manifest_text
 use Rattle.inspecting.specs.Slots.{answer_to}
 use Rattle.inspecting.specs.SlotsText.{found_text}
 use Rattle.inspecting.specs.StateText.{state_text}
 use Rattle.inspecting.specs.Written.{TakesPrefix}
-use Rattle.inspecting.specs.declared.inspection.Form.{Form}
-use Rattle.inspecting.specs.declared.inspection.Form.TheVariants as form
+use Rattle.device_texts.specs.declared.form.Form.{Form}
+use Rattle.device_texts.specs.declared.form.Form.TheVariants as form
 use Rattle.inspecting.specs.declared.inspection.Inspection.{Inspection}
 use Rattle.inspecting.specs.declared.inspection.Inspection.TheVariants as found
 

@@ -17,6 +17,7 @@ pub mod Outcome
 pub mod Plan
 pub mod PlanAnswers
 pub mod PlanEnd
+pub mod PlanJson
 pub mod Planning
 pub mod ReadingEnd
 pub mod Release

@@ -7,6 +7,7 @@ use Rattle.certificate.specs.declared.table.Entry.{Entry}
 use Rattle.command_line.specs.declared.orders.PlanOrder.{PlanOrder}
 use Rattle.command_line.specs.declared.orders.PlanOrder.TheVariants.{Fleet, Merge}
 use Rattle.command_line.specs.declared.orders.RequestedFile.{RequestedFile}
+use Rattle.device_texts.specs.declared.form.Form.{Form}
 use Rattle.host.specs.declared.answer.Answer.{Answer}
 use Rattle.host.specs.declared.source.Source.{Source}
 use Rattle.host.specs.Input.{FileBytes, Gives, IsNamed}
@@ -56,16 +57,16 @@ pub record AnswersMerge (answer : Answer) (names : List (Bor (List ℕ))) (input
   pub answered : IsAnswerFor (has_bad_row rows) answer
   pub written : Appends old new (summary_text rows)
 
--- How results are written, with or without `--summary`.
-abbrev pub telling_of : Bool → Telling
-telling_of true = tell.Summary
-telling_of false = tell.Devices
+-- How results are written in a form, with or without `--summary`.
+abbrev pub telling_of : Form → Bool → Telling
+telling_of form true = tell.Summary
+telling_of form false = tell.Devices form
 
--- The answer to an order.
-abbrev pub AnswersPlan : Answer → PlanOrder → Option (List ℕ) → FileBytes
+-- The answer to an order in a form. Summaries and their sums have texts only.
+abbrev pub AnswersPlan : Form → Answer → PlanOrder → Option (List ℕ) → FileBytes
     → Option (List ℕ) → Option (List ℕ) → Type 0
-AnswersPlan answer (Fleet fleet requests is_summary) input file old new =
+AnswersPlan form answer (Fleet fleet requests is_summary) input file old new =
     (source : Source) × IsNamed fleet.now source
-    × AnswersFleet answer source requests.items (telling_of is_summary) input file old new
-AnswersPlan answer (Merge summaries) input file old new =
+    × AnswersFleet answer source requests.items (telling_of form is_summary) input file old new
+AnswersPlan form answer (Merge summaries) input file old new =
     AnswersMerge answer summaries.items input file old new

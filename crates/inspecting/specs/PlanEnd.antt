@@ -18,9 +18,9 @@ IsAnswerFor bad Done = bad ≡ false
 IsAnswerFor bad Refused = bad ≡ true
 IsAnswerFor bad Cut = ⊥
 
--- A text of a plan: each device with its result in order, or the summary.
+-- A text of a plan: each device with its result in order, in a form, or the summary.
 abbrev pub IsPlanText : Telling → List Planned → List ℕ → Type 0
-IsPlanText tell.Devices plan text = text ≡ plan_text plan
+IsPlanText (tell.Devices form) plan text = text ≡ plan_text form plan
 IsPlanText tell.Summary plan text =
     (rows : List Row) × IsSummary plan rows × (text ≡ summary_text rows)
 

@@ -11,9 +11,10 @@ use Rattle.inspecting.specs.Plan.{IsPlan, IsPlanned, Planned, has_bad, plan_text
 use Rattle.inspecting.specs.SummaryRows.{Summarizes}
 use Rattle.inspecting.specs.declared.fleet.planner.Current.{Current}
 use Rattle.inspecting.specs.declared.fleet.planner.Planner.{Planner}
-use Rattle.inspecting.specs.declared.fleet.summary.Summary.{Summary}
 use Rattle.inspecting.specs.declared.fleet.telling.Telling.{Telling}
 use Rattle.inspecting.specs.declared.fleet.telling.Telling.TheVariants as tell
+use Rattle.inspecting.specs.declared.fleet.telling.Told.{Told}
+use Rattle.inspecting.specs.declared.fleet.telling.Told.TheVariants as how
 
 -- Of a text these bytes are read: these complete lines, and this prefix of the next line.
 pub record IsReadAs (bytes : List ℕ) (lines : List (List ℕ)) (prefix : List ℕ) : Type 0 where
@@ -39,19 +40,18 @@ AreLinesOf lines plan (Some current) =
 
 -- What is written of devices while a fleet is read.
 abbrev pub told_text : Telling → List Planned → List ℕ
-told_text tell.Devices plan = plan_text plan
+told_text (tell.Devices form) plan = plan_text form plan
 told_text tell.Summary plan = []
 
--- A summary has what isn't written of these devices.
-abbrev pub IsTold : Telling → Option Summary → List Planned → Type 0
-IsTold tell.Devices None plan = Unit {0}
-IsTold tell.Devices (Some summary) plan = ⊥
-IsTold tell.Summary None plan = ⊥
-IsTold tell.Summary (Some summary) plan = Summarizes plan summary
+-- Devices are written in this form, or a summary has these.
+abbrev pub IsTold : Telling → Told → List Planned → Type 0
+IsTold (tell.Devices form) (how.Written used) plan = used ≡ form
+IsTold (tell.Devices form) (how.Counted summary) plan = ⊥
+IsTold tell.Summary (how.Written used) plan = ⊥
+IsTold tell.Summary (how.Counted summary) plan = Summarizes plan summary
 
 -- A device with its result is written or summarized.
-abbrev pub Tells : Planned → Option Summary → Option Summary
-    → Option (List ℕ) → Option (List ℕ) → Type 0
+abbrev pub Tells : Planned → Told → Told → Option (List ℕ) → Option (List ℕ) → Type 0
 Tells planned old new before after =
     (telling : Telling) (plan : List Planned) → IsTold telling old plan
     → IsTold telling new (plan ++ planned ∷ [])
@@ -64,7 +64,7 @@ pub record HasRead (entries : List (Option Entry)) (telling : Telling) (planner 
   pub devices : AllByRecursion (λ planned. IsDevice planned.device) plan
   pub each : AllByRecursion (IsPlanned entries) plan
   pub bad : planner.has_bad ≡ has_bad plan
-  pub told : IsTold telling planner.summary plan
+  pub told : IsTold telling planner.told plan
 
 -- A planner has read these lines. Then some more devices have their results, which are written.
 pub record ReadsLines (entries : List (Option Entry)) (telling : Telling) (planner : Planner)
@@ -114,5 +114,5 @@ pub record EndsPlan (entries : List (Option Entry)) (telling : Telling) (planner
   pub more : List Planned
   pub is : IsPlan entries bytes (plan ++ more)
   pub bad : planner.has_bad ≡ has_bad (plan ++ more)
-  pub told : IsTold telling planner.summary (plan ++ more)
+  pub told : IsTold telling planner.told (plan ++ more)
   pub written : Appends before after (told_text telling more)

@@ -10,7 +10,7 @@ use Rattle.inspecting.specs.Answers.{FindsChoice, FindsDescription, FindsManifes
 use Rattle.inspecting.specs.FlashText.{IsFoundOn}
 use Rattle.inspecting.specs.Inspection.{answer_of, written}
 use Rattle.inspecting.specs.declared.flash_text.FlashText.TheVariants.{Slots, State}
-use Rattle.inspecting.specs.declared.inspection.Form.{Form}
+use Rattle.device_texts.specs.declared.form.Form.{Form}
 use Rattle.inspecting.specs.declared.inspection.Inspection.{Inspection}
 use Rattle.inspecting.specs.declared.inspection.Inspection.TheVariants as found
 

@@ -2,8 +2,10 @@
 //!
 //! `planning` reads a fleet piece by piece. `planner` finds the devices in it. `outcome` decides
 //! over the table of one, with the requests of a release, which `requests` puts into it. `requested`
-//! keeps the versions that were requested. `summary` counts what the devices do: `key` has the texts
-//! that it counts, and `rows` the counts. `merging` adds summaries up, whose lines `row_line` reads.
+//! keeps the versions that were requested. `result_lines` writes a device with its result, as a text
+//! or as JSON, and `plan_notes` is what explains it. `summary` counts what the devices do: `key` has
+//! the texts that it counts, and `rows` the counts. `merging` adds summaries up, whose lines
+//! `row_line` reads.
 
 mod bounded;
 mod device_line;
@@ -11,12 +13,14 @@ mod key;
 mod laws;
 mod merging;
 mod outcome;
+mod plan_notes;
 mod planner;
 mod planning;
 mod program;
 mod release;
 mod requested;
 mod requests;
+mod result_lines;
 mod row_line;
 mod rows;
 mod summary;
@@ -25,6 +29,7 @@ mod telling;
 pub use laws::sums_are_summaries;
 pub use merging::{MergeFault, MergeRefusal, merge_over};
 pub use outcome::{Decision, Outcome};
+pub use plan_notes::{NoPlanNotes, PlanNotes};
 pub use planning::plan_over;
 pub use program::run_plan;
 pub use requests::Requests;

@@ -3,21 +3,21 @@ ghost use Rattle.std.specs.Prelude.{◌≡◌, IfOk, OnOk, map, string_bytes};
 ghost use Rattle.serde_json.specs.Data.{no_members, string};
 ghost use Rattle.serde_json.specs.View.{members_view, view};
 ghost use Rattle.inspecting.specs.Inspection.{WritesInspection, answer_of, members_of, text_of, written};
-ghost use Rattle.inspecting.specs.Json.{with_refused};
-ghost use Rattle.inspecting.specs.declared.inspection.Form.TheVariants as form;
+ghost use Rattle.device_texts.specs.declared.form.Form.TheVariants as form;
 
 use crate::answer::{write_answer, write_text};
 use crate::flash_state::FlashState;
-use crate::json::{
-    Json, Object, code_value, fault_value, line_of, map_value, put_description, put_each,
-    put_manifest, put_report, put_slots, put_state, put_value,
-};
+use crate::json::{put_description, put_manifest, put_slots, put_state};
 use crate::slots::{answer_to, listing_text};
 use crate::slots_found::SlotsFound;
 use crate::{check, image, manifest_file, show};
 use certificate::Report;
 use command_line::REFUSALS;
-use device_texts::{map_refusal_text, refused_fault_text, write_all};
+use device_texts::json::{
+    Object, code_value, fault_value, map_value, put_notes, put_refused, put_report, put_value,
+    value_line,
+};
+use device_texts::{Form, map_refusal_text, refused_fault_text, write_all};
 use host::{Answer, Refusal};
 use image_reading::{Desc, ImageError};
 use machine::Fault;
@@ -52,15 +52,6 @@ pub enum Inspection {
     Slots(FlashState, SlotsFound),
     /// The list of all codes and names.
     Codes,
-}
-
-/// The form in which an answer is written.
-#[derive(Clone, Copy, PartialEq, Eq)]
-pub enum Form {
-    /// The text.
-    Text,
-    /// A JSON object in a line.
-    Json,
 }
 
 impl Inspection {
@@ -160,14 +151,6 @@ impl Inspection {
     }
 }
 
-/// Adds the member of a refusal.
-fn put_refused(alloc: Global, object: &mut Object, refused: Value) -> Result<(), AllocError>
-    ensures { OnOk result (members_view object.new.entries
-        ≡ with_refused (view refused) (members_view object.old.entries)) }
-{
-    put_value(alloc, object, "refused", refused)
-}
-
 /// Writes what was found to `out` in a form, and returns the answer. The object has the notes in
 /// its member `notes`, if there are any. The text has none.
 ///
@@ -209,14 +192,6 @@ fn object_line(alloc: Global, notes: &[&str], found: &Inspection) -> Result<Stri
         ≡ written form.Json (map (λ note. note.now) notes.now) found.now) }
 {
     let mut object = found.members(alloc)?;
-    put_each(alloc, &mut object, "notes", notes)?;
-    line_of(alloc, &Value::Object(object))
-}
-
-impl Json for &str {
-    ghost json = { λ note. string note.now };
-
-    fn json(&self, alloc: Global) -> Result<Value, AllocError> {
-        Value::try_from_str(alloc, self)
-    }
+    put_notes(alloc, &mut object, notes)?;
+    value_line(alloc, &Value::Object(object))
 }

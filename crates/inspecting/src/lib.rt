@@ -8,7 +8,7 @@
 //!   `merge_over`, `run_plan`
 //! - Allocates: the input, a flash in memory, the text or object of the answer. For a fleet: one
 //!   device, and a summary.
-//! - Callers: `boot_cli`
+//! - Callers: `explaining`, `boot_cli`
 //!
 //! Each command has a module. Its `inspect_` function reads the files that the arguments name, and
 //! finds a value in them, an `Inspection`. `inspection` writes such a value as a text or as JSON.
@@ -38,11 +38,11 @@ pub use choose::{ChooseEnd, choice_in, choose_over};
 pub use flash_state::{FlashState, ImageFloor, ImageSwap};
 pub use flash_text::{FlashText, found_on};
 pub use fleet::{
-    Decision, MergeFault, MergeRefusal, Outcome, Requests, Telling, merge_over, plan_over,
-    run_plan, sums_are_summaries,
+    Decision, MergeFault, MergeRefusal, NoPlanNotes, Outcome, PlanNotes, Requests, Telling,
+    merge_over, plan_over, run_plan, sums_are_summaries,
 };
 pub use image::description_in;
-pub use inspection::{Form, Inspection, write_inspection};
+pub use inspection::{Inspection, write_inspection};
 pub use manifest_file::manifest_in;
 pub use program::{inspect, run_inspection};
 pub use reading::{ReadError, read_all};

@@ -1,15 +1,16 @@
 //! Runs the read-only command that an order names.
 ghost use Rattle.std.specs.Prelude.{IfOk};
 ghost use Rattle.inspecting.specs.ReadingEnd.{AnswersReading, Finds};
-ghost use Rattle.inspecting.specs.declared.inspection.Form.TheVariants as form;
+ghost use Rattle.device_texts.specs.declared.form.Form.TheVariants as form;
 
 use crate::check::inspect_report;
 use crate::choose::inspect_table;
 use crate::flash_text::{FlashText, inspect_flash};
 use crate::image::inspect_image;
-use crate::inspection::{Form, Inspection, write_inspection};
+use crate::inspection::{Inspection, write_inspection};
 use crate::manifest_file::inspect_manifest;
 use command_line::ReadOrder;
+use device_texts::Form;
 use host::{Answer, Host, Refusal, Source};
 use std::alloc::Global;
 use std::io::Write;

@@ -1,4 +1,6 @@
 mod CutRuns
+mod FoundLaws
 mod MarkLaws
 mod ScenarioLaws
+mod SweptLaws
 mod TallyLaws

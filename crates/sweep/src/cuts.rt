@@ -1,8 +1,11 @@
 //! The power cuts of a run, and the bytes that they leave.
 
-ghost use Rattle.std.specs.Prelude.{◌≡◌, IfOk};
+ghost use Rattle.std.specs.Fmt.{WritesOnOk};
+ghost use Rattle.std.specs.Prelude.{◌≡◌, IfOk, Some};
 ghost use Rattle.device_texts.specs.FlashOf.{armed_in};
 ghost use Rattle.sweep.specs.Cuts.{AreArmedFor, IsCopies, IsTorn};
+ghost use Rattle.sweep.specs.Findings.{tear_text};
+ghost use Rattle.sweep.specs.FoundText.{cut_text, cuts_text};
 ghost use Rattle.sweep.specs.Tallies.{cuts_place, tear_place, torn_place};
 
 use device_texts::CutWrite;
@@ -58,7 +61,9 @@ impl Tear {
 
     /// Its name in a `cut` line of a script, after the number of the write. Scripts have no line
     /// for `Half`.
-    pub fn name(self) -> &'static str {
+    pub fn name(self) -> &'static str
+        ensures { result.now ≡ tear_text self }
+    {
         match self {
             Tear::Keep => "keep",
             Tear::Done => "done",
@@ -152,6 +157,8 @@ fn place_of_cut(cut: TornWrite) -> u128
 }
 
 impl fmt::Display for Cuts {
+    ghost output = { λ cuts. Some (cuts_text cuts) };
+
     fn fmt<W: fmt::Write>(&self, f: &mut fmt::Formatter<W>) -> fmt::Result {
         match self {
             Cuts::One(cut) => write_cut(f, *cut),
@@ -165,7 +172,9 @@ impl fmt::Display for Cuts {
 }
 
 /// Writes a cut as a `cut` line of a script.
-fn write_cut<W: fmt::Write>(f: &mut fmt::Formatter<W>, cut: TornWrite) -> fmt::Result {
+fn write_cut<W: fmt::Write>(f: &mut fmt::Formatter<W>, cut: TornWrite) -> fmt::Result
+    ensures { WritesOnOk W.write_str_gives f.old result (cut_text cut) f.new }
+{
     let TornWrite { write, tear } = cut;
     let name = tear.name();
     write!(f, "cut {write} {name}")

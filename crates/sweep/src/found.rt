@@ -1,5 +1,8 @@
 //! The findings of a sweep, counted over its runs.
 
+ghost use Rattle.std.specs.Prelude.{◌≡◌};
+ghost use Rattle.sweep.specs.Findings.{image_of, is_good, kind_text, marks_of, writes_before};
+
 use crate::cuts::{Cuts, place_of};
 use crate::marks::Mark;
 use crate::notes::{BootOutcome, ScenarioEnd};
@@ -65,12 +68,17 @@ impl Found {
     }
 
     /// Whether no boot was refused, and no run had an unexpected end, as `others` defines it.
-    pub fn is_good(&self) -> bool {
+    pub fn is_good(&self) -> bool
+        ensures { result ≡ is_good self.now }
+    {
         self.others.runs == 0 && self.refused.runs == 0
     }
 
     /// The writes of this event. Events are counted from 0.
-    pub(crate) fn writes_of(&self, event: usize) -> EventWrites<'_> {
+    pub(crate) fn writes_of(&self, event: usize) -> EventWrites<'_>
+        ensures before { result.before ≡ writes_before self.now.writes.items event }
+        ensures marks { result.marks.now ≡ marks_of self.now event }
+    {
         let before = match event.checked_sub(1) {
             Some(last) => self.writes.get(last).copied().unwrap_or(0),
             None => 0,
@@ -136,6 +144,34 @@ pub(crate) fn without_bytes(event: &Event<Vec<u8>>) -> Event<()> {
         Event::Confirm(image) => Event::Confirm(*image),
         Event::Boot => Event::Boot,
         Event::Reset => Event::Reset,
+    }
+}
+
+/// The word for an event in a script.
+pub(crate) fn kind_of(event: &Event<()>) -> &'static str
+    ensures { result.now ≡ kind_text event.now }
+{
+    match event {
+        Event::Accept(_) => "accept",
+        Event::Piece(..) => "piece",
+        Event::Finish(_) => "finish",
+        Event::Withdraw(_) => "withdraw",
+        Event::Confirm(_) => "confirm",
+        Event::Boot => "boot",
+        Event::Reset => "reset",
+    }
+}
+
+/// The image of an event, if it has one.
+pub(crate) fn image_of(event: &Event<()>) -> Option<u8>
+    ensures { result ≡ image_of event.now }
+{
+    match event {
+        Event::Piece(image, _)
+        | Event::Finish(image)
+        | Event::Withdraw(image)
+        | Event::Confirm(image) => Some(*image),
+        Event::Accept(_) | Event::Boot | Event::Reset => None,
     }
 }
 

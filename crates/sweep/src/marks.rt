@@ -1,5 +1,7 @@
 //! The mark of a write: what the boots after power cuts at it did.
 
+ghost use Rattle.std.specs.Prelude.{◌≡◌};
+ghost use Rattle.sweep.specs.Findings.{mark_text};
 ghost use Rattle.sweep.specs.Marks.{IsMarkSum};
 
 use crate::notes::BootOutcome;
@@ -52,7 +54,9 @@ impl Mark {
     }
 
     /// Its character in an output.
-    pub fn character(self) -> &'static str {
+    pub fn character(self) -> &'static str
+        ensures { result.now ≡ mark_text self }
+    {
         match self {
             Mark::NotTried => "_",
             Mark::Several => "*",

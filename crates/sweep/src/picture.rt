@@ -3,7 +3,7 @@
 use crate::found::{EventWrites, Found};
 use crate::marks::Mark;
 use crate::notes::BootOutcome;
-use crate::text::write_event;
+use crate::text::NumberedEvent;
 use common::event::Event;
 use std::alloc::{AllocError, Global};
 
@@ -101,9 +101,9 @@ fn draw_event(
     event: &Event<()>,
 ) -> Result<(), AllocError> {
     let base = height_of(row).saturating_add(13);
-    write!(text, "<text x=\"8\" y=\"{base}\">")?;
-    write_event(text, place, event)?;
-    text.push_str("</text>\n")
+    let number = place.saturating_add(1);
+    let event = NumberedEvent { number, event };
+    writeln!(text, "<text x=\"8\" y=\"{base}\">{event}</text>")
 }
 
 /// Draws a square for each write of an event, from this row on.

@@ -3,36 +3,13 @@ ghost use Rattle.std.specs.Prelude.{◌≡◌, IfOk, Ok, OnOk};
 ghost use Rattle.boot_cli.specs.JsonEnd.{WritesValue};
 
 use crate::json::code_list::code_list_members;
-use crate::json::fields::Members;
-use crate::json::grammar::Grammar;
-use crate::json::grammars;
-use crate::json::reading::members_of;
+use crate::json::summary_rows::{Members, summary_members};
 use command_line::Order;
 use device_texts::write_all;
 use host::{Answer, Refusal};
 use serde_json::{Value, push, put};
 use std::alloc::{AllocError, Global};
 use std::io::Write;
-
-/// How the text of an answer is read.
-#[derive(Clone, Copy)]
-pub enum Layout {
-    /// Line by line.
-    Lines(&'static Grammar),
-    /// As the list of `codes`.
-    CodeList,
-}
-
-/// Returns how the answer to an order is read. Of the read-only commands only that of `codes` is.
-/// Commands that don't accept `--json` are read as `run` is.
-pub fn layout_of(order: &Order<'_>) -> Layout {
-    match order {
-        Order::Read(_) => Layout::CodeList,
-        Order::Plan(_) => Layout::Lines(grammars::SUMMARY),
-        Order::Sweep { .. } | Order::MergeSweeps { .. } => Layout::Lines(grammars::SWEEP),
-        _ => Layout::Lines(grammars::REPLY),
-    }
-}
 
 /// Returns the outcome of a command that wrote its answer to memory. There a write fails only if
 /// memory runs out.
@@ -45,15 +22,16 @@ pub fn outcome_in_memory(outcome: Result<Answer, Refusal>) -> Result<Answer, Ref
     }
 }
 
-/// Writes the object of an answer, and a line feed, to `out`. `text` is the answer, and `notes` are
-/// the notes on it, with their prefixes.
+/// Writes the object of an answer, and a line feed, to `out`. `text` is the list of `codes` or the
+/// summary of a plan, and `notes` are the notes on it, with their prefixes. An answer of a command
+/// that doesn't accept `--json` is read as a summary.
 ///
 /// # Errors
 /// - `NoMemory` if memory of `alloc` ran out. Nothing is written.
 /// - `CannotWrite` if the write failed, or if a text isn't UTF-8.
 pub fn write_object<O: Write>(
     alloc: Global,
-    layout: Layout,
+    order: &Order<'_>,
     text: &[u8],
     notes: &[u8],
     out: &mut O,
@@ -63,14 +41,14 @@ pub fn write_object<O: Write>(
     let (Ok(text), Ok(notes)) = (str::from_utf8(text), str::from_utf8(notes)) else {
         return Err(Refusal::CannotWrite);
     };
-    match object_of(alloc, layout, text, notes) {
+    match object_of(alloc, order, text, notes) {
         Ok(value) => write_value(alloc, &value, out),
         Err(_) => Err(Refusal::NoMemory),
     }
 }
 
 /// Writes the text of a value and a line feed.
-pub fn write_value<O: Write>(alloc: Global, value: &Value, out: &mut O) -> Result<(), Refusal>
+fn write_value<O: Write>(alloc: Global, value: &Value, out: &mut O) -> Result<(), Refusal>
     ensures { OnOk result (WritesValue (O.contents out.old) (O.contents out.new)) }
 {
     let Ok(mut line) = value.to_string(alloc) else {
@@ -86,17 +64,22 @@ pub fn write_value<O: Write>(alloc: Global, value: &Value, out: &mut O) -> Resul
 }
 
 /// Returns the object of an answer, with the member `notes` if there are notes.
-fn object_of(alloc: Global, layout: Layout, text: &str, notes: &str) -> Result<Value, AllocError> {
-    let mut members = match layout {
-        Layout::Lines(grammar) => members_of(alloc, grammar, text)?,
-        Layout::CodeList => code_list_members(alloc, text)?,
+fn object_of(
+    alloc: Global,
+    order: &Order<'_>,
+    text: &str,
+    notes: &str,
+) -> Result<Value, AllocError> {
+    let mut members = match order {
+        Order::Read(_) => code_list_members(alloc, text)?,
+        _ => summary_members(alloc, text)?,
     };
     add_notes(alloc, notes, &mut members)?;
     Ok(Value::Object(members))
 }
 
 /// Adds the member `notes`: the lines without their prefixes. Without a line there is none.
-pub fn add_notes(alloc: Global, notes: &str, members: &mut Members) -> Result<(), AllocError> {
+fn add_notes(alloc: Global, notes: &str, members: &mut Members) -> Result<(), AllocError> {
     if notes.is_empty() {
         return Ok(());
     }

@@ -1,7 +1,6 @@
 //! Reads the list of `codes` into an object.
 
-use crate::json::fields::Members;
-use crate::json::words::number_of;
+use crate::json::summary_rows::Members;
 use serde_json::{Map, Value, push, put};
 use std::alloc::{AllocError, Global};
 
@@ -79,7 +78,7 @@ impl<'t> CodeList<'t> {
         let alloc = self.alloc;
         let mut members = Map::new(alloc);
         match head.split_once(' ') {
-            Some((code, name)) if let Some(code) = number_of(code) => {
+            Some((code, name)) if let Ok(code) = code.parse::<u64>() => {
                 put(&mut members, alloc, "code", Value::from(code))?;
                 put(
                     &mut members,

@@ -4,12 +4,14 @@ ghost use Rattle.std.specs.Prelude.{◌≡◌, ℕ, IfOk, List};
 ghost use Rattle.boot_cli.specs.JsonEnd.{is_codes};
 ghost use Rattle.inspecting.specs.Inspection.{answer_of, written};
 ghost use Rattle.inspecting.specs.ReadingEnd.{AnswersReading};
-ghost use Rattle.inspecting.specs.declared.inspection.Form.TheVariants as form;
+ghost use Rattle.device_texts.specs.declared.form.Form.TheVariants as form;
 
 use command_line::{Order, ReadOrder};
+use device_texts::Form;
 use explaining::{Remembering, explain_end};
 use host::{Answer, Host, Refusal};
-use inspecting::{Form, Inspection, inspect, write_inspection};
+use inputs::notes_in;
+use inspecting::{Inspection, inspect, write_inspection};
 use std::alloc::{AllocError, Global};
 use std::io::Write;
 
@@ -84,13 +86,4 @@ fn write_noted<O: Write>(
         Ok(notes) => write_inspection(alloc, Form::Json, &notes, found, out),
         Err(AllocError) => Err(Refusal::NoMemory),
     }
-}
-
-/// Returns the notes in a text, without their prefixes.
-fn notes_in(alloc: Global, text: &str) -> Result<Vec<&str>, AllocError> {
-    let mut notes = Vec::new(alloc);
-    for line in text.lines() {
-        notes.push(line.strip_prefix("note: ").unwrap_or(line))?;
-    }
-    Ok(notes)
 }

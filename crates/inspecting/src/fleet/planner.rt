@@ -6,19 +6,19 @@ ghost use Rattle.common.specs.Ascii.{LacksByte};
 ghost use Rattle.common.specs.Lines.{lines_of};
 ghost use Rattle.inspecting.specs.Bounded.{Holds};
 ghost use Rattle.inspecting.specs.Fleet.{BeginsDevice, BeginsNone, Device, with_line};
-ghost use Rattle.std.specs.Io.KnownBytes.{Appends};
-ghost use Rattle.inspecting.specs.Plan.{Planned, planned_text};
+ghost use Rattle.inspecting.specs.Plan.{Planned};
 ghost use Rattle.inspecting.specs.Planning.{Advances, EndsPlan, HasRead, IsReadSoFar, ReadsLines, ReadsSome, Stands, Tells};
 ghost use Rattle.inspecting.specs.SummaryRows.{Summarizes};
 
 use crate::fleet::bounded::Bounded;
 use crate::fleet::device_line::{DEVICE, begins_device};
 use crate::fleet::outcome::{Outcome, outcome_of};
+use crate::fleet::plan_notes::PlanNotes;
 use crate::fleet::requests::Requests;
+use crate::fleet::result_lines::write_result;
 use crate::fleet::summary::Summary;
-use crate::fleet::telling::Telling;
+use crate::fleet::telling::{Telling, Told};
 use common::ascii::cut;
-use device_texts::write_all;
 use host::Refusal;
 use std::alloc::{AllocError, Global};
 use std::io::Write;
@@ -55,7 +55,18 @@ impl Current {
     }
 
     /// Returns its name.
-    fn name(&self) -> &[u8]
+    fn name(&self) -> &str
+        ensures { (device : Device) → IsReadSoFar device self.now → result.now ≡ device.name }
+    {
+        match str::from_utf8(self.name_bytes()) {
+            Ok(name) => name,
+            // A name is ASCII, so this doesn't come.
+            Err(_) => "",
+        }
+    }
+
+    /// Returns the bytes of its name.
+    fn name_bytes(&self) -> &[u8]
         ensures { (device : Device) → IsReadSoFar device self.now → result.now ≡ device.name }
     {
         match self.first.strip_prefix(DEVICE) {
@@ -75,24 +86,6 @@ impl Current {
         };
         Ok(())
     }
-
-    /// Writes the device with its result.
-    fn write<W: Write>(&self, alloc: Global, outcome: &Outcome, out: &mut W) -> Result<(), Refusal>
-        ensures { OnOk result ((planned : Planned)
-            → IsReadSoFar planned.device self.now → outcome.now ≡ planned.outcome
-            → Appends (W.contents out.old) (W.contents out.new) (planned_text planned)) }
-    {
-        let Ok(text) = format!(in alloc; "{outcome}") else {
-            return Err(Refusal::NoMemory);
-        };
-        let Ok(()) = write_all(out, &self.first) else {
-            return Err(Refusal::CannotWrite);
-        };
-        let Ok(()) = write_all(out, text.as_bytes()) else {
-            return Err(Refusal::CannotWrite);
-        };
-        Ok(())
-    }
 }
 
 /// A fleet of which a part is read.
@@ -106,8 +99,8 @@ pub struct Planner {
     device: Option<Current>,
     /// A device that has its result. Its memory is used for the next one.
     spare: Option<Current>,
-    /// The summary, if no device is written.
-    pub summary: Option<Summary>,
+    /// Where the results go.
+    pub told: Told,
     /// Whether the result of a device is no report.
     pub has_bad: bool,
 }
@@ -122,9 +115,9 @@ impl Planner {
             line: Bounded::new(alloc),
             device: None,
             spare: None,
-            summary: match telling {
-                Telling::Devices => None,
-                Telling::Summary => Some(Summary::new(alloc)),
+            told: match telling {
+                Telling::Devices(form) => Told::Written(form),
+                Telling::Summary => Told::Counted(Summary::new(alloc)),
             },
             has_bad: false,
         }
@@ -136,10 +129,11 @@ impl Planner {
     /// # Errors
     /// `FleetLine` if the first line begins no device, `NoMemory` if memory runs out, `CannotWrite`
     /// if a write fails.
-    pub fn read<W: Write>(
+    pub fn read<W: Write, N: PlanNotes>(
         &mut self,
         requests: &Requests,
         bytes: &[u8],
+        notes: &mut N,
         out: &mut W,
     ) -> Result<(), Refusal>
         ensures { OnOk result (Advances requests.now.entries self.old self.new bytes.now
@@ -147,7 +141,7 @@ impl Planner {
     {
         let mut rest = Some(bytes);
         while let Some(text) = rest {
-            rest = self.read_line(requests, text, out)?;
+            rest = self.read_line(requests, text, notes, out)?;
         }
         Ok(())
     }
@@ -156,18 +150,28 @@ impl Planner {
     ///
     /// # Errors
     /// The same as those of [`Planner::read`].
-    pub fn end<W: Write>(&mut self, requests: &Requests, out: &mut W) -> Result<(), Refusal>
+    pub fn end<W: Write, N: PlanNotes>(
+        &mut self,
+        requests: &Requests,
+        notes: &mut N,
+        out: &mut W,
+    ) -> Result<(), Refusal>
         ensures { OnOk result ((telling : Telling) (bytes : List ℕ) (plan : List Planned)
             → Stands requests.now.entries telling self.old bytes plan
             → EndsPlan requests.now.entries telling self.new bytes plan
             (W.contents out.old) (W.contents out.new)) }
     {
-        self.end_last_line(requests, out)?;
-        self.end_device(requests, out)
+        self.end_last_line(requests, notes, out)?;
+        self.end_device(requests, notes, out)
     }
 
     /// Ends the last line of the fleet, if it has no line feed.
-    fn end_last_line<W: Write>(&mut self, requests: &Requests, out: &mut W) -> Result<(), Refusal>
+    fn end_last_line<W: Write, N: PlanNotes>(
+        &mut self,
+        requests: &Requests,
+        notes: &mut N,
+        out: &mut W,
+    ) -> Result<(), Refusal>
         ensures { OnOk result ((telling : Telling) (bytes : List ℕ) (plan : List Planned)
             → Stands requests.now.entries telling self.old bytes plan
             → ReadsLines requests.now.entries telling self.new (lines_of bytes) plan
@@ -176,15 +180,16 @@ impl Planner {
         if self.line.is_empty() {
             return Ok(());
         }
-        self.end_line(requests, out)
+        self.end_line(requests, notes, out)
     }
 
     /// Reads bytes up to and including their first line feed, and returns the bytes after it. If
     /// they have none, reads all of them, and returns `None`.
-    fn read_line<'b, W: Write>(
+    fn read_line<'b, W: Write, N: PlanNotes>(
         &mut self,
         requests: &Requests,
         bytes: &'b [u8],
+        notes: &mut N,
         out: &mut W,
     ) -> Result<Option<&'b [u8]>, Refusal>
         ensures { IfOk result (λ rest. ReadsSome requests.now.entries self.old self.new bytes.now
@@ -195,7 +200,7 @@ impl Planner {
         let Some(rest) = after else {
             return Ok(None);
         };
-        self.end_line(requests, out)?;
+        self.end_line(requests, notes, out)?;
         Ok(Some(rest))
     }
 
@@ -213,7 +218,12 @@ impl Planner {
     }
 
     /// Ends a line.
-    fn end_line<W: Write>(&mut self, requests: &Requests, out: &mut W) -> Result<(), Refusal>
+    fn end_line<W: Write, N: PlanNotes>(
+        &mut self,
+        requests: &Requests,
+        notes: &mut N,
+        out: &mut W,
+    ) -> Result<(), Refusal>
         ensures feed { OnOk result (Advances requests.now.entries self.old self.new (10 ∷ [])
             (W.contents out.old) (W.contents out.new)) }
         ensures lines { OnOk result ((telling : Telling) (line : List ℕ) (lines : List (List ℕ))
@@ -222,13 +232,18 @@ impl Planner {
             → ReadsLines requests.now.entries telling self.new (lines ++ line ∷ []) plan
             (W.contents out.old) (W.contents out.new)) }
     {
-        self.take_line(requests, out)?;
+        self.take_line(requests, notes, out)?;
         self.line.clear();
         Ok(())
     }
 
     /// Takes the line: as the begin of a device, or into the table of the device.
-    fn take_line<W: Write>(&mut self, requests: &Requests, out: &mut W) -> Result<(), Refusal>
+    fn take_line<W: Write, N: PlanNotes>(
+        &mut self,
+        requests: &Requests,
+        notes: &mut N,
+        out: &mut W,
+    ) -> Result<(), Refusal>
         ensures { OnOk result ((telling : Telling) (line : List ℕ) (lines : List (List ℕ))
             (plan : List Planned)
             → Holds line self.old.line → HasRead requests.now.entries telling self.old lines plan
@@ -236,14 +251,19 @@ impl Planner {
             (W.contents out.old) (W.contents out.new)) }
     {
         if begins_device(&self.line) {
-            self.next_device(requests, out)
+            self.next_device(requests, notes, out)
         } else {
             self.add_line()
         }
     }
 
     /// Ends the device whose table is read, and begins that of the line.
-    fn next_device<W: Write>(&mut self, requests: &Requests, out: &mut W) -> Result<(), Refusal>
+    fn next_device<W: Write, N: PlanNotes>(
+        &mut self,
+        requests: &Requests,
+        notes: &mut N,
+        out: &mut W,
+    ) -> Result<(), Refusal>
         ensures { OnOk result ((telling : Telling) (line name : List ℕ) (lines : List (List ℕ))
             (plan : List Planned)
             → Holds line self.old.line → BeginsDevice line name
@@ -251,7 +271,7 @@ impl Planner {
             → ReadsLines requests.now.entries telling self.new (lines ++ line ∷ []) plan
             (W.contents out.old) (W.contents out.new)) }
     {
-        self.end_device(requests, out)?;
+        self.end_device(requests, notes, out)?;
         self.begin_device()
     }
 
@@ -286,7 +306,12 @@ impl Planner {
     }
 
     /// Ends the device whose table is read, if there is one, and writes it with its result.
-    fn end_device<W: Write>(&mut self, requests: &Requests, out: &mut W) -> Result<(), Refusal>
+    fn end_device<W: Write, N: PlanNotes>(
+        &mut self,
+        requests: &Requests,
+        notes: &mut N,
+        out: &mut W,
+    ) -> Result<(), Refusal>
         ensures none { OnOk result (self.new.device ≡ None) }
         ensures line { OnOk result (self.new.line ≡ self.old.line) }
         ensures lines { OnOk result ((telling : Telling) (lines : List (List ℕ)) (plan : List Planned)
@@ -298,28 +323,30 @@ impl Planner {
             return Ok(());
         };
         let outcome = outcome_of(requests, &device.table);
-        tell(self.alloc, &mut self.summary, &device, &outcome, out)?;
+        tell(self.alloc, &mut self.told, &device, &outcome, notes, out)?;
         self.has_bad = self.has_bad || outcome.is_bad();
         self.spare = Some(device);
         Ok(())
     }
 }
 
-/// Adds a device with its result to the summary, or writes it if there is none.
-fn tell<W: Write>(
+/// Writes a device with its result and the notes on it, or adds it to the summary.
+fn tell<W: Write, N: PlanNotes>(
     alloc: Global,
-    summary: &mut Option<Summary>,
+    told: &mut Told,
     device: &Current,
     outcome: &Outcome,
+    notes: &mut N,
     out: &mut W,
 ) -> Result<(), Refusal>
-    ensures { OnOk result ((planned : Planned)
+    ensures { OnOk result ((texts : List (List ℕ)) × ((planned : Planned)
         → IsReadSoFar planned.device device.now → outcome.now ≡ planned.outcome
-        → Tells planned summary.old summary.new (W.contents out.old) (W.contents out.new)) }
+        → planned.notes ≡ texts
+        → Tells planned told.old told.new (W.contents out.old) (W.contents out.new))) }
 {
-    match summary {
-        Some(summary) => summarize(summary, device, outcome),
-        None => device.write(alloc, outcome, out),
+    match told {
+        Told::Written(form) => write_result(alloc, *form, device.name(), outcome, notes, out),
+        Told::Counted(summary) => summarize(summary, device, outcome),
     }
 }
 
@@ -329,7 +356,7 @@ fn summarize(summary: &mut Summary, device: &Current, outcome: &Outcome) -> Resu
         → IsReadSoFar planned.device device.now → outcome.now ≡ planned.outcome
         → Summarizes plan summary.old → Summarizes (plan ++ planned ∷ []) summary.new) }
 {
-    let Ok(()) = summary.add(device.name(), outcome) else {
+    let Ok(()) = summary.add(device.name_bytes(), outcome) else {
         return Err(Refusal::NoMemory);
     };
     Ok(())

@@ -9,10 +9,11 @@ ghost use Rattle.inspecting.specs.Row.{Row, summary_text};
 ghost use Rattle.inspecting.specs.Summary.{IsSummary};
 ghost use Rattle.inspecting.specs.SummaryRows.{Summarizes};
 
+use crate::fleet::plan_notes::PlanNotes;
 use crate::fleet::planner::Planner;
 use crate::fleet::requests::Requests;
 use crate::fleet::summary::Summary;
-use crate::fleet::telling::Telling;
+use crate::fleet::telling::{Telling, Told};
 use device_texts::write_all;
 use host::{Answer, Refusal, Source};
 use std::alloc::{AllocError, Global};
@@ -24,7 +25,7 @@ const PIECE: usize = 1 << 16;
 
 /// Reads the fleet that `input` gives to its end, and decides over the table of each device with
 /// its requests replaced by those of `requests`. Writes to `out` each device with its result, or
-/// at the end their summary, as `telling` says.
+/// at the end their summary, as `telling` says. `notes` explains each device that is written.
 ///
 /// A bad table is no error: the device gets the result `bad-line N`, `too-long` or `not-valid`, the
 /// others follow, and the answer is `Refused`. `source` names the input in an error. The memory in
@@ -39,12 +40,13 @@ const PIECE: usize = 1 << 16;
 ///
 /// After an error `out` has the devices before it, and perhaps a prefix of the next one's text. Of
 /// a summary it has nothing, or a prefix if a write failed.
-pub fn plan_over<R: Read, W: Write>(
+pub fn plan_over<R: Read, W: Write, N: PlanNotes>(
     alloc: Global,
     requests: &Requests,
     telling: Telling,
     source: Source<'_>,
     input: &mut R,
+    notes: &mut N,
     out: &mut W,
 ) -> Result<Answer, Refusal>
     ensures { IfOk result (λ answer. Plans requests.now.entries telling answer
@@ -57,8 +59,8 @@ pub fn plan_over<R: Read, W: Write>(
     let mut planner = Planner::new(alloc, telling);
     for _ in 0..u64::MAX {
         match read_into(input, &mut piece) {
-            Ok(0) => return end_plan(requests, planner, out),
-            Ok(count) => planner.read(requests, &piece[..count], out)?,
+            Ok(0) => return end_plan(requests, planner, notes, out),
+            Ok(count) => planner.read(requests, &piece[..count], notes, out)?,
             Err(error) if error.kind() == ErrorKind::Interrupted => {}
             Err(error) => return Err(source.refusal(alloc, error)),
         }
@@ -85,27 +87,32 @@ fn buffer(alloc: Global, count: usize) -> Result<Vec<u8>, AllocError>
 }
 
 /// Ends a plan, and returns its answer.
-fn end_plan<W: Write>(requests: &Requests, planner: Planner, out: &mut W) -> Result<Answer, Refusal>
+fn end_plan<W: Write, N: PlanNotes>(
+    requests: &Requests,
+    planner: Planner,
+    notes: &mut N,
+    out: &mut W,
+) -> Result<Answer, Refusal>
     ensures { IfOk result (λ answer. (telling : Telling) (bytes : List ℕ) (plan : List Planned)
         → Stands requests.now.entries telling planner bytes plan
         → EndsWith requests.now.entries telling answer bytes plan
         (W.contents out.old) (W.contents out.new)) }
 {
     let mut planner = planner;
-    planner.end(requests, out)?;
-    write_rest(&planner.summary, out)?;
+    planner.end(requests, notes, out)?;
+    write_rest(&planner.told, out)?;
     Ok(answer_for(planner.has_bad))
 }
 
 /// Writes the text of a summary, if there is one.
-fn write_rest<W: Write>(summary: &Option<Summary>, out: &mut W) -> Result<(), Refusal>
+fn write_rest<W: Write>(told: &Told, out: &mut W) -> Result<(), Refusal>
     ensures { OnOk result ((telling : Telling) (plan : List Planned)
-        → IsTold telling summary.now plan
+        → IsTold telling told.now plan
         → WritesRest telling plan (W.contents out.old) (W.contents out.new)) }
 {
-    match summary {
-        Some(summary) => write_summary(summary, out),
-        None => Ok(()),
+    match told {
+        Told::Written(_) => Ok(()),
+        Told::Counted(summary) => write_summary(summary, out),
     }
 }
 

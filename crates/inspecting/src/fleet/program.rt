@@ -4,11 +4,13 @@ ghost use Rattle.std.specs.Prelude.{◌≡◌, IfOk, map};
 ghost use Rattle.inspecting.specs.PlanAnswers.{AnswersFleet, AnswersMerge, AnswersPlan, PlansSource, ReadsEach, telling_of};
 
 use crate::fleet::merging::{MergeFault, MergeRefusal, merge_over};
+use crate::fleet::plan_notes::PlanNotes;
 use crate::fleet::planning::plan_over;
 use crate::fleet::release::read_release;
 use crate::fleet::requests::Requests;
 use crate::fleet::telling::Telling;
 use command_line::{PlanOrder, RequestedFile};
+use device_texts::Form;
 use host::{
     Answer, Host, MOST_FILE, Refusal, Source, SourceFault, Stream, open_stream, refuse_after,
 };
@@ -16,8 +18,8 @@ use std::alloc::Global;
 use std::io::Write;
 
 /// Runs the order `plan`. Reads a fleet, or summaries, and the images that are requested from
-/// `host`, and writes the answer to `out`. The memory in use, of `alloc`, doesn't grow with the
-/// number of devices.
+/// `host`, and writes the answer to `out`: devices in a form, each explained by `notes`, or a
+/// summary as a text. The memory in use, of `alloc`, doesn't grow with the number of devices.
 ///
 /// # Errors
 /// What was written before an error is flushed, unless a write failed.
@@ -27,13 +29,15 @@ use std::io::Write;
 ///   with those before it would be 2^64 or more.
 /// - `FleetLine` if a fleet doesn't begin with a device.
 /// - `NoMemory` if memory runs out, and `CannotWrite` if a write fails.
-pub fn run_plan<H: Host, O: Write>(
+pub fn run_plan<H: Host, N: PlanNotes, O: Write>(
     alloc: Global,
+    form: Form,
     order: &PlanOrder<'_>,
     host: &mut H,
+    notes: &mut N,
     out: &mut O,
 ) -> Result<Answer, Refusal>
-    ensures { IfOk result (λ answer. AnswersPlan answer order.now
+    ensures { IfOk result (λ answer. AnswersPlan form answer order.now
         (H.input host.old) (H.file host.old) (O.contents out.old) (O.contents out.new)) }
 {
     match order {
@@ -43,47 +47,50 @@ pub fn run_plan<H: Host, O: Write>(
             is_summary,
         } => {
             let fleet = Source::named(fleet);
-            plan_release(alloc, fleet, requests, telling_of(*is_summary), host, out)
+            let telling = telling_of(form, *is_summary);
+            plan_release(alloc, fleet, requests, telling, host, notes, out)
         }
         PlanOrder::Merge { summaries } => merge_sources(alloc, summaries, host, out),
     }
 }
 
-/// Returns how results are written, with or without `--summary`.
-fn telling_of(is_summary: bool) -> Telling
-    ensures { result ≡ telling_of is_summary }
+/// Returns how results are written in a form, with or without `--summary`.
+fn telling_of(form: Form, is_summary: bool) -> Telling
+    ensures { result ≡ telling_of form is_summary }
 {
     if is_summary {
         Telling::Summary
     } else {
-        Telling::Devices
+        Telling::Devices(form)
     }
 }
 
 /// Decides for each device of a fleet with the requests of these files.
-fn plan_release<H: Host, O: Write>(
+fn plan_release<H: Host, N: PlanNotes, O: Write>(
     alloc: Global,
     fleet: Source<'_>,
     files: &[RequestedFile<'_>],
     telling: Telling,
     host: &mut H,
+    notes: &mut N,
     out: &mut O,
 ) -> Result<Answer, Refusal>
     ensures { IfOk result (λ answer. AnswersFleet answer fleet.entry files.now telling
         (H.input host.old) (H.file host.old) (O.contents out.old) (O.contents out.new)) }
 {
     let requests = read_release(alloc, files, host)?;
-    plan_source(alloc, &requests, telling, fleet, host, out)
+    plan_source(alloc, &requests, telling, fleet, host, notes, out)
 }
 
 /// Decides for each device of the fleet that a source holds, and writes the results to `out`. If it
 /// refuses, the devices before that are flushed.
-fn plan_source<H: Host, O: Write>(
+fn plan_source<H: Host, N: PlanNotes, O: Write>(
     alloc: Global,
     requests: &Requests,
     telling: Telling,
     fleet: Source<'_>,
     host: &mut H,
+    notes: &mut N,
     out: &mut O,
 ) -> Result<Answer, Refusal>
     ensures { IfOk result (λ answer. PlansSource answer fleet.entry requests.now.entries telling
@@ -91,7 +98,7 @@ fn plan_source<H: Host, O: Write>(
 {
     open_stream(alloc, fleet, host)?;
     let mut input = Stream { host };
-    match plan_over(alloc, requests, telling, fleet, &mut input, out) {
+    match plan_over(alloc, requests, telling, fleet, &mut input, notes, out) {
         Ok(answer) => Ok(answer),
         Err(refusal) => Err(refuse_after(refusal, out)),
     }

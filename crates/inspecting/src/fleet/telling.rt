@@ -1,10 +1,22 @@
 //! How the results of a plan are written.
 
+use crate::fleet::summary::Summary;
+use device_texts::Form;
+
 /// What is written of a fleet.
-#[derive(Clone, Copy, Debug, PartialEq, Eq)]
+#[derive(Clone, Copy)]
 pub enum Telling {
-    /// Each device with its result.
-    Devices,
-    /// A summary: what devices do, how many do it, and which is the first.
+    /// Each device with its result, in this form.
+    Devices(Form),
+    /// A summary: what devices do, how many do it, and which is the first. It is a text.
     Summary,
+}
+
+/// Where the results go while a fleet is read.
+#[derive(Drop)]
+pub enum Told {
+    /// Each is written in this form.
+    Written(Form),
+    /// They are counted.
+    Counted(Summary),
 }

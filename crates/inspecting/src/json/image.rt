@@ -3,7 +3,7 @@ ghost use Rattle.std.specs.Prelude.{◌≡◌, OnOk};
 ghost use Rattle.serde_json.specs.View.{members_view};
 ghost use Rattle.inspecting.specs.Json.{with_description};
 
-use crate::json::{Object, put_each, put_number, put_text};
+use device_texts::json::{Object, put_each, put_number, put_text};
 use image_reading::Desc;
 use std::alloc::{AllocError, Global};
 

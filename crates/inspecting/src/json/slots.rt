@@ -5,12 +5,13 @@ ghost use Rattle.serde_json.specs.View.{members_view, view};
 ghost use Rattle.inspecting.specs.Json.{moved_json, slot_json, slots_json, with_content, with_decision, with_slots};
 ghost use Rattle.inspecting.specs.Json.{progress_json, request_json};
 
-use crate::json::{
-    Json, Object, code_value, fault_value, put_description, put_each, put_number, put_report,
-    put_text, put_value, put_values,
-};
+use crate::json::put_description;
 use crate::slots_found::{ImageSlots, SlotContent, SlotsFound};
 use crate::slots_text::request_text;
+use device_texts::json::{
+    Json, Object, code_value, fault_value, put_each, put_number, put_refused, put_report, put_text,
+    put_value, put_values,
+};
 use machine::{Fault, Finding};
 use serde_json::{Map, Value, push};
 use std::alloc::{AllocError, Global};
@@ -132,5 +133,5 @@ fn put_decision(
         Some(Finding::Invalid) => Fault::InvalidSet,
     };
     let refused = fault_value(alloc, fault)?;
-    put_value(alloc, object, "refused", refused)
+    put_refused(alloc, object, refused)
 }

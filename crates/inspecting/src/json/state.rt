@@ -1,14 +1,12 @@
 //! Makes the JSON of the state of a device.
 ghost use Rattle.std.specs.Prelude.{◌≡◌, IfOk, OnOk};
 ghost use Rattle.serde_json.specs.View.{members_view, view};
-ghost use Rattle.inspecting.specs.Json.{floor_json, set_json, swap_json, with_left, with_state};
+ghost use Rattle.inspecting.specs.Json.{floor_json, swap_json, with_left, with_state};
 
 use crate::flash_state::{FlashState, ImageFloor, ImageSwap};
-use crate::json::{Json, Object, put_each, put_number, put_text, put_value};
 use crate::show::{kind_text, swap_type_text};
-use common::limits::MOST_IMAGES;
-use sector_map::is_member;
-use serde_json::{Map, Value, push};
+use device_texts::json::{Json, Object, put_each, put_number, put_text, put_value, set_numbers};
+use serde_json::{Map, Value};
 use std::alloc::{AllocError, Global};
 
 /// Adds the members of the state of a device.
@@ -24,22 +22,9 @@ pub(crate) fn put_state(
     put_each(alloc, object, "floors", found.floors.as_slice())?;
     put_number(alloc, object, "sequence", u64::from(found.state.sequence))?;
     put_left(alloc, object, found.state.left)?;
-    let set = set_value(alloc, found.state.mask)?;
-    put_value(alloc, object, "set", set)?;
+    let set = set_numbers(alloc, found.state.mask)?;
+    put_value(alloc, object, "set", Value::Array(set))?;
     put_text(alloc, object, "state", kind_text(found.state.kind))
-}
-
-/// Makes the array of the images of a set.
-fn set_value(alloc: Global, mask: u8) -> Result<Value, AllocError>
-    ensures { IfOk result (λ value. view value ≡ set_json mask) }
-{
-    let mut numbers = Vec::new(alloc);
-    for image in 0..MOST_IMAGES as u8 {
-        if is_member(mask, image) {
-            push(&mut numbers, Value::from(image))?;
-        }
-    }
-    Ok(Value::Array(numbers))
 }
 
 /// Adds the boots that a trial has left, if there are any.

@@ -1,6 +1,7 @@
 use Rattle.std.proofs.Common.{refl}
 use Rattle.device_commands.proofs.program.run_core_order.Goals as goal
 use Rattle.device_commands.proofs.KeptLaws.{AnswersCore-kept}
+use Rattle.device_texts.specs.declared.form.Form.TheVariants.{Text}
 use Rattle.device_commands.proofs.WordsLaws.{never_usage, only_cut}
 
 -- The status is 0 only after `Done`, and the answer was written before the flush.
@@ -8,7 +9,7 @@ pub returns-clause-done : goal.returns-clause-done
 returns-clause-done g c = λ zero.
     let done = c.finish.ensures.status zero in
     let answered = rw done at c.run_device_order-outcome.ensures.answers in
-    AnswersCore-kept c.args.order.now (g.H.Host.input c.args.host.now) (g.H.Host.file c.args.host.now)
+    AnswersCore-kept Text c.args.order.now (g.H.Host.input c.args.host.now) (g.H.Host.file c.args.host.now)
     (g.H.Host.file c.run_device_order-outcome.new.host)
     (g.O.Write.contents c.args.out.now) (g.O.Write.contents c.run_device_order-outcome.new.out) (g.O.Write.contents c.finish.new.out)
     answered c.finish.ensures.kept

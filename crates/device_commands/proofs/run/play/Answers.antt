@@ -14,7 +14,7 @@ arm_all-requires g c = ap (λ (chip : Chip). chip.writes) c.flash_of-memory.ensu
 pub returns-in_default : goal.returns-in_default
 returns-in_default g c = record {
   plays = tt;
-  tells = TellsFirst-none c.args.run.device.now c.args.run.bytes.items (armed_in c.args.run.cuts.items)
+  tells = TellsFirst-none c.args.run.options.form c.args.run.device.now c.args.run.bytes.items (armed_in c.args.run.cuts.items)
       c.args.run.text.now c.args.sources.now.buffered.now (g.H.Host.file c.args.sources.now.host.now) _;
 }
 
@@ -26,7 +26,7 @@ returns g c =
     c.arm_all.ensures.chip c.in-Ok.ensures.armed in
     let made = c.over-flash.ensures.made in
     let device = c.with_trial-device.ensures in
-    PlaysRun-made c.args.run.is_strict c.args.run.device.now c.args.run.bytes.items cuts c.args.run.text.now
+    PlaysRun-made c.args.run.options.form c.args.run.options.is_strict c.args.run.device.now c.args.run.bytes.items cuts c.args.run.text.now
     c.args.sources.now.buffered.now (g.H.Host.file c.args.sources.now.host.now) _ _ _ _
     (record {
       flash = device.flash ∙ ap (λ (over : OverFile). over.chip) made ∙ ap (λ (chip : Chip). record chip { erases = 0 }) armed;

@@ -21,7 +21,7 @@ loop-lines-init g c =
       counted = refl;
       are = AreTaken-none c.args.text.now c.of-lines.result.rest.now c.of-lines.result.order c.args.sources.now.buffered.now
           (g.H.Host.file c.args.sources.now.host.now) c.of-lines.ensures.all c.of-lines.ensures.order;
-      told = TellsAll-none _ _ _ c.requires.sound;
+      told = TellsAll-none c.args.options.form _ _ _ c.requires.sound;
     }
 
 -- The next line isn't a valid line.
@@ -29,9 +29,9 @@ pub returns-in_err-event-clause-some : goal.returns-in_err-event-clause-some
 returns-in_err-event-clause-some g c =
     let before = c.loop-lines.invariant in
     IfErr-passed _ _ _ c.from_residual.ensures.1
-    (BreaksText-some _ c.args.device.now.setup _ _ c.args.text.now c.loop-lines.lines.rest.now c.loop-lines.lines.order
+    (BreaksText-some c.args.options.form _ c.args.device.now.setup _ _ c.args.text.now c.loop-lines.lines.rest.now c.loop-lines.lines.order
     before.taken c.args.sources.now.buffered.now (g.H.Host.file c.args.sources.now.host.now) before.came _ _ before.are
-    (TellsSome-all _ c.args.device.now.setup _ _ before.came c.loop-lines.last c.loop-lines.has_refused c.loop-lines.has_failed _ _ before.told)
+    (TellsSome-all c.args.options.form _ c.args.device.now.setup _ _ before.came c.loop-lines.last c.loop-lines.has_refused c.loop-lines.has_failed _ _ before.told)
     (not_of_file _ c.in_err-event.ensures.refused))
 
 -- The file of the next line can't be read any more.
@@ -39,9 +39,9 @@ pub returns-in_err-event-2-clause-some : goal.returns-in_err-event-2-clause-some
 returns-in_err-event-2-clause-some g c =
     let before = c.loop-lines.invariant in
     IfErr-passed _ _ _ c.from_residual-in_err-event-2.ensures.1
-    (BreaksText-some _ c.args.device.now.setup _ _ c.args.text.now c.loop-lines.lines.rest.now c.loop-lines.lines.order
+    (BreaksText-some c.args.options.form _ c.args.device.now.setup _ _ c.args.text.now c.loop-lines.lines.rest.now c.loop-lines.lines.order
     before.taken c.args.sources.now.buffered.now (g.H.Host.file c.args.sources.now.host.now) before.came _ _ before.are
-    (TellsSome-all _ c.args.device.now.setup _ _ before.came c.loop-lines.last c.loop-lines.has_refused c.loop-lines.has_failed _ _ before.told)
+    (TellsSome-all c.args.options.form _ c.args.device.now.setup _ _ before.came c.loop-lines.last c.loop-lines.has_refused c.loop-lines.has_failed _ _ before.told)
     (not_of_file _ c.in_err-event-2.ensures.refused))
 
 -- The reply to the next event was written in part or not at all.
@@ -51,13 +51,13 @@ returns-in_err-told-clause-some g c =
     let next = rw c.in-Event.is at c.in_ok-event.ensures.next in
     let one = came_of c.in_ok-event-2.event in
     IfErr-passed _ _ _ c.from_residual-in_err-told.ensures.1
-    (BreaksText-some _ c.args.device.now.setup _ _ c.args.text.now c.next_line.new.self.rest.now
+    (BreaksText-some c.args.options.form _ c.args.device.now.setup _ _ c.args.text.now c.next_line.new.self.rest.now
     c.next_line.new.self.order (before.taken + 1) c.args.sources.now.buffered.now
     (g.H.Host.file c.args.sources.now.host.now) (before.came ++ one ∷ []) _ _
     (AreTaken-event c.args.text.now c.loop-lines.lines c.next_line.new.self c.in-Event.event before.taken
     c.args.sources.now.buffered.now (g.H.Host.file c.args.sources.now.host.now) before.came one next
     c.in_ok-event-2.ensures.loaded before.are)
-    (TellsSome-more _ c.args.device.now.setup c.loop-lines.device.setup _ _ _ before.came one (c.loop-lines.number + 1)
+    (TellsSome-more c.args.options.form _ c.args.device.now.setup c.loop-lines.device.setup _ _ _ before.came one (c.loop-lines.number + 1)
     c.loop-lines.last c.loop-lines.has_refused c.loop-lines.has_failed _ _ _ before.told (omega (arith, before.counted)) before.setup
     c.in_err-told.ensures.begun)
     c.in_err-told.ensures.begun.broken.output)
@@ -78,7 +78,7 @@ loop-lines-preserved-in-Event g c =
       are = AreTaken-event c.args.text.now c.loop-lines.lines c.next_line.new.self c.in-Event.event before.taken
           c.args.sources.now.buffered.now (g.H.Host.file c.args.sources.now.host.now) before.came one next
           c.in_ok-event-2.ensures.loaded before.are;
-      told = TellsAll-more c.args.device.now.setup c.loop-lines.device.setup _ _ _ before.came one
+      told = TellsAll-more c.args.options.form c.args.device.now.setup c.loop-lines.device.setup _ _ _ before.came one
           (c.loop-lines.number + 1) c.loop-lines.last _ c.loop-lines.has_refused _ c.loop-lines.has_failed _ _ _ _ before.told
           (omega (arith, before.counted)) before.setup c.in_ok-told.ensures.told
           refl
@@ -111,7 +111,7 @@ loop-lines-preserved g c =
 pub returns-then-has_failed-clause-some : goal.returns-then-has_failed-clause-some
 returns-then-has_failed-clause-some g c =
     let before = c.loop-lines.invariant in
-    BreaksText-all c.args.device.now.setup _ _ c.args.text.now c.args.sources.now.buffered.now
+    BreaksText-all c.args.options.form c.args.device.now.setup _ _ c.args.text.now c.args.sources.now.buffered.now
     (g.H.Host.file c.args.sources.now.host.now) before.came c.loop-lines.last c.loop-lines.has_refused c.loop-lines.has_failed _ _
     (LoadsAll-taken c.args.text.now c.loop-lines.lines.rest.now c.loop-lines.lines.order before.taken
     c.args.sources.now.buffered.now (g.H.Host.file c.args.sources.now.host.now) before.came
@@ -133,7 +133,7 @@ returns-clause-all g c =
       comes = LoadsAll-taken c.args.text.now c.loop-lines.lines.rest.now c.loop-lines.lines.order before.taken
           c.args.sources.now.buffered.now (g.H.Host.file c.args.sources.now.host.now) before.came
           (eqb-true _ _ (sym c.loop-lines-test.ensures)) before.are;
-      tells = subst (λ failed. TellsAll c.loop-lines.last c.loop-lines.has_refused failed setup old new before.came
+      tells = subst (λ failed. TellsAll c.args.options.form c.loop-lines.last c.loop-lines.has_refused failed setup old new before.came
           (g.O.Write.contents c.args.out.now) written) c.if-has_failed.false before.told;
       ends = c.ending.ensures;
     }

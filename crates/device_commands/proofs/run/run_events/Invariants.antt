@@ -16,7 +16,7 @@ invariant-loop-lines g l = record {
   counted : l.number ≡ length came;
   are : AreTaken l.text l.lines.rest.now l.lines.order taken l.sources.buffered.now
       (g.H.Host.file l.sources.host.now) came;
-  told : TellsAll l.last l.has_refused l.has_failed l.fn.device.setup l.fn.device.here l.device.here came
+  told : TellsAll l.options.form l.last l.has_refused l.has_failed l.fn.device.setup l.fn.device.here l.device.here came
       (g.O.Write.contents l.fn.out) (g.O.Write.contents l.out);
 }
 

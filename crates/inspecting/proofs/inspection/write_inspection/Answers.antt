@@ -1,6 +1,6 @@
 use Rattle.std.proofs.Common.{map, string_bytes}
 use Rattle.inspecting.specs.Inspection.{answer_of, text_of, written}
-use Rattle.inspecting.specs.declared.inspection.Form.TheVariants as form
+use Rattle.device_texts.specs.declared.form.Form.TheVariants as form
 use Rattle.inspecting.proofs.InspectionLaws.{written-made}
 use Rattle.inspecting.proofs.inspection.write_inspection.Goals as goal
 

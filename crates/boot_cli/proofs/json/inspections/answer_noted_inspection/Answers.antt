@@ -1,6 +1,6 @@
 use Rattle.std.proofs.lemmas.Result.{IfOk-weaker}
 use Rattle.inspecting.specs.ReadingEnd.{AnswersReading}
-use Rattle.inspecting.specs.declared.inspection.Form.TheVariants as form
+use Rattle.device_texts.specs.declared.form.Form.TheVariants as form
 use Rattle.boot_cli.proofs.json.inspections.answer_noted_inspection.Goals as goal
 
 -- What was found was written, with these notes.

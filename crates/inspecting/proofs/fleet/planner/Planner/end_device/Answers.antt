@@ -11,8 +11,9 @@ use Rattle.inspecting.proofs.fleet.planner.Planner.end_device.Goals.{then-self, 
 pub returns-clause-lines : goal.returns-clause-lines
 returns-clause-lines g c telling lines plan was =
     let are = subst (AreLinesOf lines plan) (sym c.in-Some.ensures.value) was.lines_are in
-    let planned : Planned = record { device = are.0; outcome = c.outcome_of-outcome.result } in
-    let told = c.in_ok-tell.ensures planned are.2 refl telling plan was.told in
+    let (notes, tells) = c.in_ok-tell.ensures in
+    let planned : Planned = record { device = are.0; outcome = c.outcome_of-outcome.result; notes = notes } in
+    let told = tells planned are.2 refl refl telling plan was.told in
     record {
       more = planned ∷ [];
       has = record {
