@@ -11,7 +11,7 @@ from support.builders import ABC, CLASS, VENDOR, component, device, image, manif
 from support.files import EXAMPLES, ONE, PAIR, ROOT, names_in, read, report, table
 from support.fleet import device_at_random, device_notes, planned, row_note, summary_of
 from support.flashes import flash_of
-from support.program import LIMIT, ProgramTest, short
+from support.program import LIMIT, ProgramTest, error_line, short
 from test_random_tables import Entry, Image
 
 # The devices of the scripts of the examples, except those of the pair.
@@ -306,9 +306,9 @@ class JsonTest(ProgramTest):
             if before:
                 before()
             ends.append(self.run_program([*arguments, *option], given=given))
-        (status, text, err), got = ends
+        (status, text, err), (*got, told) = ends
         wanted = status, json_lines(objects_of(arguments[0], text)), err
-        faults = [f"{short(one)}, and not {short(other)}" for one, other in zip(got, wanted) if one != other]
+        faults = [f"{short(one)}, and not {short(other)}" for one, other in zip((*got, error_line(told)), wanted) if one != other]
         self.case(f"json: {name}", faults)
         return text
 
@@ -421,7 +421,7 @@ class JsonTest(ProgramTest):
         self.case("json: meanings", [it for it in said if " ".join(it.split()) not in flat or not it])
 
     def test_notes(self):
-        """The notes are members of the object of an answer. Without an answer they stay on standard error."""
+        """The notes are members of the object of an answer."""
         for name, arguments, given in [
             ("choose", ["choose", "-"], REASONS),
             ("check", ["check", table("pair"), report("three")], b""),
@@ -434,10 +434,6 @@ class JsonTest(ProgramTest):
             wanted = status, json_lines([{**found, "notes": notes}]), b""
             got = self.run_program([*arguments, "--explain", "--json"], given=given)
             self.case(f"json: notes of {name}", [] if got == wanted and notes else [short(got), short(wanted)])
-        arguments = ["choose", "-", "--explain"]
-        usual = self.run_program(arguments, given=b"image 1 1 0 0\n")
-        got = self.run_program([*arguments, "--json"], given=b"image 1 1 0 0\n")
-        self.case("json: notes without an answer", [] if got == usual and b"note: " in usual[2] else [got, usual])
 
     def test_notes_on_replies(self):
         """The notes on a reply follow its object."""
@@ -545,7 +541,8 @@ class PlanTest(ProgramTest):
 
     def same(self, name, arguments, *wanted):
         """A case: a command has this status and these answers."""
-        got = self.run_program(arguments)
+        *got, err = self.run_program(arguments)
+        got.append(error_line(err))
         faults = [f"{short(one)}, and not {short(other)}" for one, other in zip(got, wanted) if one != other]
         self.case(f"json: plan: {name}", faults)
 
@@ -573,7 +570,7 @@ class PlanTest(ProgramTest):
                 self.same(f"notes on {name}", [*arguments, "--explain"], status, json_lines([{**found, **notes}]), b"")
 
     def test_refused_fleets(self):
-        """Without an answer nothing is printed but the error line."""
+        """Without an answer nothing is printed but the error."""
         for arguments in (["plan", table("pair")], ["plan", table("pair"), "--summary"], ["plan", "--merge", table("pair")]):
             usual = self.run_program(arguments)
             self.case(f"json: {arguments} is refused", [] if usual[:2] == (1, b"") and usual[2] else [usual])

@@ -8,7 +8,7 @@ from support.commands import MAKING, replaced_by
 from support.compiled import needs_compiler, preloaded
 from support.files import EXAMPLES, ONE, PAIR, read, report, table
 from support.flashes import flash_of
-from support.program import ProgramTest, short, shown
+from support.program import ProgramTest, error_line, short, shown
 from support.worked import (
     BACK, NEEDS, NOT_UP, NO_TRIAL, PLAIN, SCRIPT, SUM_OF_WRITES, TRIED, USUAL, cut_at, event_of,
     numbered,
@@ -58,10 +58,10 @@ def is_end_after(fault, got, usual):
     """Whether a run may end so after a fault, if it usually ends in this other way."""
     status, out, err = got
     if fault == "memory":
-        return got == (1, b"", b"error: memory\n")
+        return (status, out, error_line(err)) == (1, b"", b"error: memory\n")
     if fault not in FAILING:
         return False
-    is_told = err.startswith(b"error: cannot read ") and not out
+    is_told = error_line(err).startswith(b"error: cannot read ") and not out
     return status == 1 and usual[1].startswith(out) and (is_told or usual[2].startswith(err))
 
 
@@ -82,7 +82,7 @@ def runs_with_faults():
     yield from [["--help"], ["--version"], ["help", "man", "run"], ["help", "man", "frob"]]
     yield from [["help", "completions", it] for it in ("bash", "zsh", "fish")]
     yield from [["choose", table("groups"), "--json"], ["image", f"{EXAMPLES}/images/either.img", "--json"]]
-    yield ["slots", PAIR, "flash", "--json"]
+    yield from [["slots", PAIR, "flash", "--json"], ["choose", "absent", "--json"], ["show", PAIR, "gone", "--json"]]
 
 
 def is_explained_after(fault, got, usual):
@@ -427,7 +427,8 @@ class RunFaultTest(ProgramTest):
         def run(env=os.environ):
             self.file("flash", before)
             status, out, err = self.run_program(["run", "--json", PAIR, "flash", SCRIPT], env=env)
-            return (status, b"".join(map(text_of_reply, out.splitlines(keepends=True))), err), read(f"{self.folder}/flash")
+            text = b"".join(map(text_of_reply, out.splitlines(keepends=True)))
+            return (status, text, error_line(err)), read(f"{self.folder}/flash")
 
         usual = run()
         self.case("run --json of a device", [] if usual == ((0, numbered(USUAL), b""), flashes[-1]) else [short(usual[0])])
@@ -440,7 +441,7 @@ class RunFaultTest(ProgramTest):
             self.case(f"{fault}: run --json of a device, {at} calls", faults[:5])
 
     def test_notes_before_an_error(self):
-        """With `--json --explain`, the notes on the last reply of a run come before an error line."""
+        """With `--json --explain`, the notes on the last reply of a run come before an error."""
         before = flash_of(self)
         self.file("script", f"boot\nconfirm 0\naccept {TRIAL}\n".encode())
 
@@ -453,11 +454,11 @@ class RunFaultTest(ProgramTest):
         refused, noted = [line for line in out.splitlines(keepends=True) if line.startswith(b'{"event":2,')]
         is_right = status == 0 and b'"refused"' in refused and b'"notes"' in noted and refused + noted in out
         self.case("run --json --explain: notes on a reply", [] if is_right else [short(out)])
-        ends = [got for _, got in each_fault(self, "fail", run) if b"error: cannot read " in got[1]]
-        ends = [(status, *text.split(b"error: ", 1)) for status, text in ends if refused in text]
+        ends = [got for _, got in each_fault(self, "fail", run) if b'"kind":"cannot_read"' in got[1]]
+        ends = [(status, *text.split(b'{"error":', 1)) for status, text in ends if refused in text]
         wanted = out[: out.index(noted) + len(noted)]
         faults = [short(it) for it in ends if it[:2] != (1, wanted)]
-        self.case("run --json --explain: notes before an error line", faults if ends else ["no file failed after the reply"])
+        self.case("run --json --explain: notes before an error", faults if ends else ["no file failed after the reply"])
 
     def test_other_ends(self):
         """The same for runs that end in other ways: the device boots from the flash file."""

@@ -1,6 +1,7 @@
 """Runs the built program, and counts each case of a test."""
 
 import ctypes
+import json
 import os
 import resource
 import shutil
@@ -29,6 +30,13 @@ class CaseTest(unittest.TestCase):
         with self.subTest(name):
             if faults:
                 self.fail("\n".join(map(str, faults)))
+
+
+def error_line(err):
+    """The error line that says what an object of an error says. Any other text stays as it is."""
+    if not (err.startswith(b'{"error":{') and err.endswith(b"}\n")):
+        return err
+    return f"error: {json.loads(err)['error']['text']}\n".encode()
 
 
 def is_written_by_one(path):

@@ -7,8 +7,8 @@ ghost use Rattle.boot_cli.specs.WordsEnd.{EndsByCut};
 use crate::commands::run_command;
 use crate::explained_plan::run_noted_plan;
 use crate::json::{
-    answer_devices, answer_noted_inspection, answer_noted_replies, answer_noted_sweep, is_codes,
-    lists_devices, outcome_in_memory, write_object,
+    answer_devices, answer_noted_inspection, answer_noted_replies, answer_noted_sweep, end,
+    is_codes, lists_devices, outcome_in_memory, write_object,
 };
 use crate::merging::merge_outputs;
 use crate::sweeping::{Named, sweep_device};
@@ -18,7 +18,7 @@ use core::mem::replace_with;
 use device_commands::run_device_order;
 use device_texts::Form;
 use explaining::{DeviceNotes, Remembering, WrittenNotes, explain_end, explain_rows};
-use host::{Answer, Host, Refusal, finish};
+use host::{Answer, Host, Refusal};
 use std::alloc::Global;
 use std::io::Write;
 
@@ -44,7 +44,8 @@ pub struct Explained<'o, O> {
 ///
 /// The notes on the answer go to `err`. As JSON, they are members of the object of the answer, or of
 /// that of a device of `plan`. The notes on a reply of `run` are an object of their own after that
-/// of the reply. Without an answer the notes follow the error line on `err`.
+/// of the reply. Without an answer the notes are of the error: they follow its line on `err`, or are
+/// members of its object there.
 ///
 /// A host that remembers what is read owns the host below it. So `host` is moved into one, and
 /// moved back after the command has ended. No other code can see the moved host, since nothing
@@ -103,13 +104,9 @@ fn run_remembering<'o, H: Host, O: Write, E: Write>(
     let mut err = UntilFailed::over(err);
     let mut notes = Vec::new(alloc);
     let outcome = answer_noted(alloc, &request, &mut host, out, &mut err, &mut notes);
-    let status = finish(&outcome, out, &mut err);
+    let status = end(alloc, request.is_json, &outcome, &notes, out, &mut err);
     if !request.is_json {
         explain_end(alloc, &request.order, &outcome, &host, &mut err);
-    } else if outcome.is_err() {
-        // The notes are no part of the answer, so a failed write changes nothing.
-        let _ = err.write_all(&notes);
-        let _ = err.flush();
     }
     (host.host, Explained { out, status })
 }

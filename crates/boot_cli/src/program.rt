@@ -8,8 +8,8 @@ use crate::commands::run_command;
 use crate::explained::run_explained;
 use crate::hint::hint_at_notes;
 use crate::json::{
-    answer_devices, answer_inspection, answer_replies, is_codes, lists_devices, outcome_in_memory,
-    write_object,
+    answer_devices, answer_inspection, answer_replies, end, is_codes, lists_devices,
+    outcome_in_memory, write_object,
 };
 use crate::merging::run_merge;
 use crate::sweeping::{Named, run_sweep};
@@ -18,7 +18,7 @@ use crate::words::request_in;
 use command_line::{Order, Request};
 use device_commands::answer_words;
 use device_texts::Form;
-use host::{Answer, Host, Refusal, finish};
+use host::{Answer, Host, Refusal};
 use inspecting::NoPlanNotes;
 use std::alloc::Global;
 use std::convert::AsStr;
@@ -56,8 +56,8 @@ pub fn cli<S: AsStr, H: Host, O: Write, E: Write>(
 /// answer is written and is a yes. If `may_hint` is set, a line that points to `--explain` may
 /// follow an error line at a terminal.
 ///
-/// The answer is written to `out`, as JSON if the request says so. An error line is written to `err`
-/// as it is. As JSON, nothing is written to `out` if the command has no answer. If memory runs out
+/// The answer is written to `out` and an error to `err`, as JSON if the request says so. As JSON,
+/// nothing is written to `out` if the command has no answer. If memory runs out
 /// for the object, the command ends with `NoMemory`, after it did its work.
 pub fn run_order<H: Host, O: Write, E: Write>(
     alloc: Global,
@@ -80,9 +80,9 @@ pub fn run_order<H: Host, O: Write, E: Write>(
 {
     let mut err = UntilFailed::over(err);
     let outcome = answer_request(alloc, &request, host, out, &mut err);
-    let status = finish(&outcome, out, &mut err);
-    if may_hint {
-        hint_at_notes(alloc, &outcome, &*host, &mut err);
+    let status = end(alloc, request.is_json, &outcome, &[], out, &mut err);
+    if may_hint && !request.is_json {
+        hint_at_notes(&outcome, &*host, &mut err);
     }
     status
 }

@@ -412,7 +412,8 @@ fn refuse_other<H: Host>(alloc: Global, host: &H, picture: &str) -> Result<(), R
     match host.is_plain(picture) {
         Ok(true) => {}
         Err(error) if error.kind() == ErrorKind::NotFound => return Ok(()),
-        Ok(false) | Err(_) => return Err(file.refused(alloc, SourceFault::CannotReplace)),
+        Ok(false) => return Err(file.refused(alloc, SourceFault::CannotReplace(None))),
+        Err(error) => return Err(file.refused(alloc, SourceFault::CannotReplace(Some(error)))),
     }
     match host.read_again(alloc, picture, MOST_START) {
         Ok(start) if start.is_empty() || begins_as_picture(&start) => Ok(()),
@@ -441,9 +442,6 @@ fn begins_as_picture(start: &[u8]) -> bool {
 fn picture_refusal(alloc: Global, name: &str, fault: FlashFault) -> Refusal {
     match fault {
         FlashFault::NoMemory => Refusal::NoMemory,
-        FlashFault::InUse
-        | FlashFault::WrongLength
-        | FlashFault::OnlyReadable(_)
-        | FlashFault::Failed(_) => { Source::File(name).refused(alloc, SourceFault::CannotReplace) }
+        _ => Source::File(name).refused(alloc, SourceFault::CannotReplace(fault.error())),
     }
 }

@@ -38,7 +38,7 @@ pub const SCRIPT_FILE: &str = "The file of the script; `-` is standard input";
 
 pub const DURABLE: &str = "Sync each write of a plain file before the next one";
 
-pub const JSON: &str = "Print the answer as JSON";
+pub const JSON: &str = "Print the answer, or the error, as JSON";
 
 pub const EXPLAIN: &str = "Print the reasons on standard error";
 

@@ -42,7 +42,7 @@ name is standard input. With `--explain` a command prints on standard error why
 its answer is as it is: what is wrong in a refused file, what may stand there,
 and why a request is refused. With `--json` the commands `choose`, `check`,
 `plan`, `image`, `manifest`, `show`, `slots`, `run`, `sweep` and `codes` print
-their answer as JSON.",
+their answer as JSON, and an error too.",
     after: "Exit status: 0 done, 1 refused, 2 usage error, 3 power cut, 4 flash file failed.
 See `bootswap --help` for more, `bootswap help run` for the lines of a script,
 and `bootswap codes` for the codes and names of refusals.",

@@ -94,7 +94,10 @@ pub fn run_extract<H: Host, O: Write>(
     };
     let map = &of_device.map;
     if copying.image >= map.images {
-        return Err(Refusal::NoImage(copying.image));
+        return Err(Refusal::NoImage {
+            image: copying.image,
+            images: map.images,
+        });
     }
     let bytes = read_flash(alloc, flash, map, Access::Read, host)?;
     let held = host.hold_output(alloc, copying.out.name, Replaced::PlainFile);

@@ -59,7 +59,8 @@ fn refuse_other<H: Host>(alloc: Global, host: &H, name: &str) -> Result<(), Refu
     match host.is_plain(name) {
         Ok(true) => {}
         Err(error) if error.kind() == ErrorKind::NotFound => return Ok(()),
-        Ok(false) | Err(_) => return Err(file.refused(alloc, SourceFault::CannotReplace)),
+        Ok(false) => return Err(file.refused(alloc, SourceFault::CannotReplace(None))),
+        Err(error) => return Err(file.refused(alloc, SourceFault::CannotReplace(Some(error)))),
     }
     match holds_image(alloc, host, name) {
         Ok(true) => Ok(()),
@@ -97,7 +98,7 @@ fn refusal(alloc: Global, name: &str, fault: FlashFault) -> Refusal {
         FlashFault::InUse => Refusal::ImageInUse,
         FlashFault::NoMemory => Refusal::NoMemory,
         FlashFault::WrongLength | FlashFault::OnlyReadable(_) | FlashFault::Failed(_) => {
-            Source::File(name).refused(alloc, SourceFault::CannotReplace)
+            Source::File(name).refused(alloc, SourceFault::CannotReplace(fault.error()))
         }
     }
 }

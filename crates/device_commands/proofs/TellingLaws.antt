@@ -24,7 +24,7 @@ use Rattle.boot_core.proofs.CutEvents.{cut_by_due, steps_more}
 use Rattle.host.specs.declared.answer.Answer.{Answer}
 use Rattle.host.specs.declared.answer.Answer.TheVariants.{Done}
 use Rattle.host.specs.declared.error.Refusal.{Refusal}
-use Rattle.host.specs.declared.error.Refusal.TheVariants.{FlashFile, NoMemory}
+use Rattle.host.specs.declared.error.Refusal.TheVariants.{NoMemory}
 use Rattle.host.specs.Status.{status_of_refusal}
 use Rattle.device_texts.specs.declared.device.DeviceFile.{DeviceFile}
 use Rattle.device_texts.specs.FlashOf.{armed_chip}
@@ -183,9 +183,8 @@ BreaksOff-notes refusal line notes before between after written broken = record 
 }
 
 -- A refusal with another status isn't that of the flash file.
-pub not_of_file : (refusal : Refusal) → status_of_refusal refusal ≡ 1 → refusal ≡ FlashFile → ⊥
-not_of_file refusal one file =
-    let same : 1 ≡ 4 = sym one ∙ ap status_of_refusal file in omega (arith, same)
+pub not_of_file : (refusal : Refusal) → status_of_refusal refusal ≡ 1 → status_of_refusal refusal ≡ 4 → ⊥
+not_of_file refusal one four = omega (arith, one, four)
 
 -- All replies so far were written. Then the next line could not be read, or the flash file failed.
 pub TellsSome-all : (form : Form) (refusal : Refusal) (setup : Setup) (old new : DeviceView) (came : List (Event (List ℕ)))
@@ -208,7 +207,7 @@ TellsSome-all form refusal setup old new came answer refused failed before after
 pub BreaksText-some : (form : Form) (refusal : Refusal) (setup : Setup) (old new : DeviceView) (text rest : List ℕ)
     (line_order : LineOrder) (taken : ℕ) (buffered : List BufferedInput) (files : FileBytes) (came : List (Event (List ℕ)))
     (before after : Option (List ℕ)) → AreTaken text rest line_order taken buffered files came
-    → TellsSome form refusal setup old new came before after → (refusal ≡ FlashFile → ⊥)
+    → TellsSome form refusal setup old new came before after → (status_of_refusal refusal ≡ 4 → ⊥)
     → BreaksText form refusal setup old new text buffered files before after
 BreaksText-some form refusal setup old new text rest line_order taken buffered files came before after are tells other = record {
   lines = taken;
@@ -219,15 +218,15 @@ BreaksText-some form refusal setup old new text rest line_order taken buffered f
 }
 
 -- A run reached the end of its script, and the flash file failed.
-pub BreaksText-all : (form : Form) (setup : Setup) (old new : DeviceView) (text : List ℕ) (buffered : List BufferedInput) (files : FileBytes)
+pub BreaksText-all : (form : Form) (refusal : Refusal) (setup : Setup) (old new : DeviceView) (text : List ℕ) (buffered : List BufferedInput) (files : FileBytes)
     (came : List (Event (List ℕ))) (answer : Answer) (refused failed : Bool) (before after : Option (List ℕ))
     → LoadsAll text buffered files came → TellsAll form answer refused failed setup old new came before after
-    → BreaksText form FlashFile setup old new text buffered files before after
-BreaksText-all form setup old new text buffered files came answer refused failed before after comes told = record {
+    → BreaksText form refusal setup old new text buffered files before after
+BreaksText-all form refusal setup old new text buffered files came answer refused failed before after comes told = record {
   lines = length (lines_of text);
   came = came;
   comes = comes;
-  tells = TellsSome-all form FlashFile setup old new came answer refused failed before after told;
+  tells = TellsSome-all form refusal setup old new came answer refused failed before after told;
   whole = λ file. refl;
 }
 

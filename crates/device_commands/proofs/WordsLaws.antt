@@ -24,7 +24,7 @@ use Rattle.device_commands.specs.WordsEnd.{AskNothing, EndsByCut, EndsCore, Ends
 
 -- The status of a refusal is 4 if the file of the flash failed, else 1.
 refusal_status : (refusal : Refusal) → (status_of_refusal refusal ≡ 1) ⊎ (status_of_refusal refusal ≡ 4)
-refusal_status no.FlashFile = inr refl
+refusal_status (no.FlashFile error) = inr refl
 refusal_status _ = inl refl
 
 -- The status of a refusal is neither that of a usage fault nor that of a power cut.

@@ -13,7 +13,7 @@ use Rattle.machine.specs.declared.reply.Reply.{Reply}
 use Rattle.boot_core.specs.CutEvents.{CutsEach, IsCutAsDue, StepsEach}
 use Rattle.host.specs.declared.answer.Answer.{Answer}
 use Rattle.host.specs.declared.error.Refusal.{Refusal}
-use Rattle.host.specs.declared.error.Refusal.TheVariants.{FlashFile}
+use Rattle.host.specs.Status.{status_of_refusal}
 use Rattle.host.specs.Input.{FileBytes}
 use Rattle.device_texts.specs.declared.device.DeviceFile.{DeviceFile}
 use Rattle.device_texts.specs.DeviceFile.{setup_of}
@@ -25,12 +25,12 @@ use Rattle.device_commands.specs.declared.run.Told.{Told}
 use Rattle.device_commands.specs.RunEnd.{IsMadeOf, Plays, answer_after, came_by, ending, is_refusal, last_answer}
 
 -- A writer took a prefix of a text and no more, or there was no memory for the text. The refusal
--- isn't that of the flash file.
+-- isn't that of the flash file, whose status is 4.
 pub record BreaksOff (refusal : Refusal) (text : List ℕ) (before after : Option (List ℕ))
     : Type 0 where
   pub count : ℕ
   pub begun : Appends before after (take count text)
-  pub output : refusal ≡ FlashFile → ⊥
+  pub output : status_of_refusal refusal ≡ 4 → ⊥
 
 -- A device replied to an event.
 pub record RepliesTo (setup : Setup) (old new : DeviceView) (came : Event (List ℕ)) : Type 0 where
@@ -100,7 +100,7 @@ pub record TellsSome (form : Form) (refusal : Refusal) (setup : Setup) (old new 
       (reply_lines form 1 told notes
       ++ take count (reply_lines form (1 + length told) untold late))
   -- If the flash file failed, each reply was written.
-  pub output : refusal ≡ FlashFile → untold ≡ []
+  pub output : status_of_refusal refusal ≡ 4 → untold ≡ []
 
 -- A device replied to all events of a text, and a writer took the replies. No write of the flash
 -- file failed.
@@ -124,7 +124,7 @@ pub record BreaksText (form : Form) (refusal : Refusal) (setup : Setup) (old new
   pub came : List (Event (List ℕ))
   pub comes : LoadsFirst lines text buffered files came
   pub tells : TellsSome form refusal setup old new came before after
-  pub whole : refusal ≡ FlashFile → lines ≡ length (lines_of text)
+  pub whole : status_of_refusal refusal ≡ 4 → lines ≡ length (lines_of text)
 
 -- The answer of a run of all events of a text, whose replies a writer took. The device is of this
 -- file. Its flash has these bytes and is armed with these cuts.

@@ -13,7 +13,7 @@ ghost use Rattle.host.specs.Status.{EndsUnmade};
 ghost use Rattle.device_commands.specs.ProvisionEnd.{AnswersMade, AnswersProvision, AreOthers, EndsMade, HoldsFlash, KeepsWords, MayReplace, ReadsImages, done_text, new_flash};
 
 use device_texts::{flash_of, refused_fault_text, write_all};
-use host::{Answer, FlashFault, Host, MOST_FILE, Refusal, Replaced, Source};
+use host::{Answer, FlashFault, Host, MOST_FILE, Refusal, Replaced, Source, WrongLength};
 use inputs::read_device;
 use machine::Fault;
 use sector_map::{SectorMap, Side};
@@ -113,7 +113,7 @@ pub fn read_images<H: Host>(
     ensures opened { H.opened host.new ≡ H.opened host.old }
 {
     if images.len() != usize::from(map.images) {
-        return Err(Refusal::ImageCount);
+        return Err(Refusal::ImageCount(map.images));
     }
     let Ok(mut bytes) = erased(alloc, map) else {
         return Err(Refusal::NoMemory);
@@ -123,7 +123,7 @@ pub fn read_images<H: Host>(
         let most = map.slot_length(image);
         let file = source.read_start(alloc, host, most)?;
         if file.len() > most as usize {
-            return Err(Refusal::ImageTooBig(image));
+            return Err(Refusal::ImageTooBig { image, most });
         }
         put(&mut bytes, map.slot_start(image, Side::Primary), &file);
     }
@@ -178,7 +178,7 @@ fn refuse_input<H: Host>(host: &H, flash: &str, source: Source<'_>) -> Result<()
     match source.is_file(host, flash) {
         Ok(false) => Ok(()),
         Ok(true) => Err(Refusal::FlashIsInput),
-        Err(_) => Err(Refusal::FlashFile),
+        Err(error) => Err(Refusal::FlashFile(error)),
     }
 }
 
@@ -228,40 +228,48 @@ fn replace<H: Host>(
 {
     let HeldFlash { flash, held } = file;
     if let Err(fault) = held {
-        return Err(refusal(fault));
+        return Err(refusal(&*host, flash.name, bytes.len(), fault));
     }
     if !flash.is_forced {
         refuse_other(alloc, &*host, flash.name, bytes.len())?;
     }
     match host.replace_file(alloc, flash.name, bytes, Replaced::FlashFile) {
         Ok(()) => Ok(()),
-        Err(fault) => Err(refusal(fault)),
+        Err(fault) => Err(refusal(&*host, flash.name, bytes.len(), fault)),
     }
 }
 
-/// The refusal if a flash file can't be made or replaced.
-fn refusal(fault: FlashFault) -> Refusal {
+/// The refusal if a flash file of `length` bytes can't be made or replaced.
+fn refusal<H: Host>(host: &H, name: &str, length: usize, fault: FlashFault) -> Refusal {
     match fault {
         FlashFault::InUse => Refusal::FlashInUse,
-        FlashFault::WrongLength => Refusal::FlashSize,
+        FlashFault::WrongLength => wrong_length(host.length_of(name).ok(), length),
         FlashFault::NoMemory => Refusal::NoMemory,
-        FlashFault::OnlyReadable(_) | FlashFault::Failed(_) => Refusal::FlashFile,
+        FlashFault::OnlyReadable(error) | FlashFault::Failed(error) => Refusal::FlashFile(error),
     }
+}
+
+/// The refusal of a file with `found` bytes, where the flash has `length`, which is below 2^32.
+fn wrong_length(found: Option<u64>, length: usize) -> Refusal {
+    Refusal::FlashSize(WrongLength {
+        found,
+        wanted: u32::try_from(length).unwrap_or(u32::MAX),
+    })
 }
 
 /// Refuses a file that exists, unless it is empty, erased or `length` bytes long.
 fn refuse_other<H: Host>(alloc: Global, host: &H, name: &str, length: usize) -> Result<(), Refusal>
     ensures { OnOk result (HoldsFlash length (H.file host.now name.now)) }
 {
-    match host.length_of(name) {
+    let found = match host.length_of(name) {
         Ok(count) if count == length as u64 => return Ok(()),
         Err(error) if error.kind() == ErrorKind::NotFound => return Ok(()),
-        Ok(_) => {}
-        Err(_) => return Err(Refusal::FlashFile),
-    }
+        Ok(count) => count,
+        Err(error) => return Err(Refusal::FlashFile(error)),
+    };
     match holds_erased(alloc, host, name) {
         Ok(true) => Ok(()),
-        Ok(false) => Err(Refusal::FlashSize),
+        Ok(false) => Err(wrong_length(Some(found), length)),
         Err(error) => Err(Source::File(name).refusal(alloc, error)),
     }
 }

@@ -1,6 +1,6 @@
 //! `bootswap run`: runs the events of a script on a device, and writes its replies.
 ghost use Rattle.host.specs.Doings.{IsOpenedFor};
-ghost use Rattle.std.specs.Prelude.{◌≡◌, IfErr, IfOk, IsTrue, Some, length, true};
+ghost use Rattle.std.specs.Prelude.{◌≡◌, ◌||◌, IfErr, IfOk, IsTrue, Some, is_some, length, true};
 ghost use Rattle.flash_model.specs.Blanks.{IsBlankOf};
 ghost use Rattle.device_texts.specs.DeviceFile.{IsOfFile};
 ghost use Rattle.device_texts.specs.FlashOf.{IsFlashOf, armed_in};
@@ -22,6 +22,7 @@ use inputs::{
 };
 use machine::Reply;
 use std::alloc::Global;
+use std::io;
 use std::io::Write;
 use std::marker::Brand;
 use std::sync::ledger::{Blank, Ledger};
@@ -135,7 +136,7 @@ pub fn run_device<H: Host, O: Write, N: RunNotes>(
     // All writes have to be on the medium, also if the run ended early.
     match host.sync_flash() {
         Ok(()) => played,
-        Err(_) => Err(Refusal::FlashFile),
+        Err(error) => Err(Refusal::FlashFile(error)),
     }
 }
 
@@ -155,9 +156,10 @@ fn play<L: Ledger, M: Ledger, H: Host, O: Write, N: RunNotes>(
     requires memory_two { M.parts ≡ 2 }
     requires device { IsOfFile run.device.now }
     requires whole { IsFlashOf run.device.now.map run.bytes.items }
-    ensures { PlaysRun run.entry.options.form run.entry.options.is_strict result run.entry.device.now run.entry.bytes.items
-        (armed_in run.entry.cuts.items) run.entry.text.now sources.now.buffered.now
-        (H.file sources.now.host.now) (O.contents out.old) (O.contents out.new) }
+    ensures { PlaysRun run.entry.options.form run.entry.options.is_strict result
+        run.entry.device.now run.entry.bytes.items (armed_in run.entry.cuts.items)
+        run.entry.text.now sources.now.buffered.now (H.file sources.now.host.now)
+        (O.contents out.old) (O.contents out.new) }
 {
     let Run {
         device,
@@ -194,8 +196,8 @@ fn run_events<L: Ledger, M: Ledger, F: FlashFile + Drop, H: Host, O: Write, N: R
     requires on { device.old.here.flash.is_on ≡ true }
     requires sound { device.old.here.flash.faults ≡ 0 }
     ensures all { IfOk result (λ answer.
-        TellsText options.form options.is_strict answer device.old.setup device.old.here device.new.here text.now
-        sources.now.buffered.now (H.file sources.now.host.now)
+        TellsText options.form options.is_strict answer device.old.setup device.old.here
+        device.new.here text.now sources.now.buffered.now (H.file sources.now.host.now)
         (O.contents out.old) (O.contents out.new)) }
     ensures some { IfErr result (λ refusal.
         BreaksText options.form refusal device.old.setup device.old.here device.new.here text.now
@@ -204,7 +206,7 @@ fn run_events<L: Ledger, M: Ledger, F: FlashFile + Drop, H: Host, O: Write, N: R
 {
     let mut last = Answer::Done;
     let mut has_refused = false;
-    let mut has_failed = false;
+    let mut failure = None;
     let mut lines = Lines::of(text);
     let mut used = 0;
     let mut number: usize = 0;
@@ -216,13 +218,23 @@ fn run_events<L: Ledger, M: Ledger, F: FlashFile + Drop, H: Host, O: Write, N: R
             last = told.answer;
             has_refused |= told.has_refused;
             // Checked after each event: while no write has failed, only an armed write is cut.
-            has_failed |= device.flash().has_failed();
+            failure = first_failure(failure, device.flash().failure());
         }
     }
-    if has_failed {
-        return Err(Refusal::FlashFile);
+    match failure {
+        Some(error) => Err(Refusal::FlashFile(error)),
+        None => Ok(ending(options.is_strict, has_refused, last)),
     }
-    Ok(ending(options.is_strict, has_refused, last))
+}
+
+/// The first of two failed writes, if one failed.
+fn first_failure(first: Option<io::Error>, next: Option<io::Error>) -> Option<io::Error>
+    ensures { is_some result ≡ (is_some first || is_some next) }
+{
+    match first {
+        Some(error) => Some(error),
+        None => next,
+    }
 }
 
 /// The answer of a run whose last reply has the answer `last`. With `is_strict` a reply that refuses

@@ -33,7 +33,7 @@ pub use places::{Place, line_at};
 pub use plan_notes::{explain_planned, explain_row};
 pub use refusal_notes::explain_refusals;
 pub use report_notes::explain_report_line;
-pub use script_notes::{explain_script_line, file_named_at};
+pub use script_notes::explain_script_line;
 pub use shown::Shown;
 use std::alloc::AllocError;
 pub use table_notes::explain_table_line;

@@ -5,8 +5,8 @@ use crate::places::{add_line, line_at};
 use crate::shown::Shown;
 use common::ascii::{cut, number, number_u8};
 use common::lines::first_line;
-use common::texts::STANDARD_INPUT;
-use device_texts::{Event, FileText, Line, PartText, line_of};
+use device_texts::{Event, FileText, Line, line_of};
+use host::ScriptFault;
 
 /// The fields after the first word of a line.
 #[derive(Clone, Copy)]
@@ -30,12 +30,7 @@ const FIELDS: [(&str, Fields); 8] = [
     ("reset", Fields::Nothing),
 ];
 
-/// Adds the contents of the line of this number, from 1, and why it is wrong: its spelling, its
-/// place, or the part of a file that it names.
-///
-/// `may_cut` says whether the script may cut writes. `length` is the length in bytes of the file
-/// that the line names, if it is known. The length of standard input isn't known if an argument of
-/// the command names standard input too.
+/// Adds the contents of the line of this number, from 1, and why it is wrong.
 ///
 /// # Errors
 /// `AllocError` if memory is refused. Then `notes` has a part of the text.
@@ -43,20 +38,31 @@ pub fn explain_script_line(
     notes: &mut String,
     text: &[u8],
     number: usize,
-    may_cut: bool,
-    length: Option<u64>,
+    fault: ScriptFault,
 ) -> Result {
     let Some(place) = line_at(text, number) else {
         return Ok(());
     };
     add_line(notes, "script", number, place.line)?;
-    match line_of(place.line) {
-        None => explain_spelling(notes, place.line),
-        Some(Line::Cut { .. }) if !may_cut => notes.push_str(
+    match (fault, line_of(place.line)) {
+        (ScriptFault::Spelling | ScriptFault::TooLong, None) => explain_spelling(notes, place.line),
+        (ScriptFault::Order, Some(Line::Cut { write, .. })) => {
+            explain_order(notes, place.before, write)
+        }
+        (ScriptFault::Cut, _) => notes.push_str(
             "note: a sweep cuts each write itself, and its script cuts none\n",
         ),
-        Some(Line::Cut { write, torn: _ }) => explain_order(notes, place.before, write),
-        Some(Line::Event(event)) => explain_event(notes, place.before, event, length),
+        (ScriptFault::InputRead, _) => {
+            notes.push_str("note: standard input is read once, and was read before\n")
+        }
+        (ScriptFault::PartNumbers, _) => notes.push_str(
+            "note: behind a file stand two numbers, its first byte and how many: decimal, without \
+             leading zeros\n",
+        ),
+        (ScriptFault::NoPart(length), Some(Line::Event(event))) => {
+            explain_part(notes, event, length)
+        }
+        _ => Ok(()),
     }
 }
 
@@ -81,60 +87,16 @@ fn explain_order(notes: &mut String, before: &[u8], write: u32) -> Result {
     )
 }
 
-/// The name of the file that the line of this number, from 1, names, if it names one.
-pub fn file_named_at(text: &[u8], number: usize) -> Option<&str> {
-    match line_of(line_at(text, number)?.line) {
-        Some(Line::Event(Event::Accept(file) | Event::Piece(_, file))) => Some(file.name),
-        _ => None,
-    }
-}
-
-/// Adds what is wrong with the file of an event, which follows the lines `before`.
-fn explain_event(
-    notes: &mut String,
-    before: &[u8],
-    event: Event<FileText<'_>>,
-    length: Option<u64>,
-) -> Result {
+/// Adds that the file of an event doesn't have the part that its line names, and the length of the
+/// file if that is known.
+fn explain_part(notes: &mut String, event: Event<FileText<'_>>, length: Option<u64>) -> Result {
     let (Event::Accept(file) | Event::Piece(_, file)) = event else {
         return Ok(());
     };
-    if file.name == STANDARD_INPUT && (length.is_none() || name_input(before)) {
-        return notes.push_str("note: standard input is read once, and was read before\n");
-    }
-    match file.part {
-        Some(part) => explain_part(notes, file.name, part, length),
-        None => Ok(()),
-    }
-}
-
-/// Whether one of these lines names standard input.
-fn name_input(text: &[u8]) -> bool {
-    let mut rest = text;
-    for _ in 0..text.len() {
-        if rest.is_empty() {
-            break;
-        }
-        let (line, after) = first_line(rest);
-        rest = after;
-        if let Some(Line::Event(Event::Accept(file) | Event::Piece(_, file))) = line_of(line)
-            && file.name == STANDARD_INPUT
-        {
-            return true;
-        }
-    }
-    false
-}
-
-/// Adds what is wrong with a part of a file, if the length of the file is known.
-fn explain_part(notes: &mut String, name: &str, part: PartText<'_>, length: Option<u64>) -> Result {
-    let Some((from, count)) = part.numbers() else {
-        return notes.push_str(
-            "note: behind a file stand two numbers, its first byte and how many: decimal, without \
-             leading zeros\n",
-        );
+    let Some((from, count)) = file.part.and_then(|part| part.numbers()) else {
+        return Ok(());
     };
-    let name = Shown(name.as_bytes());
+    let name = Shown(file.name.as_bytes());
     match length {
         Some(length) => writeln!(
             notes,

@@ -7,11 +7,12 @@ use crate::files::{explain_flash, explain_lock, explain_source};
 use crate::fleets::explain_fleet;
 use crate::order_sources::{flash_name, image_name};
 use crate::remembering::Remembering;
-use crate::scripts::explain_line;
-use crate::sizes::explain_size;
+use crate::sizes::{explain_count, explain_flash_size, explain_slot_size};
 use certificate::Table;
 use command_line::Order;
-use diagnostics::{explain_device, explain_report_line, explain_running, explain_table_line};
+use diagnostics::{
+    explain_device, explain_report_line, explain_running, explain_script_line, explain_table_line,
+};
 use host::{Answer, Host, Refusal};
 use std::alloc::{AllocError, Global};
 use std::io::Write;
@@ -64,13 +65,19 @@ fn explain_refusal<H: Host>(
             Err(_) => Ok(()),
         },
         Refusal::DeviceFile => explain_device_file(notes, ended),
-        Refusal::ScriptLine(number) => explain_line(notes, order, number, host),
+        Refusal::ScriptLine(number, fault) => {
+            explain_script_line(notes, host.bytes_of(sources.script), number, fault)
+        }
         Refusal::OfSource(ref refused) => explain_source(notes, order, refused, host),
-        Refusal::FlashFile => explain_flash(notes, order, host),
+        Refusal::FlashFile(error) => explain_flash(notes, order, error),
         Refusal::FlashInUse => explain_lock(notes, flash_name(order)),
         Refusal::ImageInUse => explain_lock(notes, image_name(order)),
-        Refusal::FlashSize | Refusal::ImageCount | Refusal::NoImage(_) | Refusal::ImageTooBig(_) =>
-            explain_size(notes, ended, refusal),
+        Refusal::FlashSize(length) => explain_flash_size(notes, flash_name(order), length),
+        Refusal::ImageCount(images) => explain_count(notes, images),
+        Refusal::NoImage { images, .. } if !matches!(order, Order::Plan(_)) => {
+            explain_count(notes, images)
+        }
+        Refusal::ImageTooBig { image, most } => explain_slot_size(notes, image, most),
         _ => Ok(()),
     }
 }

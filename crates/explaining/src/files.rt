@@ -8,6 +8,7 @@ use crate::scripts::explain_place;
 use command_line::{DeviceOrder, Order};
 use host::{Host, Source, SourceFault, SourceRefusal};
 use std::alloc::AllocError;
+use std::io;
 use std::io::ErrorKind;
 
 /// Adds why a source is refused: the system's reason, the first script line that names a file which
@@ -21,12 +22,13 @@ pub fn explain_source<H: Host>(
 ) -> Result<(), AllocError> {
     let source = refused.source();
     match refused.fault {
-        SourceFault::CannotRead => {
-            explain_error(notes, source, host)?;
+        SourceFault::CannotRead(error) => {
+            explain_error(notes, source, error)?;
             let script = OrderSources::of(order).script;
             explain_place(notes, source, host.bytes_of(script))
         }
-        SourceFault::CannotReplace => explain_error(notes, source, host),
+        SourceFault::CannotReplace(Some(error)) => explain_error(notes, source, error),
+        SourceFault::CannotReplace(None) => Ok(()),
         SourceFault::NoImage => match order {
             Order::Plan(_) => explain_bytes(notes, host.bytes_of(Some(source))),
             _ => explain_names(notes, order, source),
@@ -61,15 +63,12 @@ fn explain_names(
 }
 
 /// Adds the system's reason why a file can't be read or written.
-fn explain_error<H: Host>(
+fn explain_error(
     notes: &mut String,
     source: Source<'_>,
-    host: &Remembering<H>,
+    error: io::Error,
 ) -> Result<(), AllocError> {
-    match host.error.get() {
-        Some(error) => writeln!(notes, "note: {source}: {error}"),
-        None => Ok(()),
-    }
+    writeln!(notes, "note: {source}: {error}")
 }
 
 /// Adds which file another program has locked, if the name is known.
@@ -88,13 +87,13 @@ pub fn explain_lock(notes: &mut String, name: Option<&str>) -> Result<(), AllocE
 }
 
 /// Adds the system's reason why a flash file can't be made or written.
-pub fn explain_flash<H: Host>(
+pub fn explain_flash(
     notes: &mut String,
     order: &Order<'_>,
-    host: &Remembering<H>,
+    error: io::Error,
 ) -> Result<(), AllocError> {
     match order {
-        Order::Device(DeviceOrder::Run { flash, .. }) if is_read_only(host) => {
+        Order::Device(DeviceOrder::Run { flash, .. }) if is_read_only(error) => {
             let file = Source::File(flash);
             writeln!(
                 notes,
@@ -103,19 +102,16 @@ pub fn explain_flash<H: Host>(
             )
         }
         Order::Device(DeviceOrder::Run { flash, .. } | DeviceOrder::Provision { flash, .. }) => {
-            explain_error(notes, Source::named(flash), host)
+            explain_error(notes, Source::named(flash), error)
         }
         _ => Ok(()),
     }
 }
 
-/// Whether the system's last error is that a file may only be read.
-fn is_read_only<H: Host>(host: &Remembering<H>) -> bool {
-    match host.error.get() {
-        Some(error) => matches!(
-            error.kind(),
-            ErrorKind::PermissionDenied | ErrorKind::ReadOnlyFilesystem
-        ),
-        None => false,
-    }
+/// Whether the system's reason is that a file may only be read.
+fn is_read_only(error: io::Error) -> bool {
+    matches!(
+        error.kind(),
+        ErrorKind::PermissionDenied | ErrorKind::ReadOnlyFilesystem
+    )
 }

@@ -11,7 +11,7 @@ status_of_answer Refused = 1
 status_of_answer Cut = 3
 
 abbrev pub status_of_refusal : Refusal → ℕ
-status_of_refusal FlashFile = 4
+status_of_refusal (FlashFile error) = 4
 status_of_refusal other = 1
 
 abbrev pub status_of : Result Answer Refusal → ℕ

@@ -43,6 +43,18 @@ impl Answer {
     }
 }
 
+impl Refusal {
+    /// Returns the exit status after this refusal.
+    pub fn status(&self) -> u8
+        ensures { result ≡ status_of_refusal self.now }
+    {
+        match self {
+            Refusal::FlashFile(_) => FLASH_FILE_FAILED,
+            _ => REFUSED,
+        }
+    }
+}
+
 /// Ends a command and returns the exit status. An answer is flushed, and a refusal is written as an
 /// error line. The contents of standard output stay as they are.
 ///
@@ -77,11 +89,7 @@ pub fn refuse_after<O: Write>(refusal: Refusal, out: &mut O) -> Refusal {
 pub fn refuse<E: Write>(refusal: &Refusal, err: &mut E) -> u8
     ensures { (result ≡ status_of_refusal refusal.now) ⊎ (result ≡ 1) }
 {
-    let status = match refusal {
-        Refusal::FlashFile => FLASH_FILE_FAILED,
-        _ => REFUSED,
-    };
-    status_after(write_line(refusal, err), status)
+    status_after(write_line(refusal, err), refusal.status())
 }
 
 fn write_line<E: Write>(refusal: &Refusal, err: &mut E) -> io::Result<()> {

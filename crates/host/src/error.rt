@@ -1,7 +1,7 @@
 //! Why a command doesn't do what it was asked to do.
 
 use crate::source::Source;
-use std::fmt;
+use std::{fmt, io};
 use thiserror::Error;
 
 /// Why a command refuses. The text is printed after `error: ` on standard error.
@@ -25,7 +25,7 @@ pub enum Refusal {
     /// fault is reported before.
     Manifest,
     /// The length of the flash file isn't that of the device's map.
-    FlashSize,
+    FlashSize(WrongLength),
     /// Another program uses the flash file.
     FlashInUse,
     /// The flash file to be made is one of the files that are read for it.
@@ -36,14 +36,14 @@ pub enum Refusal {
     PictureIsInput,
     /// Another program uses the image file that is to be made.
     ImageInUse,
-    /// The number of image files isn't the number of images in the device's map.
-    ImageCount,
-    /// The device has no image of this number.
-    NoImage(u8),
-    /// The file for this image is longer than the image's slot.
-    ImageTooBig(u8),
-    /// This line of a script, counted from 1, isn't an event that can be run.
-    ScriptLine(usize),
+    /// The number of image files isn't this one, that of the images in the device's map.
+    ImageCount(u8),
+    /// There is no image of the number `image`. There are `images`, from 0 on.
+    NoImage { image: u8, images: u8 },
+    /// The file for the image of the number `image` is longer than its slot, which has `most` bytes.
+    ImageTooBig { image: u8, most: u32 },
+    /// The line of this number of a script, from 1, isn't an event that can be run, for this reason.
+    ScriptLine(usize, ScriptFault),
     /// A fault of a file or of standard input.
     OfSource(SourceRefusal),
     /// The program is the core of `bootswap`, and the arguments ask for a command that it doesn't
@@ -51,8 +51,8 @@ pub enum Refusal {
     NotOfCore,
     /// Memory ran out.
     NoMemory,
-    /// The flash file could not be made or written.
-    FlashFile,
+    /// The system could not make or write the flash file, for this reason.
+    FlashFile(io::Error),
     /// The answer could not be written completely. This text is never printed, because nothing is
     /// printed after a failed write.
     CannotWrite,
@@ -68,24 +68,54 @@ impl fmt::Display for Refusal {
             Refusal::NotValid => "running set not valid",
             Refusal::DeviceFile => "device file",
             Refusal::Manifest => "manifest",
-            Refusal::FlashSize => "flash size",
+            Refusal::FlashSize(_) => "flash size",
             Refusal::FlashInUse => "flash in use",
             Refusal::FlashIsInput => "flash is an input",
             Refusal::ImageIsInput => "image is an input",
             Refusal::PictureIsInput => "picture is an input",
             Refusal::ImageInUse => "image in use",
-            Refusal::ImageCount => "image count",
-            Refusal::NoImage(image) => return write!(f, "no image {image}"),
-            Refusal::ImageTooBig(image) => return write!(f, "image {image} too big"),
-            Refusal::ScriptLine(line) => return write!(f, "script line {line}"),
+            Refusal::ImageCount(_) => "image count",
+            Refusal::NoImage { image, .. } => return write!(f, "no image {image}"),
+            Refusal::ImageTooBig { image, .. } => return write!(f, "image {image} too big"),
+            Refusal::ScriptLine(line, _) => return write!(f, "script line {line}"),
             Refusal::OfSource(refusal) => return write!(f, "{refusal}"),
             Refusal::NotOfCore => "not in the core of bootswap",
             Refusal::NoMemory => "memory",
-            Refusal::FlashFile => "flash file",
+            Refusal::FlashFile(_) => "flash file",
             Refusal::CannotWrite => "cannot write",
         };
         f.write_str(text)
     }
+}
+
+/// Why a line of a script isn't an event that can be run.
+#[derive(Clone, Copy, Debug)]
+pub enum ScriptFault {
+    /// It isn't spelled as a line of a script.
+    Spelling,
+    /// It cuts a write, and can't follow the lines before it.
+    Order,
+    /// It cuts a write, and this script may cut none.
+    Cut,
+    /// With this line the script is longer than the limit.
+    TooLong,
+    /// It names standard input, which was read before.
+    InputRead,
+    /// It names a part of a file by words that aren't two numbers.
+    PartNumbers,
+    /// It names a part that its file doesn't have. The file has so many bytes. `None` if the system
+    /// can't tell how many.
+    NoPart(Option<u64>),
+}
+
+/// The length of a flash that isn't that of its device, in bytes.
+#[derive(Clone, Copy, Debug)]
+pub struct WrongLength {
+    /// The length that it has. Of standard input at most one byte more is read than is wanted.
+    /// `None` if the system can't tell the length.
+    pub found: Option<u64>,
+    /// The length that it has to have.
+    pub wanted: u32,
 }
 
 /// A fault of a file or of standard input, and the name of that source.
@@ -107,12 +137,13 @@ impl SourceRefusal {
 /// The faults of a file or of standard input.
 #[derive(Clone, Copy, Debug)]
 pub enum SourceFault {
-    /// It could not be read to its end.
-    CannotRead,
+    /// The system could not read it to its end, for this reason.
+    CannotRead(io::Error),
     /// It has more bytes than this limit.
     TooLong(u32),
-    /// It is no flash, and it could not be made or replaced.
-    CannotReplace,
+    /// It is no flash, and it could not be made or replaced, for this reason of the system. `None` if
+    /// another program uses it, or if it isn't a plain file.
+    CannotReplace(Option<io::Error>),
     /// It was to hold an image and holds none. It is unchanged.
     NoImage,
     /// It was to be replaced by a picture and holds something else. It is unchanged.
@@ -126,9 +157,9 @@ impl fmt::Display for SourceRefusal {
     fn fmt<W: fmt::Write>(&self, f: &mut fmt::Formatter<W>) -> fmt::Result {
         let source = self.source();
         match self.fault {
-            SourceFault::CannotRead => write!(f, "cannot read {source}"),
+            SourceFault::CannotRead(_) => write!(f, "cannot read {source}"),
             SourceFault::TooLong(most) => write!(f, "{source} is longer than {most} bytes"),
-            SourceFault::CannotReplace => write!(f, "cannot write {source}"),
+            SourceFault::CannotReplace(_) => write!(f, "cannot write {source}"),
             SourceFault::NoImage => write!(f, "{source} is no image"),
             SourceFault::NoPicture => write!(f, "{source} is no picture"),
             SourceFault::CannotMerge(line) => write!(f, "cannot merge {source} line {line}"),

@@ -59,6 +59,16 @@ pub enum FlashFault {
     Failed(io::Error),
 }
 
+impl FlashFault {
+    /// Returns the reason that the system gave, if it gave one.
+    pub fn error(self) -> Option<io::Error> {
+        match self {
+            FlashFault::OnlyReadable(error) | FlashFault::Failed(error) => Some(error),
+            FlashFault::InUse | FlashFault::WrongLength | FlashFault::NoMemory => None,
+        }
+    }
+}
+
 /// The files and the standard input of a command. A test implements it with bytes in memory.
 ///
 /// The ghost fields say what a host is known to hold and to have done. Each has a default for a
@@ -156,10 +166,6 @@ pub trait Host {
     /// Returns whether standard input is the file of this name, as far as that can be known. A
     /// system may not say which file standard input is.
     fn is_input(&self, name: &str) -> io::Result<bool>;
-
-    /// Returns an error if it is known that no plain file of this name can be made or replaced. No
-    /// file changes.
-    fn check_replaceable(&self, alloc: Global, name: &str) -> Result<(), FlashFault>;
 
     /// Looks up a file of this name that is to be made or replaced, and locks a plain one. No file
     /// changes. `replaced` is as for [`Host::replace_file`].

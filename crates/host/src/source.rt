@@ -120,7 +120,7 @@ impl<'a> Source<'a> {
         match error.kind() {
             ErrorKind::OutOfMemory => Refusal::NoMemory,
             ErrorKind::FileTooLarge => self.refused(alloc, SourceFault::TooLong(MOST_FILE)),
-            _ => self.refused(alloc, SourceFault::CannotRead),
+            _ => self.refused(alloc, SourceFault::CannotRead(error)),
         }
     }
 }
@@ -141,7 +141,10 @@ pub fn refuse_input<H: Host>(
     match source.is_file(host, file) {
         Ok(false) => Ok(()),
         Ok(true) => Err(is_input),
-        Err(_) => Err(Source::File(file).refused(alloc, SourceFault::CannotReplace)),
+        Err(error) => Err(Source::File(file).refused(
+            alloc,
+            SourceFault::CannotReplace(Some(error)),
+        )),
     }
 }
 

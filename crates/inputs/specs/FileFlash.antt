@@ -1,6 +1,6 @@
 -- A flash over a file: what contracts see of it, and the state after a write.
 use Rattle.std.specs.Prelude.{◌≡◌, ◌⊎◌, ◌↔◌, ℕ, ◌+◌, ◌*◌, true, false, Bool, List, replicate}
-use Rattle.std.specs.Prelude.{None, Some, Result, IsOk, IsErrOf}
+use Rattle.std.specs.Prelude.{None, Some, Result, IsOk, IsErrOf, is_some}
 use Rattle.flash_model.specs.declared.error.FlashError.{FlashError}
 use Rattle.flash_model.specs.declared.error.FlashError.TheVariants.{Cut, Off}
 use Rattle.flash_model.specs.declared.torn.Torn.{Torn}
@@ -31,7 +31,7 @@ abbrev pub over_file : {F L M : Type 0} {g : _} → FileFlash F L M g → OverFi
 over_file flash = record {
   chip = chip_of flash;
   memory = memory_of flash.memory;
-  has_failed = flash.has_failed;
+  has_failed = is_some flash.failure;
 }
 
 -- The file below the flash.

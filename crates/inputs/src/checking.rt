@@ -12,7 +12,7 @@ use crate::lines::Lines;
 use crate::sources::{part_of, piece_of};
 use common::event::Event;
 use device_texts::{CutWrite, FileText, Line, TornText};
-use host::{Host, MOST_FILE, Refusal, Source};
+use host::{Host, MOST_FILE, Refusal, ScriptFault, Source};
 use std::alloc::Global;
 
 /// The bytes that a line names of an input that can't be read twice: standard input, a file that
@@ -198,7 +198,7 @@ fn input_part<H: Host>(
     ensures opened { H.opened host.new ≡ H.opened host.old }
 {
     if *is_read {
-        return Err(Refusal::ScriptLine(number));
+        return Err(Refusal::ScriptLine(number, ScriptFault::InputRead));
     }
     *is_read = true;
     let bytes = Source::StandardInput.read(alloc, host, MOST_FILE)?;

@@ -8,7 +8,7 @@ ghost use Rattle.host.specs.Doings.{IsOpenedFor};
 ghost use Rattle.host.specs.Input.{Gives, IsKnownAs, KeepsFiles, KeepsOthers};
 
 use device_texts::{DeviceFault, DeviceFile, map_refusal_text, write_all};
-use host::{Access, FlashFault, Host, MOST_JSON, Refusal, Source, SourceFault};
+use host::{Access, FlashFault, Host, MOST_JSON, Refusal, Source, SourceFault, WrongLength};
 use sector_map::{MapError, SectorMap};
 use std::alloc::Global;
 use std::io::Write;
@@ -125,10 +125,12 @@ pub fn read_flash<H: Host>(
         Source::File(name) => open_flash(alloc, name, map, access, host)?,
     };
     if bytes.len() != map.bytes_in_all() as usize {
-        return Err(Refusal::FlashSize);
+        return Err(wrong_length(Some(bytes.len() as u64), map));
     }
-    if access == Access::WriteDurably && host.sync_flash().is_err() {
-        return Err(Refusal::FlashFile);
+    if access == Access::WriteDurably
+        && let Err(error) = host.sync_flash()
+    {
+        return Err(Refusal::FlashFile(error));
     }
     Ok(bytes)
 }
@@ -147,12 +149,22 @@ fn open_flash<H: Host>(
     ensures opened { OnOk result (IsOpenedFor access (H.opened host.old) (H.opened host.new)) }
     ensures unopened { IfErr result (λ _. H.opened host.new ≡ H.opened host.old) }
 {
-    host.open_flash(alloc, name, u64::from(map.bytes_in_all()), access)
-        .map_err(|fault| match fault {
-            FlashFault::InUse => Refusal::FlashInUse,
-            FlashFault::WrongLength => Refusal::FlashSize,
-            FlashFault::NoMemory => Refusal::NoMemory,
-            FlashFault::OnlyReadable(_) => Refusal::FlashFile,
-            FlashFault::Failed(_) => Source::File(name).refused(alloc, SourceFault::CannotRead),
-        })
+    match host.open_flash(alloc, name, u64::from(map.bytes_in_all()), access) {
+        Ok(bytes) => Ok(bytes),
+        Err(FlashFault::InUse) => Err(Refusal::FlashInUse),
+        Err(FlashFault::WrongLength) => Err(wrong_length(host.length_of(name).ok(), map)),
+        Err(FlashFault::NoMemory) => Err(Refusal::NoMemory),
+        Err(FlashFault::OnlyReadable(error)) => Err(Refusal::FlashFile(error)),
+        Err(FlashFault::Failed(error)) => {
+            Err(Source::File(name).refused(alloc, SourceFault::CannotRead(error)))
+        }
+    }
+}
+
+/// The refusal of a flash of `found` bytes for the device of this map.
+fn wrong_length(found: Option<u64>, map: &SectorMap) -> Refusal {
+    Refusal::FlashSize(WrongLength {
+        found,
+        wanted: map.bytes_in_all(),
+    })
 }

@@ -1,6 +1,6 @@
 //! A flash in memory that is written through to a file.
 
-ghost use Rattle.std.specs.Prelude.{◌≡◌, ◌+◌, ◌<◌, ◌≤◌, length, false, true, slice_range, option_map, IfSome, IsErrOf, OnOk};
+ghost use Rattle.std.specs.Prelude.{◌≡◌, ◌+◌, ◌<◌, ◌≤◌, length, false, true, is_some, slice_range, option_map, IfSome, IsErrOf, OnOk};
 ghost use Rattle.std.specs.Bool.{OnFalse};
 ghost use Rattle.std.specs.Option.{ForSome};
 ghost use Rattle.flash_model.specs.Blanks.{IsBlankOf};
@@ -26,7 +26,7 @@ use std::sync::ledger::{Blank, Book, Ledger, Share};
 /// armed for is counted as a fault.
 ///
 /// Until a write of the file fails, the file is known to hold (`contents` of `FlashFile`) what the
-/// flash holds. This is an invariant of the type. `has_failed` returns whether a write failed.
+/// flash holds. This is an invariant of the type. `failure` returns why a write failed, if one did.
 ///
 /// No call allocates.
 ///
@@ -71,14 +71,15 @@ pub struct FileFlash<F: FlashFile, L: Ledger, M: Ledger> {
     memory: MemFlash<M>,
     file: F,
     is_on: bool,
-    has_failed: bool,
+    /// Why the first write of the file that failed did.
+    failure: Option<io::Error>,
     book: Book<L>,
     faults: Share<L>,
     erases: Share<L>,
     ghost powered: { is_on ≡ true → (memory_of memory).is_on ≡ true },
-    ghost written: { has_failed ≡ false
+    ghost written: { is_some failure ≡ false
         → ForSome (F.contents file) (λ all. all ≡ (memory_of memory).bytes) },
-    ghost unfailed: { has_failed ≡ false → faults.amount ≡ 0 },
+    ghost unfailed: { is_some failure ≡ false → faults.amount ≡ 0 },
     ghost counts_faults: { 0 < faults.parts },
     ghost counts_erases: { 0 < erases.parts },
 }
@@ -120,23 +121,23 @@ impl<F: FlashFile, L: Ledger, M: Ledger> FileFlash<F, L, M> {
             memory,
             file,
             is_on: true,
-            has_failed: false,
+            failure: None,
             book,
             faults,
             erases,
         }
     }
 
-    /// Returns whether a write of the file failed. Until then the file is known to have the
-    /// contents of the flash, and each cut was armed.
-    pub fn has_failed(&self) -> bool
-        ensures answer { result ≡ (over_file self.now).has_failed }
-        ensures faults { OnFalse result ((chip_of self.now).faults ≡ 0) }
+    /// Returns why a write of the file failed, or `None` if none did. Until then the file is known to
+    /// have the contents of the flash, and each cut was armed.
+    pub fn failure(&self) -> Option<io::Error>
+        ensures answer { is_some result ≡ (over_file self.now).has_failed }
+        ensures faults { OnFalse (is_some result) ((chip_of self.now).faults ≡ 0) }
         ensures armed { IsCutAsArmed (chip_of self.now) }
-        ensures written { OnFalse result
+        ensures written { OnFalse (is_some result)
             (IfSome (F.contents (file_of self.now)) (λ all. all ≡ (chip_of self.now).bytes)) }
     {
-        self.has_failed
+        self.failure
     }
 
     /// Returns the bytes in the order of their addresses, whether the flash is on or off.
@@ -212,15 +213,15 @@ impl<F: FlashFile, L: Ledger, M: Ledger> Flash for FileFlash<F, L, M> {
         if !self.is_on {
             return Err(FlashError::Off);
         }
-        if self.has_failed {
+        if self.failure.is_some() {
             return self.cut();
         }
         self.is_on = self.memory.program(at, bytes).is_ok();
-        self.has_failed = write_through(&mut self.file, &self.memory, at, bytes.len()).is_err();
+        self.failure = write_through(&mut self.file, &self.memory, at, bytes.len()).err();
         if !self.is_on {
             return Err(FlashError::Cut);
         }
-        if self.has_failed {
+        if self.failure.is_some() {
             return self.cut();
         }
         Ok(())
@@ -235,17 +236,17 @@ impl<F: FlashFile, L: Ledger, M: Ledger> Flash for FileFlash<F, L, M> {
         if !self.is_on {
             return Err(FlashError::Off);
         }
-        if self.has_failed {
+        if self.failure.is_some() {
             return self.cut();
         }
         let n = self.memory.sector_size();
         let at = sector * n;
         self.is_on = self.memory.erase(sector).is_ok();
-        self.has_failed = write_through(&mut self.file, &self.memory, at, n as usize).is_err();
+        self.failure = write_through(&mut self.file, &self.memory, at, n as usize).err();
         if !self.is_on {
             return Err(FlashError::Cut);
         }
-        if self.has_failed {
+        if self.failure.is_some() {
             return self.cut();
         }
         self.book.add(&mut self.erases, 1);

@@ -7,7 +7,7 @@ ghost use Rattle.inputs.specs.Loading.{IsNextLine};
 
 use common::lines::first_line;
 use device_texts::{Line, LineOrder, line_of};
-use host::Refusal;
+use host::{Refusal, ScriptFault};
 
 /// The lines of a script's text that weren't read yet.
 #[derive(Drop)]
@@ -47,10 +47,10 @@ impl<'a> Lines<'a> {
         self.rest = rest;
         self.number = self.number.saturating_add(1);
         let Some(line) = line_of(line) else {
-            return Err(Refusal::ScriptLine(self.number));
+            return Err(Refusal::ScriptLine(self.number, ScriptFault::Spelling));
         };
         if !self.order.takes(&line) {
-            return Err(Refusal::ScriptLine(self.number));
+            return Err(Refusal::ScriptLine(self.number, ScriptFault::Order));
         }
         Ok(line)
     }

@@ -9,7 +9,7 @@ use crate::lines::Lines;
 use crate::sources::Sources;
 use common::event::Event;
 use device_texts::Line;
-use host::{Host, MOST_SCRIPT, Refusal, Source};
+use host::{Host, MOST_SCRIPT, Refusal, ScriptFault, Source};
 use std::alloc::Global;
 
 /// Reads the text of a script from `host` into memory of `alloc`.
@@ -38,7 +38,7 @@ pub fn read_script<H: Host>(
         .take(MOST_SCRIPT as usize)
         .filter(|byte| **byte == b'\n')
         .count();
-    Err(Refusal::ScriptLine(ended.saturating_add(1)))
+    Err(Refusal::ScriptLine(ended.saturating_add(1), ScriptFault::TooLong))
 }
 
 /// Returns the events of a script that has no `cut` lines, from its text, with the bytes of the
@@ -46,7 +46,7 @@ pub fn read_script<H: Host>(
 /// input was read before, no line may name it.
 ///
 /// # Errors
-/// The errors of [`check_script`], and `ScriptLine(1)` if the script has a `cut` line.
+/// The errors of [`check_script`], and `ScriptLine` of line 1 if the script has a `cut` line.
 pub fn load<H: Host>(
     alloc: Global,
     text: &[u8],
@@ -62,7 +62,7 @@ pub fn load<H: Host>(
     let checked = check_script(alloc, text, None, is_input_read, host)?;
     if !checked.cuts.as_slice().is_empty() {
         // The `cut` lines come first in a script.
-        return Err(Refusal::ScriptLine(1));
+        return Err(Refusal::ScriptLine(1, ScriptFault::Cut));
     }
     let sources = Sources {
         alloc,

@@ -11,7 +11,7 @@ ghost use Rattle.inputs.specs.Script.{Comes, IsPieceOf, ReadsFile};
 use crate::checking::BufferedInput;
 use common::event::Event;
 use device_texts::{FileText, PartText};
-use host::{FilePart, Host, MOST_FILE, Refusal, Source, SourceFault};
+use host::{FilePart, Host, MOST_FILE, Refusal, ScriptFault, Source, SourceFault};
 use std::alloc::Global;
 
 /// The inputs from which the lines of a checked script are loaded: the files of a host, and the
@@ -140,7 +140,7 @@ pub fn piece_of<H: Host>(
     ensures refused { IfErr result (λ refusal. status_of_refusal refusal ≡ 1) }
 {
     match (Source::named(file.name), file.part) {
-        (Source::StandardInput, _) => Err(Refusal::ScriptLine(number)),
+        (Source::StandardInput, _) => { Err(Refusal::ScriptLine(number, ScriptFault::InputRead)) }
         (Source::File(name), Some(part)) => file_part(alloc, host, number, name, part),
         (Source::File(name), None) => whole_file(alloc, host, name),
     }
@@ -180,10 +180,11 @@ fn file_part<H: Host>(
 {
     let Some((from, count)) = part.numbers() else {
         part_at(alloc, host, name, 0, 0)?;
-        return Err(Refusal::ScriptLine(number));
+        return Err(Refusal::ScriptLine(number, ScriptFault::PartNumbers));
     };
     let Some(piece) = part_at(alloc, host, name, from, count)? else {
-        return Err(Refusal::ScriptLine(number));
+        let fault = ScriptFault::NoPart(host.length_of(name).ok());
+        return Err(Refusal::ScriptLine(number, fault));
     };
     Ok(piece)
 }
@@ -226,11 +227,19 @@ pub fn part_of(
     let Some(part) = part else {
         return Ok(bytes);
     };
-    let Some(part) = part.of(&bytes) else {
-        return Err(Refusal::ScriptLine(number));
+    let Some(range) = part.of(&bytes) else {
+        return Err(Refusal::ScriptLine(number, part_fault(part, bytes.len())));
     };
-    match Vec::from_slice(alloc, part) {
+    match Vec::from_slice(alloc, range) {
         Ok(part) => Ok(part),
         Err(_) => Err(Refusal::NoMemory),
+    }
+}
+
+/// Why a line may not name this part of an input of `length` bytes.
+fn part_fault(part: PartText<'_>, length: usize) -> ScriptFault {
+    match part.numbers() {
+        Some(_) => ScriptFault::NoPart(Some(length as u64)),
+        None => ScriptFault::PartNumbers,
     }
 }

@@ -179,20 +179,6 @@ fn write_device<R: Files<File = File>>(
     put(&mut device, 0, bytes, true).map_err(FlashFault::Failed)
 }
 
-/// Returns an error if it is known that no plain file of this name can be made or replaced.
-pub fn check_replaceable<R: Files<File = File>>(
-    runtime: &R,
-    alloc: Global,
-    name: &str,
-) -> Result<(), FlashFault> {
-    let place = resolve(runtime, alloc, name).map_err(fault_of)?;
-    let found = there(fs::symlink_metadata(runtime, place.path.as_str()));
-    if let Some(old) = found.map_err(FlashFault::Failed)? {
-        let _held = open_old(runtime, &place, old)?;
-    }
-    Ok(())
-}
-
 /// Opens and locks the file that is to be replaced at this place, a plain one that can be written.
 /// A link that is found there was put there after the name was looked up, so the file is in use.
 fn open_old<R: Files<File = File>>(

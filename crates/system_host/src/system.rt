@@ -122,10 +122,6 @@ impl<R: Files<File = File> + Clock + RandomSource, I: Read> Host for SystemHost<
         self.is_same_file(INPUT, name)
     }
 
-    fn check_replaceable(&self, alloc: Global, name: &str) -> Result<(), FlashFault> {
-        replacing::check_replaceable(self.runtime, alloc, name)
-    }
-
     fn hold_output(
         &mut self,
         alloc: Global,

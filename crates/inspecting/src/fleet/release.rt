@@ -72,7 +72,10 @@ impl Requests {
     {
         let at = usize::from(image);
         if at >= MOST_IMAGES {
-            return Err(Refusal::NoImage(image));
+            return Err(Refusal::NoImage {
+                image,
+                images: MOST_IMAGES as u8,
+            });
         }
         if self.entries[at].is_some() {
             return Err(Refusal::RequestedTwice(image));

@@ -55,7 +55,7 @@ type Story = (
 fn is_at_end<L: Ledger, M: Ledger>(flash: &FileFlash<RecordedFile, L, M>, story: &Story) -> bool {
     let (_, _, _, memory, file, writes) = *story;
     let found = flash.file();
-    flash.has_failed()
+    flash.failure().is_some()
         && words_of(flash.bytes()) == memory
         && words_of(&found.bytes) == file
         && found.writes == writes

@@ -5,20 +5,20 @@ use Rattle.device_commands.proofs.WordsLaws.{never_usage}
 -- The status is 0 only after `Done`.
 pub returns-clause-done : goal.returns-clause-done
 returns-clause-done g c =
-    done_after c.args.request.is_json c.args.request.order c.answer_request-outcome.result c.finish-status.result _ _ _ _ _ _
-    c.answer_request-outcome.ensures.answers c.finish-status.ensures.status c.finish-status.ensures.kept
+    done_after c.args.request.is_json c.args.request.order c.answer_request-outcome.result c.end-status.result _ _ _ _ _ _
+    c.answer_request-outcome.ensures.answers c.end-status.ensures.status c.end-status.ensures.kept
 
 -- The status is 3 only after `Cut`.
 pub returns-clause-cut : goal.returns-clause-cut
 returns-clause-cut g c =
-    cut_after c.args.request.is_json c.args.request.order c.answer_request-outcome.result c.finish-status.result _ _ _ _ _ _
-    c.answer_request-outcome.ensures.answers c.finish-status.ensures.ends c.finish-status.ensures.kept
+    cut_after c.args.request.is_json c.args.request.order c.answer_request-outcome.result c.end-status.result _ _ _ _ _ _
+    c.answer_request-outcome.ensures.answers c.end-status.ensures.ends c.end-status.ensures.kept
 
 -- No command ends as a usage fault does.
 pub returns-clause-other : goal.returns-clause-other
-returns-clause-other g c = never_usage c.answer_request-outcome.result c.finish-status.result c.finish-status.ensures.ends
+returns-clause-other g c = never_usage c.answer_request-outcome.result c.end-status.result c.end-status.ensures.ends
 
 -- A run that ends with status 0 was done.
 pub returns-clause-used : goal.returns-clause-used
 returns-clause-used g c =
-    used_after c.answer_request-outcome.result c.finish-status.result _ c.answer_request-outcome.ensures.used c.finish-status.ensures.status
+    used_after c.answer_request-outcome.result c.end-status.result _ c.answer_request-outcome.ensures.used c.end-status.ensures.status

@@ -1,4 +1,4 @@
-use Rattle.std.proofs.Common.{◌≡◌, ◌+◌, ◌∷◌, ◌++◌, ◌||◌, Bool, [], ap, arith, eqb-true, length, length-append, refl, rules, subst, sym, ◌∙◌}
+use Rattle.std.proofs.Common.{◌≡◌, ◌+◌, ◌∷◌, ◌++◌, ◌||◌, Bool, [], ap, arith, eqb-true, length, length-append, is_some, refl, rules, subst, sym, ◌∙◌}
 use Rattle.std.proofs.lemmas.Bool.{or_parts}
 use Rattle.flash_model.specs.Chip.{Chip}
 use Rattle.common.proofs.Results.{IfErr-passed}
@@ -31,7 +31,7 @@ returns-in_err-event-clause-some g c =
     IfErr-passed _ _ _ c.from_residual.ensures.1
     (BreaksText-some c.args.options.form _ c.args.device.now.setup _ _ c.args.text.now c.loop-lines.lines.rest.now c.loop-lines.lines.order
     before.taken c.args.sources.now.buffered.now (g.H.Host.file c.args.sources.now.host.now) before.came _ _ before.are
-    (TellsSome-all c.args.options.form _ c.args.device.now.setup _ _ before.came c.loop-lines.last c.loop-lines.has_refused c.loop-lines.has_failed _ _ before.told)
+    (TellsSome-all c.args.options.form _ c.args.device.now.setup _ _ before.came c.loop-lines.last c.loop-lines.has_refused (is_some c.loop-lines.failure) _ _ before.told)
     (not_of_file _ c.in_err-event.ensures.refused))
 
 -- The file of the next line can't be read any more.
@@ -41,7 +41,7 @@ returns-in_err-event-2-clause-some g c =
     IfErr-passed _ _ _ c.from_residual-in_err-event-2.ensures.1
     (BreaksText-some c.args.options.form _ c.args.device.now.setup _ _ c.args.text.now c.loop-lines.lines.rest.now c.loop-lines.lines.order
     before.taken c.args.sources.now.buffered.now (g.H.Host.file c.args.sources.now.host.now) before.came _ _ before.are
-    (TellsSome-all c.args.options.form _ c.args.device.now.setup _ _ before.came c.loop-lines.last c.loop-lines.has_refused c.loop-lines.has_failed _ _ before.told)
+    (TellsSome-all c.args.options.form _ c.args.device.now.setup _ _ before.came c.loop-lines.last c.loop-lines.has_refused (is_some c.loop-lines.failure) _ _ before.told)
     (not_of_file _ c.in_err-event-2.ensures.refused))
 
 -- The reply to the next event was written in part or not at all.
@@ -58,7 +58,7 @@ returns-in_err-told-clause-some g c =
     c.args.sources.now.buffered.now (g.H.Host.file c.args.sources.now.host.now) before.came one next
     c.in_ok-event-2.ensures.loaded before.are)
     (TellsSome-more c.args.options.form _ c.args.device.now.setup c.loop-lines.device.setup _ _ _ before.came one (c.loop-lines.number + 1)
-    c.loop-lines.last c.loop-lines.has_refused c.loop-lines.has_failed _ _ _ before.told (omega (arith, before.counted)) before.setup
+    c.loop-lines.last c.loop-lines.has_refused (is_some c.loop-lines.failure) _ _ _ before.told (omega (arith, before.counted)) before.setup
     c.in_err-told.ensures.begun)
     c.in_err-told.ensures.begun.broken.output)
 
@@ -79,13 +79,13 @@ loop-lines-preserved-in-Event g c =
           c.args.sources.now.buffered.now (g.H.Host.file c.args.sources.now.host.now) before.came one next
           c.in_ok-event-2.ensures.loaded before.are;
       told = TellsAll-more c.args.options.form c.args.device.now.setup c.loop-lines.device.setup _ _ _ before.came one
-          (c.loop-lines.number + 1) c.loop-lines.last _ c.loop-lines.has_refused _ c.loop-lines.has_failed _ _ _ _ before.told
+          (c.loop-lines.number + 1) c.loop-lines.last _ c.loop-lines.has_refused _ (is_some c.loop-lines.failure) _ _ _ _ before.told
           (omega (arith, before.counted)) before.setup c.in_ok-told.ensures.told
           refl
           (λ none.
-          let parts = or_parts c.loop-lines.has_failed c.has_failed-has_failed.result none in (
+          let parts = or_parts (is_some c.loop-lines.failure) (is_some c.failure.result) (sym c.first_failure-failure.ensures ∙ none) in (
             parts.0,
-            subst (λ (chip : Chip). chip.faults ≡ 0) c.flash.ensures (rw parts.1 at c.has_failed-has_failed.ensures.faults),
+            subst (λ (chip : Chip). chip.faults ≡ 0) c.flash.ensures (rw parts.1 at c.failure.ensures.faults),
           ));
     }
 
@@ -108,19 +108,19 @@ loop-lines-preserved g c =
     }
 
 -- All replies were written, and the flash file failed.
-pub returns-then-has_failed-clause-some : goal.returns-then-has_failed-clause-some
-returns-then-has_failed-clause-some g c =
+pub returns-in-Some-clause-some : goal.returns-in-Some-clause-some
+returns-in-Some-clause-some g c =
     let before = c.loop-lines.invariant in
-    BreaksText-all c.args.options.form c.args.device.now.setup _ _ c.args.text.now c.args.sources.now.buffered.now
-    (g.H.Host.file c.args.sources.now.host.now) before.came c.loop-lines.last c.loop-lines.has_refused c.loop-lines.has_failed _ _
+    BreaksText-all c.args.options.form _ c.args.device.now.setup _ _ c.args.text.now c.args.sources.now.buffered.now
+    (g.H.Host.file c.args.sources.now.host.now) before.came c.loop-lines.last c.loop-lines.has_refused (is_some c.loop-lines.failure) _ _
     (LoadsAll-taken c.args.text.now c.loop-lines.lines.rest.now c.loop-lines.lines.order before.taken
     c.args.sources.now.buffered.now (g.H.Host.file c.args.sources.now.host.now) before.came
     (eqb-true _ _ (sym c.loop-lines-test.ensures)) before.are)
     before.told
 
 -- All replies were written, and the flash file didn't fail.
-pub returns-clause-all : goal.returns-clause-all
-returns-clause-all g c =
+pub returns-in-None-clause-all : goal.returns-in-None-clause-all
+returns-in-None-clause-all g c =
     let before = c.loop-lines.invariant in
     let setup = c.args.device.now.setup in
     let old = c.args.device.now.here in
@@ -134,6 +134,6 @@ returns-clause-all g c =
           c.args.sources.now.buffered.now (g.H.Host.file c.args.sources.now.host.now) before.came
           (eqb-true _ _ (sym c.loop-lines-test.ensures)) before.are;
       tells = subst (λ failed. TellsAll c.args.options.form c.loop-lines.last c.loop-lines.has_refused failed setup old new before.came
-          (g.O.Write.contents c.args.out.now) written) c.if-has_failed.false before.told;
+          (g.O.Write.contents c.args.out.now) written) (ap is_some c.in-None.is) before.told;
       ends = c.ending.ensures;
     }

@@ -1,4 +1,4 @@
-use Rattle.std.proofs.Common.{◌≡◌, ◌+◌, ◌≤◌, ℕ, List, length, true}
+use Rattle.std.proofs.Common.{◌≡◌, ◌+◌, ◌≤◌, ℕ, List, is_some, length, true}
 use Rattle.common.specs.declared.event.Event.{Event}
 use Rattle.device_commands.specs.Telling.{TellsAll}
 use Rattle.inputs.proofs.ScriptLaws.{AreTaken}
@@ -16,7 +16,7 @@ invariant-loop-lines g l = record {
   counted : l.number ≡ length came;
   are : AreTaken l.text l.lines.rest.now l.lines.order taken l.sources.buffered.now
       (g.H.Host.file l.sources.host.now) came;
-  told : TellsAll l.options.form l.last l.has_refused l.has_failed l.fn.device.setup l.fn.device.here l.device.here came
+  told : TellsAll l.options.form l.last l.has_refused (is_some l.failure) l.fn.device.setup l.fn.device.here l.device.here came
       (g.O.Write.contents l.fn.out) (g.O.Write.contents l.out);
 }
 

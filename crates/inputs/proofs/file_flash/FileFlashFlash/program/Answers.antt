@@ -4,10 +4,10 @@ use Rattle.inputs.proofs.file_flash.FileFlashFlash.program.Goals as goal
 
 pub invariant_of-self-clause-written : goal.invariant_of-self-clause-written
 invariant_of-self-clause-written g c = still_written c.write_through.result _ _ _ _ _ _ _
-    c.is_err-self.ensures.value c.write_through.ensures c.program.ensures.chip.outside (search rules)
-    (c.args.self.now.written c.if-self.false)
+    c.err-self.ensures.variant c.write_through.ensures c.program.ensures.chip.outside (search rules)
+    (c.args.self.now.written (sym c.is_some.ensures ∙ c.if-is_some.false))
 
 pub returns-clause-flash : goal.returns-clause-flash
 returns-clause-flash g c = done_through c.program.result _ _ _ _ _ c.program.ensures.memory
     (sym c.is_ok-self.ensures.value ∙ c.if-not-self-2.false)
-    (c.args.self.now.powered c.if-not-self.false) c.if-not-self.false c.if-self.false c.if-self-2.false
+    (c.args.self.now.powered c.if-not-self.false) c.if-not-self.false (sym c.is_some.ensures ∙ c.if-is_some.false) (sym c.is_some-2.ensures ∙ c.if-is_some-2.false)
