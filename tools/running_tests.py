@@ -116,7 +116,8 @@ def known_seconds():
 
 
 def remember(seconds):
-    """Keeps how many seconds tasks took, by their names."""
+    """Keeps how many seconds tasks took, by their names. A part of the gate that runs later begins with the longest."""
+    os.makedirs(os.path.dirname(SECONDS), exist_ok=True)
     with open(SECONDS, "w", encoding="utf-8") as it:
         json.dump({**known_seconds(), **seconds}, it)
 
