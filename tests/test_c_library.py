@@ -20,7 +20,7 @@ from support.program import CaseTest, short
 SCENARIOS = f"{ROOT}/tests/scenarios.c"
 STRICT = ["-std=c11", "-Wall", "-Wextra", "-Werror"]
 COPIES = [f"include/{name}.h" for name in ("bootswap", "bootswap_names", "bootswap_simulate")]
-COPIES += ["bindings/c/driver.c", "bindings/c/driver.h"]
+COPIES += ["bindings/c/driver.c", "bindings/c/driver.h", "bindings/c_file/CMakeLists.txt"]
 
 # How many scenarios are played.
 SEEDS = 300

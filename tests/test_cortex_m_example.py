@@ -30,25 +30,31 @@ class CortexMExampleTest(ProgramTest):
 
     def make(self):
         """Makes the example in an empty folder, over a clone that has out/c."""
-        self.empty, clone = f"{self.folder}/empty", f"{self.folder}/clone"
+        self.empty, self.clone = f"{self.folder}/empty", f"{self.folder}/clone"
         shutil.copytree(EXAMPLE, self.empty)
-        c_folder(f"{clone}/out/c")
+        c_folder(f"{self.clone}/out/c")
         for name in ("board", "examples"):
-            os.symlink(f"{ROOT}/{name}", f"{clone}/{name}")
-        self.words = ["make", f"BOOTSWAP={clone}"]
-        faults, output = ran(self.words, cwd=self.empty)
-        self.case("it is made", faults or [short(output)] * (b"warning:" in output))
+            os.symlink(f"{ROOT}/{name}", f"{self.clone}/{name}")
+        self.words = self.build_example()
         for name, number in (("old", "1.0.0"), ("new", "2.0.0")):
             made, words = f"{self.empty}/by_program.img", ["--version", number, "--header-size", "512"]
-            faults, _ = ran([self.program, "make-image", made, f"{self.empty}/{name}.bin", *words])
-            self.case(f"{name}.img", faults or ["the program makes another"] * (read(made) != read(f"{self.empty}/{name}.img")))
+            faults, _ = ran([self.program, "make-image", made, f"{self.made}/{name}.bin", *words])
+            self.case(f"{name}.img", faults or ["the program makes another"] * (read(made) != read(f"{self.made}/{name}.img")))
             os.remove(made)
 
+    def build_example(self):
+        """Builds the example into the folder `made`, and returns the command that runs the machine."""
+        words, self.made = ["make", f"BOOTSWAP={self.clone}"], self.empty
+        faults, output = ran(words, cwd=self.empty)
+        self.case("it is made", faults or [short(output)] * (b"warning:" in output))
+        return [*words, "--silent", "run"]
+
     def run_machine(self, last, seconds=None):
-        """Runs the machine until it prints a line, or N seconds more, takes its power away, and returns the lines."""
-        found, words = [], [*self.words, "--silent", "run"]
+        """Runs the machine until it prints a line, or N seconds more, takes its power away, and returns the lines, without
+        those of CMake."""
+        found = []
         both = {"stdin": subprocess.DEVNULL, "stdout": subprocess.PIPE, "stderr": subprocess.STDOUT}
-        with subprocess.Popen(words, cwd=self.empty, start_new_session=True, **both) as machine:
+        with subprocess.Popen(self.words, cwd=self.empty, start_new_session=True, **both) as machine:
             os.set_blocking(machine.stdout.fileno(), False)
             end, rest = time.monotonic() + LIMIT, b""
             while last not in found and machine.poll() is None and time.monotonic() < end:
@@ -58,7 +64,7 @@ class CortexMExampleTest(ProgramTest):
                 time.sleep(0.01)
             time.sleep(seconds or 0)
             os.killpg(machine.pid, 9)
-        return found
+        return [it for it in found if not re.match(r"\[ *\d+%\]", it)]
 
     def test_upgrade(self):
         """It prints what the page says, and continues if its power fails during the upload or the swap."""
@@ -70,7 +76,7 @@ class CortexMExampleTest(ProgramTest):
         got = self.run_machine(wanted[-1])
         self.case("the start after it", [short("\n".join(got).encode())] * (got != again))
         for seconds in (0.2, 0.8, 1.6, 2.4):
-            os.remove(f"{self.empty}/flash")
+            os.remove(f"{self.made}/flash")
             self.run_machine(wanted[4], seconds)
             got = self.run_machine(wanted[-1])
             faults = [short("\n".join(got).encode())] * (got[-1:] != wanted[-1:] or wanted[-3] not in got)

@@ -2,6 +2,8 @@
  * A device over a flash driver: makes each call, then performs the writes that the call recorded in
  * the journal, on the flash and on the copy of it if there is one. Allocates nothing, and has no
  * state of its own.
+ *
+ * BOOTSWAP_WITHOUT_TEXTS and BOOTSWAP_WITHOUT_UPLOADS leave calls out, as in bootswap.c.
  */
 #include "driver.h"
 
@@ -215,6 +217,7 @@ static uint32_t without_texts(struct bootswap_device *device, size_t capacity,
                                  device->journal, capacity, &device->result);
 }
 
+#ifndef BOOTSWAP_WITHOUT_TEXTS
 static uint32_t with_texts(struct bootswap_device *device, size_t capacity,
                            const struct texts *texts) {
     return bootswap_journal_boot_with_texts(
@@ -222,6 +225,7 @@ static uint32_t with_texts(struct bootswap_device *device, size_t capacity,
         capacity, texts->table, texts->table_capacity, texts->report, texts->report_capacity,
         &device->result);
 }
+#endif
 
 /* What a boot of a device with this number of images writes after the last step of its swap. */
 static size_t after_steps(const struct bootswap_device *device, uint32_t images) {
@@ -281,13 +285,16 @@ uint32_t bootswap_device_boot(struct bootswap_device *device) {
     return boot(device, without_texts, NULL);
 }
 
+#ifndef BOOTSWAP_WITHOUT_TEXTS
 uint32_t bootswap_device_boot_with_texts(struct bootswap_device *device, char *table,
                                          size_t table_capacity, char *report,
                                          size_t report_capacity) {
     const struct texts texts = {table, report, table_capacity, report_capacity};
     return boot(device, with_texts, &texts);
 }
+#endif
 
+#ifndef BOOTSWAP_WITHOUT_UPLOADS
 /* The most bytes of a journal that a manifest asks for. */
 static size_t bound_of(const struct bootswap_setup *setup,
                        const struct bootswap_manifest *manifest) {
@@ -324,6 +331,7 @@ uint32_t bootswap_device_piece(struct bootswap_device *device, uint8_t image, co
                                               device->journal_capacity, image, bytes, bytes_length,
                                               &device->result));
 }
+#endif
 
 /* A call on one image that takes nothing else. */
 typedef uint32_t image_call(const struct bootswap_setup *setup, const uint8_t *flash,
@@ -342,6 +350,7 @@ static uint32_t call_image(struct bootswap_device *device, size_t needed, image_
                             device->journal, device->journal_capacity, image, &device->result));
 }
 
+#ifndef BOOTSWAP_WITHOUT_UPLOADS
 uint32_t bootswap_device_finish(struct bootswap_device *device, uint8_t image) {
     return call_image(device, BOOTSWAP_JOURNAL_FINISH, bootswap_journal_finish, image);
 }
@@ -349,6 +358,7 @@ uint32_t bootswap_device_finish(struct bootswap_device *device, uint8_t image) {
 uint32_t bootswap_device_withdraw(struct bootswap_device *device, uint8_t image) {
     return call_image(device, BOOTSWAP_JOURNAL_WITHDRAW, bootswap_journal_withdraw, image);
 }
+#endif
 
 uint32_t bootswap_device_confirm(struct bootswap_device *device, uint8_t image) {
     return call_image(device, BOOTSWAP_JOURNAL_CONFIRM, bootswap_journal_confirm, image);

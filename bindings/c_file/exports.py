@@ -19,6 +19,14 @@ WIDTHS = {"size_t": 64, "uint64_t": 64, "uint32_t": 32, "uint16_t": 32, "uint8_t
 KNOWN = {"pointer": ADDRESS, "size_t": NUMBER, "uint64_t": WIDE}
 RESULTS = {"void": None, "uint32_t": 32, "uint64_t": 64}
 
+# The parts of the library that a macro leaves out, if it is defined where the file is compiled. The functions of the module that
+# only these calls need aren't compiled then.
+PARTS = {
+    "BOOTSWAP_WITHOUT_UPLOADS": re.compile("bootswap_(journal|simulate)_(accept|piece|finish|withdraw)"),
+    "BOOTSWAP_WITHOUT_TEXTS": re.compile("bootswap_(journal_boot_with_texts|simulate_boot|choose|check)"),
+    "BOOTSWAP_WITHOUT_SIMULATION": re.compile("bootswap_simulate_.*"),
+}
+
 # Types that are shorter than a register, with their bits.
 SHORT = {"uint16_t": 0xFFFF, "uint8_t": 0xFF}
 
@@ -88,6 +96,12 @@ def note_parameters(program, found, facts):
 
 
 def definition(program, it, facts):
+    """Returns the function of C that calls the export, if none of the parts that it belongs to is left out."""
+    text, macros = call_of(program, it, facts), [macro for macro, calls in PARTS.items() if calls.fullmatch(it.name)]
+    return f"#if {' && '.join(f'!defined {macro}' for macro in macros)}\n{text}#endif\n" if macros else text
+
+
+def call_of(program, it, facts):
     """Returns the function of C that calls the export."""
     index = program.object.exports[it.name]
     given = ", ".join(param.given(facts.of(index, i)) for i, param in enumerate(it.params))

@@ -18,7 +18,7 @@ HEADERS = ("bootswap.h", "bootswap_simulate.h")
 
 # What else is in the folder.
 COPIES = ("include/bootswap.h", "include/bootswap_names.h", "include/bootswap_simulate.h")
-COPIES += ("bindings/c/driver.c", "bindings/c/driver.h")
+COPIES += ("bindings/c/driver.c", "bindings/c/driver.h", "bindings/c_file/CMakeLists.txt")
 
 ABOUT = """bootswap {version}{commit}: the library of bootswap.h and bootswap_simulate.h as one file of C.
 

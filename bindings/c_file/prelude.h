@@ -32,6 +32,16 @@ _Static_assert(sizeof(int) == 4, "int has 32 bits");
 #pragma GCC diagnostic ignored "-Wtype-limits"
 #endif
 
+/* These leave out calls: to accept manifests and uploads; to boot with texts, choose and check; all of bootswap_simulate.h. What
+ * only they need is unused then, and the compiler makes no code of it. */
+#if defined BOOTSWAP_WITHOUT_UPLOADS || defined BOOTSWAP_WITHOUT_TEXTS || defined BOOTSWAP_WITHOUT_SIMULATION
+#ifdef __GNUC__
+#pragma GCC diagnostic ignored "-Wunused-function"
+#pragma GCC diagnostic ignored "-Wunused-variable"
+#pragma GCC diagnostic ignored "-Wunused-const-variable"
+#endif
+#endif
+
 #ifndef BOOTSWAP_OWN_ATTRIBUTES
 #define BOOTSWAP_ANY_OBJECT __attribute__((may_alias))
 #define BOOTSWAP_PACKED __attribute__((packed))

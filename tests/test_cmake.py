@@ -1,0 +1,154 @@
+"""The folder of `bindings/build --c` in projects of CMake: as a part of a project, installed, and for a Cortex-M."""
+
+import os
+import re
+import shutil
+import tempfile
+import unittest
+
+import test_cortex_m_example as example
+from support.compiled import needs_compiler
+from support.files import EXAMPLES, ROOT, read
+from support.libraries import c_folder, ran
+from support.program import CaseTest, short
+
+from installing import major, version
+
+IMAGES = [f"{EXAMPLES}/images/{it}.img" for it in ("one", "patched")]
+
+# What tests/in_memory.c prints with these images: their versions are 1.0.0 and 1.1.0. Without uploads or texts it boots once.
+LIVES = b"plain\nrun 0 1.0.0+0\npermanent\ntake 0 1.1.0+0\n"
+BOOTS = b"runs 1.0.0+0\n"
+
+PROJECT = """cmake_minimum_required(VERSION 3.16)
+project(in_memory LANGUAGES C)
+{found}
+add_executable(in_memory {source})
+target_link_libraries(in_memory PRIVATE bootswap::bootswap)
+"""
+
+# The warnings that our own builds ask for.
+STRICT = "-DCMAKE_C_FLAGS=-Wall -Wextra -Wpedantic -Werror"
+
+# The options: a call that each leaves out of the library, and one that stays.
+OPTIONS = {
+    "UPLOADS": ("bootswap_journal_accept", "bootswap_journal_boot_with_texts"),
+    "TEXTS": ("bootswap_choose", "bootswap_journal_accept"),
+    "SIMULATION": ("bootswap_simulate_provision", "bootswap_choose"),
+}
+
+needs_cmake = unittest.skipUnless(shutil.which("cmake"), "there is no cmake")
+
+
+@needs_compiler
+@needs_cmake
+class CMakeTest(CaseTest):
+    @classmethod
+    def setUpClass(cls):
+        cls.top = tempfile.mkdtemp(prefix="bootswap-cmake-")
+        cls.addClassCleanup(shutil.rmtree, cls.top, ignore_errors=True)
+        cls.library = f"{cls.top}/c"
+        c_folder(cls.library)
+
+    def setUp(self):
+        self.folder = tempfile.mkdtemp(dir=self.top)
+
+    def project(self, found):
+        """Makes a project in an empty folder. `found` is how it takes the library."""
+        with open(f"{self.folder}/CMakeLists.txt", "w", encoding="utf-8") as it:
+            it.write(PROJECT.format(found=found, source=f"{ROOT}/tests/in_memory.c"))
+        return self.folder
+
+    def configured(self, folder, *words):
+        return ran(["cmake", "-S", folder, "-B", f"{self.folder}/build", STRICT, *words])
+
+    def build(self, name, folder, *words):
+        """Configures and builds a folder. There is no warning, of CMake or of the compiler."""
+        for words in (["-S", folder, "-B", f"{self.folder}/build", STRICT, *words], ["--build", f"{self.folder}/build"]):
+            faults, output = ran(["cmake", *words])
+            self.case(f"{name}: cmake {words[0]}", faults or [short(output)] * (b"arning" in output))
+
+    def boots(self, name, wanted):
+        """A case: the program of the project prints what it has to."""
+        faults, output = ran([f"{self.folder}/build/in_memory", *IMAGES])
+        self.case(name, faults or [short(output)] * (output != wanted))
+
+    def installed(self):
+        """Installs the library below a prefix of this test, and returns it."""
+        prefix = f"{self.folder}/prefix"
+        words = [["-S", self.library, "-B", f"{self.folder}/library", f"-DCMAKE_INSTALL_PREFIX={prefix}", STRICT]]
+        words += [["--build", f"{self.folder}/library"], ["--install", f"{self.folder}/library"]]
+        for it in words:
+            self.case(f"the library: cmake {it[0]}", ran(["cmake", *it])[0])
+        return prefix
+
+    def test_subdirectory(self):
+        """A project that has the folder as a part of it boots a device. Installed, it installs nothing of the library."""
+        self.build("a part", self.project(f'add_subdirectory("{self.library}" bootswap)'))
+        self.boots("a part: it boots", LIVES)
+        faults, _ = ran(["cmake", "--install", f"{self.folder}/build", "--prefix", f"{self.folder}/prefix"])
+        self.case("a part: it installs nothing", faults + [it for it in os.listdir(self.folder) if it == "prefix"])
+
+    def test_find_package(self):
+        """A project that finds the installed library boots a device. It finds this major version, and up to this version."""
+        prefix = self.installed()
+        where = f"-DCMAKE_PREFIX_PATH={prefix}"
+        self.build("installed", self.project(f"find_package(bootswap {version()} CONFIG REQUIRED)"), where)
+        self.boots("installed: it boots", LIVES)
+        later = re.sub(r"\d+$", lambda it: str(int(it[0]) + 1), version())
+        for asked, is_found in ((f"{major()}.0", True), (version(), True), (later, False), (int(major()) + 1, False)):
+            shutil.rmtree(f"{self.folder}/build")
+            faults, output = self.configured(self.project(f"find_package(bootswap {asked} CONFIG REQUIRED)"), where)
+            told = [short(output)] * (bool(faults) == is_found)
+            self.case(f"find_package(bootswap {asked}) {'finds it' if is_found else 'finds none'}", told)
+
+    def test_installed_files(self):
+        prefix, found = self.installed(), []
+        for at, _, names in os.walk(prefix):
+            found += [os.path.relpath(f"{at}/{it}", prefix) for it in names]
+        headers = {os.path.basename(it) for it in found if it.startswith("include/")}
+        wanted = {it for it in os.listdir(self.library) if it.endswith(".h")}
+        self.case("the headers", sorted(headers ^ wanted))
+        others = {os.path.basename(it) for it in found if not it.startswith("include/")}
+        wanted = {"libbootswap.a", *(f"bootswap-config{it}.cmake" for it in ("", "-noconfig", "-version"))}
+        self.case("the library and its package", sorted(others ^ wanted))
+
+    def test_options(self):
+        """An option leaves its calls and their code out of the library, and a program that doesn't need them boots."""
+        whole = self.symbols("all parts")
+        for part, (absent, present) in OPTIONS.items():
+            shutil.rmtree(f"{self.folder}/build")
+            names = self.symbols(f"without {part}", f"-DBOOTSWAP_{part}=OFF")
+            faults = [f"{absent} is there"] * (absent in names) + [f"{present} isn't there"] * (present not in names)
+            faults += [f"{len(names)} functions, of {len(whole)}"] * (len(whole) - len(names) < 10)
+            self.case(f"without {part}: its calls", faults + [f"{it} is new" for it in sorted(names - whole)])
+            self.boots(f"without {part}: it boots", LIVES if part == "SIMULATION" else BOOTS)
+
+    def symbols(self, name, *words):
+        """Builds a project, and returns the functions in its library."""
+        found = f'add_subdirectory("{self.library}" bootswap)'
+        parts = [re.match(r"-DBOOTSWAP_(\w+)=OFF", it)[1] for it in words]
+        found += "".join(f"\nadd_definitions(-DBOOTSWAP_WITHOUT_{it})" for it in parts)
+        self.build(name, self.project(found), "-DCMAKE_BUILD_TYPE=MinSizeRel", *words)
+        rows = [it.split() for it in ran(["nm", "--format=posix", f"{self.folder}/build/bootswap/libbootswap.a"])[1].decode().splitlines()]
+        # A compiler names the parts and copies of a function that it makes.
+        return {re.sub(r"\..*", "", it[0]) for it in rows if len(it) > 1 and it[1] in "tT"}
+
+    def test_version(self):
+        """The file of CMake has no version: it is the header's."""
+        text = read(f"{self.library}/CMakeLists.txt").decode()
+        self.case("no version", [version()] * (version() in text))
+
+
+@needs_cmake
+class CMakeCortexMTest(example.CortexMExampleTest):
+    """The example of docs/PORTING.md, built by CMake with a toolchain file."""
+
+    def build_example(self):
+        """Builds the example, and returns the command that runs the machine."""
+        words = ["-B", "build", f"-DBOOTSWAP={self.clone}", "-DCMAKE_TOOLCHAIN_FILE=cortex_m4.cmake"]
+        for it in (words, ["--build", "build"]):
+            faults, output = ran(["cmake", *it], cwd=self.empty)
+            self.case(f"it is made: cmake {it[0]}", faults or [short(output)] * (b"arning" in output or b"dropped" in output))
+        self.made = f"{self.empty}/build"
+        return ["cmake", "--build", "build", "--target", "run"]
