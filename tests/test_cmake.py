@@ -130,7 +130,8 @@ class CMakeTest(CaseTest):
         parts = [re.match(r"-DBOOTSWAP_(\w+)=OFF", it)[1] for it in words]
         found += "".join(f"\nadd_definitions(-DBOOTSWAP_WITHOUT_{it})" for it in parts)
         self.build(name, self.project(found), "-DCMAKE_BUILD_TYPE=MinSizeRel", *words)
-        rows = [it.split() for it in ran(["nm", "--format=posix", f"{self.folder}/build/bootswap/libbootswap.a"])[1].decode().splitlines()]
+        _, output = ran(["nm", "--format=posix", f"{self.folder}/build/bootswap/libbootswap.a"])
+        rows = [it.split() for it in output.decode().splitlines()]
         # A compiler names the parts and copies of a function that it makes.
         return {re.sub(r"\..*", "", it[0]) for it in rows if len(it) > 1 and it[1] in "tT"}
 

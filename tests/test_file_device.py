@@ -37,6 +37,9 @@ LIMIT = 20
 class FileDeviceTest(CaseTest):
     processor, most_kills = HERE, 1000
 
+    # The environment in which the program runs.
+    preloaded = os.environ
+
     @classmethod
     def setUpClass(cls):
         # The flash is in memory, where that is a folder: each of its writes waits for the disk.
@@ -44,7 +47,13 @@ class FileDeviceTest(CaseTest):
         cls.folder, place = (tempfile.mkdtemp(prefix="bootswap-device-", dir=it) for it in (None, memory))
         for folder in (cls.folder, place):
             cls.addClassCleanup(shutil.rmtree, folder, ignore_errors=True)
-        cls.program, cls.flash = f"{cls.folder}/device", f"{place}/flash"
+        cls.flash = f"{place}/flash"
+        cls.build()
+
+    @classmethod
+    def build(cls):
+        """Builds the program of the device, whose power fails as tests/power.c says."""
+        cls.program = f"{cls.folder}/device"
         files = [f"{ROOT}/{name}.c" for name in ("bindings/c/file_device", "bindings/c/driver", "tests/power")]
         faults = cls.processor.compiled([*STRICT, "-O1", *INCLUDE, *files, cls.processor.archive(), "-o", cls.program])
         if faults:
@@ -52,7 +61,7 @@ class FileDeviceTest(CaseTest):
 
     def run_device(self, *commands, at=None, leaves="nothing"):
         """A power-up: how the run ends, and what it prints. Power fails in write `at`, which leaves what `leaves` says."""
-        environment = {**os.environ, "POWER_AT": str(at), "POWER_LEAVES": leaves} if at else os.environ
+        environment = {**self.preloaded, "POWER_AT": str(at), "POWER_LEAVES": leaves} if at else self.preloaded
         streams = {"stdin": subprocess.DEVNULL, "stdout": subprocess.PIPE, "stderr": subprocess.STDOUT, "text": True}
         words = [*self.processor.runner, self.program, self.flash, *commands]
         done = subprocess.run(words, env=environment, timeout=LIMIT, **streams)

@@ -1,0 +1,318 @@
+"""The crate of bindings/rust: its tests, its lints and its documents, a device whose process is killed, and other targets."""
+
+import os
+import re
+import shutil
+import tempfile
+import unittest
+
+import test_file_device as device_in_c
+import test_header as header
+from support.compiled import needs_compiler, preloaded
+from support.driven import INCLUDE
+from support.files import EXAMPLES, ROOT, read
+from support.libraries import TARGET, archive_for, c_folder, ran
+from support.processors import HERE
+from support.program import CaseTest, short
+
+CRATE = f"{ROOT}/bindings/rust"
+
+# Targets without an operating system: the compiler that build.rs takes, and what `file` says of an object for it.
+BARE_TARGETS = {
+    "thumbv6m-none-eabi": "arm-none-eabi-",
+    "thumbv7m-none-eabi": "arm-none-eabi-",
+    "thumbv7em-none-eabi": "arm-none-eabi-",
+    "thumbv7em-none-eabihf": "arm-none-eabi-",
+    "thumbv8m.main-none-eabi": "arm-none-eabi-",
+    "riscv32imac-unknown-none-elf": "riscv64-unknown-elf-",
+}
+
+# What a C compiler's helpers are called, which Rust's compiler_builtins has too.
+HELPERS = re.compile(r"__aeabi_\w+|__(u?div|u?mod|ashl|ashr|lshr|mul)[ds]i3|__c[lt]z[ds]i2|__popcount[ds]i2")
+
+needs_cargo = unittest.skipUnless(shutil.which("cargo") and shutil.which("rustc"), "there is no cargo")
+
+# A project that takes the crate, and boots a device in memory.
+MANIFEST = """[package]
+name = "empty"
+version = "0.1.0"
+edition = "2021"
+
+[dependencies]
+bootswap = {{ path = "{crate}"{features} }}
+
+[workspace]
+"""
+# What plays the part and the applications of docs/PORTING.md, as examples/cortex_m does: version 1 takes an upload of version 2.
+PLAYED = """
+fn image(major: u8) -> Vec<u8> {
+    let version = bootswap::Version::new(major, 0, 0);
+    let parts = bootswap::ImageParts { version, header_size: 512, ..bootswap::ImageParts::default() };
+    let mut bytes = vec![0; 10_000];
+    let length = bootswap::make_image(&parts, &[major; 5000], &mut bytes).unwrap();
+    bytes.truncate(length);
+    bytes
+}
+
+fn main() {
+    let (mut flash, old, new) = (vec![0xff; SETUP.map_length()], image(1), image(2));
+    flash[..old.len()].copy_from_slice(&old);
+    let mut start = |file: Option<&[u8]>| {
+        let table = boot(bootswap::MemoryFlash::<4096>(&mut flash)).unwrap();
+        let resets = work(bootswap::MemoryFlash::<4096>(&mut flash), file).unwrap();
+        println!("vectors {}, version {}, resets {}", table, flash[20], resets);
+    };
+    start(Some(&new));
+    start(None);
+    start(None);
+}
+"""
+PLAYS = b"".join(b"vectors 512, version %d, resets %s\n" % it for it in ((1, b"true"), (2, b"false"), (2, b"false")))
+
+# The traits of the crate embedded-storage 0.3, which can't be fetched by an offline cargo, and a flash that has them.
+EMBEDDED_STORAGE = """
+mod embedded_storage {
+    pub mod nor_flash {
+        pub trait ErrorType {
+            type Error: core::fmt::Debug;
+        }
+        pub trait ReadNorFlash: ErrorType {
+            const READ_SIZE: usize;
+            fn read(&mut self, offset: u32, bytes: &mut [u8]) -> Result<(), Self::Error>;
+            fn capacity(&self) -> usize;
+        }
+        pub trait NorFlash: ReadNorFlash {
+            const WRITE_SIZE: usize;
+            const ERASE_SIZE: usize;
+            fn erase(&mut self, from: u32, to: u32) -> Result<(), Self::Error>;
+            fn write(&mut self, offset: u32, bytes: &[u8]) -> Result<(), Self::Error>;
+        }
+    }
+}
+
+fn is_flash<F: bootswap::NorFlash>() {}
+
+pub fn adapts<F: embedded_storage::nor_flash::NorFlash>() {
+    is_flash::<Adapter<F>>()
+}
+
+fn main() {
+    println!("it adapts");
+}
+"""
+
+MAIN = """use bootswap::{Decision, Device, Memory, MemoryFlash, Setup};
+
+const SETUP: Setup = Setup::new(512, &[2], 1);
+
+fn main() {
+    let file = std::fs::read(std::env::args().nth(1).unwrap()).unwrap();
+    let (mut flash, mut journal) = ([0xff; SETUP.map_length()], [0; SETUP.boot_journal_length()]);
+    flash[..file.len()].copy_from_slice(&file);
+    let part = MemoryFlash::<512>(&mut flash);
+    let mut device = Device::open(SETUP, part, Memory::mapped(), &mut journal).unwrap();
+    device.provision().unwrap();
+    let boot = device.boot().unwrap();
+    assert_eq!(boot.decision(), Decision::Plain);
+    println!("runs {}", boot.versions()[0]);
+}
+"""
+
+
+def copied(folder):
+    """Copies the crate, and the library as one file of C, to the folders `crate` and `c` of a folder. Returns the environment in
+    which an offline cargo builds the crate over them."""
+    shutil.copytree(CRATE, f"{folder}/crate", ignore=shutil.ignore_patterns("target", "Cargo.lock"))
+    c_folder(f"{folder}/c")
+    environment = {**os.environ, "CARGO_TARGET_DIR": f"{folder}/target", "CARGO_NET_OFFLINE": "true"}
+    return {**environment, "BOOTSWAP_C": f"{folder}/c", "RUSTDOCFLAGS": "-D warnings", "CARGO_TERM_COLOR": "never"}
+
+
+@needs_compiler
+@needs_cargo
+class RustTest(CaseTest):
+    @classmethod
+    def setUpClass(cls):
+        cls.folder = tempfile.mkdtemp(prefix="bootswap-rust-")
+        cls.addClassCleanup(shutil.rmtree, cls.folder, ignore_errors=True)
+        cls.environment, cls.crate = copied(cls.folder), f"{cls.folder}/crate"
+
+    def cargo(self, *words, cwd=None, **variables):
+        """Runs cargo, and returns what is wrong and what it printed."""
+        return ran(["cargo", *words], cwd=cwd or self.crate, env={**self.environment, **variables})
+
+    def test_cargo(self):
+        """The crate's tests and the examples of its documents pass, and no tool has a warning."""
+        faults, output = self.cargo("test")
+        passed = [int(it) for it in re.findall(rb"test result: ok. (\d+) passed", output)]
+        self.case("cargo test", faults + [short(output)] * (len(passed) < 4 or sum(passed) < 20))
+        self.case("cargo test: no warning", [short(output)] * (b"warning" in output))
+        faults, output = self.cargo("doc")
+        self.case("cargo doc", faults + [short(output)] * (b"warning" in output))
+        faults, output = self.cargo("package", "--list", "--allow-dirty")
+        wanted = {"README.md", "build.rs", "src/lib.rs", "tests/header.rs", "examples/file_device.rs"}
+        self.case("cargo package", faults + sorted(wanted - {*output.decode().split()}))
+
+    @unittest.skipUnless(shutil.which("cargo-clippy"), "there is no clippy")
+    def test_clippy(self):
+        self.case("cargo clippy", self.cargo("clippy", "--all-targets", "--", "-D", "warnings")[0])
+
+    @unittest.skipUnless(shutil.which("rustfmt"), "there is no rustfmt")
+    def test_format(self):
+        self.case("cargo fmt", self.cargo("fmt", "--check")[0])
+
+    def test_empty_project(self):
+        """An empty project that takes the crate boots a device, also over the archive of `bindings/build`."""
+        archives = f"{self.folder}/archives"
+        os.makedirs(archives)
+        shutil.copy(archive_for(TARGET), f"{archives}/libbootswap.a")
+        for name, features in (("one file of C", ""), ("prebuilt", ', features = ["prebuilt"]')):
+            image = f"{EXAMPLES}/images/one.img"
+            faults, output = self.run_project(name, features, MAIN, image, BOOTSWAP_LIB=archives)
+            self.case(name, faults or [short(output)] * (output != b"runs 1.0.0+0\n"))
+
+    def test_porting(self):
+        """The loader and the application of docs/PORTING.md upgrade a device."""
+        shown = re.search(r"^```rust\n(.*?)^```$", read(f"{ROOT}/docs/PORTING.md").decode(), re.MULTILINE | re.DOTALL)[1]
+        faults, output = self.run_project("porting", "", shown + PLAYED)
+        self.case("docs/PORTING.md", faults or [short(output)] * (output != PLAYS))
+
+    def test_adapter(self):
+        """The adapter of the README makes a flash of embedded-storage's trait one of this crate."""
+        shown = re.search(r"^```rust,ignore\n(.*?)^```$", read(f"{CRATE}/README.md").decode(), re.MULTILINE | re.DOTALL)[1]
+        faults, output = self.run_project("adapter", "", shown + EMBEDDED_STORAGE, RUSTFLAGS="-A dead_code")
+        self.case("the adapter", faults or [short(output)] * (output != b"it adapts\n"))
+
+    def run_project(self, name, features, main, *words, **variables):
+        """Makes an empty project that takes the crate, and runs its program."""
+        project = f"{self.folder}/{name}"
+        os.makedirs(f"{project}/src")
+        for file, text in (("Cargo.toml", MANIFEST.format(crate=self.crate, features=features)), ("src/main.rs", main)):
+            with open(f"{project}/{file}", "w", encoding="utf-8") as it:
+                it.write(text)
+        return self.cargo("run", "--quiet", "--", *words, cwd=project, **variables)
+
+    def test_without_library(self):
+        """Without the file of C the build says what makes it."""
+        _, output = self.cargo("check", BOOTSWAP_C=f"{self.folder}/nowhere")
+        said = f"bootswap: there is no {self.folder}/nowhere/bootswap.c: `bindings/build --c` makes it".encode()
+        self.case("it is named", [short(output)] * (said not in output))
+
+    def test_bare_targets(self):
+        """build.rs compiles the file of C for processors without an operating system. It calls nothing but functions of memory
+        and helpers of arithmetic."""
+        program = f"{self.folder}/build"
+        self.case("build.rs compiles", ran(["rustc", "--edition=2021", f"{self.crate}/build.rs", "-o", program])[0])
+        for target, prefix in BARE_TARGETS.items():
+            with self.subTest(target):
+                if not shutil.which(f"{prefix}gcc"):
+                    self.skipTest(f"not installed: {prefix}gcc")
+                out = f"{self.folder}/{target}"
+                os.mkdir(out)
+                variables = {"OUT_DIR": out, "TARGET": target, "OPT_LEVEL": "s", "CARGO_CFG_TARGET_OS": "none"}
+                faults, output = ran([program], env={**self.environment, **variables, "CARGO_MANIFEST_DIR": self.crate})
+                self.assertEqual(faults, [])
+                self.assertNotIn(b"warning", output)
+                names = ran([f"{prefix}nm", "--format=posix", f"{out}/libbootswap.a"])[1].decode().splitlines()
+                called = {it.split()[0] for it in names if it.split()[1:2] == ["U"]}
+                others = {it for it in called - {"memcpy", "memmove", "memset"} if not HELPERS.fullmatch(it)}
+                self.assertEqual(others, set())
+
+
+@needs_compiler
+class LayoutTest(CaseTest):
+    """The structs and calls of src/sys.rs are those of the header."""
+
+    def setUp(self):
+        self.text = read(f"{CRATE}/src/sys.rs").decode()
+
+    def test_structs(self):
+        structs, wanted = self.structs(), header.structs_of_c()
+        names = {"saved_state": "SavedState", "result": "CallResult", "image_parts": "ImageParts", "sha256": "Sha256"}
+        for name in ("setup", "saved_state", "version", "dependency", "refusal", "result", "component", "manifest", "group",
+                     "description", "image_parts", "state", "sha256"):
+            found = header.rows_of(structs[names.get(name, name.capitalize())])
+            self.case(name, [str(found)] * (found != header.rows_of(wanted[name])))
+
+    def structs(self):
+        """Returns the fields of each struct by its name, as tests/test_header.py has those of C."""
+        lengths = dict(re.findall(r"^pub const (\w+): usize = (\d+);", self.text, re.MULTILINE))
+        bodies = dict(re.findall(r"^#\[repr\(C\)\]\n(?:#.*\n)*pub struct (\w+) \{\n((?: .*\n)*)\}", self.text, re.MULTILINE))
+
+        def kind_of(name):
+            array = re.fullmatch(r"\[(\w+); (\w+)\]", name)
+            if array:
+                return kind_of(array[1]), int(lengths.get(array[2], array[2]))
+            return header.NUMBERS.get(name) or fields_of(name)
+
+        def fields_of(struct):
+            fields = re.findall(r"^    pub(?:\(crate\))? (\w+): (.+),$", bodies[struct], re.MULTILINE)
+            return [(name, kind_of(kind)) for name, kind in fields]
+
+        return {name: fields_of(name) for name in bodies}
+
+    def test_calls(self):
+        """Each call of bootswap.h has the same arguments in the same order."""
+        found = {name: (self.kinds(words), result) for name, words, result in
+                 re.findall(r"^    pub fn (\w+)\((.*?)\)(?: -> (\w+))?;$", self.text, re.MULTILINE | re.DOTALL)}
+        prototype = re.compile(r"^(\w+) (bootswap_\w+)\(([^()]*)\);", re.MULTILINE | re.DOTALL)
+        wanted = {name: (self.kinds_of_c(words), "" if result == "void" else "u32") for result, name, words in
+                  prototype.findall(read(f"{ROOT}/include/bootswap.h").decode())}
+        self.case("the calls", sorted({*found} ^ {*wanted}))
+        for name, call in wanted.items():
+            self.case(name, [f"{found.get(name)}, and not {call}"] * (found.get(name) != call))
+
+    @staticmethod
+    def kinds(words):
+        """Returns the name of each argument in Rust, and whether it is a pointer, to a constant, and to what."""
+        rows = re.findall(r"(\w+): (?:\*(const|mut) )?(\w+)", words)
+        return [(name, how, kind.lower()) for name, how, kind in rows]
+
+    @staticmethod
+    def kinds_of_c(words):
+        """Returns the same of arguments in C."""
+        numbers = {"uint8_t": "u8", "char": "u8", "uint32_t": "u32", "uint64_t": "u64", "size_t": "usize", "result": "callresult"}
+        rows = re.findall(r"(const )?(?:struct bootswap_)?(\w+) (\*?)(\w+)(?:,|$)", words)
+        return [(name, (const.strip() or "mut") if star else "", numbers.get(kind, kind.replace("_", "")))
+                for const, kind, star, name in rows]
+
+
+@needs_compiler
+@needs_cargo
+class RustFileDeviceTest(device_in_c.FileDeviceTest):
+    """The example of a device over a file, whose process is killed: it prints what that in C prints."""
+
+    most_kills = 300
+
+    @classmethod
+    def build(cls):
+        words, environment = ["build", "--quiet", "--release", "--example", "file_device"], copied(cls.folder)
+        faults, _ = ran(["cargo", *words], cwd=f"{cls.folder}/crate", env=environment)
+        if faults:
+            raise AssertionError(f"file_device.rs compiles: {faults[0]}")
+        cls.program, cls.preloaded = f"{cls.folder}/target/release/examples/file_device", preloaded(cls, "power")
+
+    def test_same_writes(self):
+        """The flash has the same bytes as that of the device in C after each step, and each boot makes the same number of
+        writes."""
+        in_c = f"{self.folder}/device_in_c"
+        files = [f"{ROOT}/{name}.c" for name in ("bindings/c/file_device", "bindings/c/driver", "tests/power")]
+        faults = HERE.compiled(["-O1", *INCLUDE, *files, f"{self.folder}/c/bootswap.c", "-o", in_c])
+        self.case("file_device.c compiles", faults)
+        one, needing, partner = device_in_c.ONE, device_in_c.NEEDING, device_in_c.PARTNER
+        steps = [("provision", one, one), ("boot",), ("boot", "upload", needing, partner), ("boot",), ("boot",)]
+        for commands in (*steps, ("boot", "upload", needing, partner), ("boot",), ("boot", "confirm")):
+            before = read(self.flash) if os.path.exists(self.flash) else b""
+            found = [self.step(program, before, commands) for program in (in_c, type(self).program)]
+            shown = [str([(ran_so, count) for ran_so, _, count in found])]
+            self.case(f"the same writes: {' '.join(map(os.path.basename, commands))}", shown * (found[0] != found[1]))
+
+    def step(self, program, before, commands):
+        """Runs commands on a flash of these bytes. Returns how that ends, the bytes then, and the number of writes of a boot
+        that upgrades or reverts."""
+        self.program = program
+        self.put(before)
+        ran_so, after = self.run_device(*commands), read(self.flash)
+        count = self.writes(before) if commands == ("boot",) and before != after else 0
+        self.put(after)
+        return ran_so, after, count
