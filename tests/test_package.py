@@ -11,7 +11,7 @@ import tempfile
 import time
 import unittest
 
-from support.built_clone import LIBRARIES, BuiltCloneTest
+from support.built_clone import LIBRARIES, BuiltCloneTest, places_below
 from support.compiled import needs_compiler
 from support.files import ROOT, read
 from support.libraries import ARM_TARGET, archive_for, c_folder, manifest_archive_for, ran
@@ -38,6 +38,9 @@ ARCHIVES = (
     f"libbootswap-{version()}-aarch64-linux.tar.xz",
     f"bootswap-{version()}-c.tar.xz",
 )
+
+# The crate for Rust, if there is a cargo.
+CRATE = (f"bootswap-{version()}.crate",) * bool(shutil.which("cargo"))
 
 # Some files of each package, the others being examples and documents.
 FILES = {
@@ -185,8 +188,9 @@ class PackedTest(BuiltCloneTest):
 
     def package(self):
         """Makes the packages."""
-        said = "".join(f"out/packages/{it}\n" for it in (*DEBIAN, *ARCHIVES, "SHA256SUMS")).encode()
-        self.expect_tool("the packages are made", "package", said=said, env=self.environment)
+        said = "".join(f"out/packages/{it}\n" for it in (*DEBIAN, *ARCHIVES, *CRATE, "SHA256SUMS")).encode()
+        left_out = f"package: bootswap-{version()}.crate is left out: there is no cargo\n".encode() * (not CRATE)
+        self.expect_tool("the packages are made", "package", said=said + left_out, env=self.environment)
 
 
 class PackageTest(PackedTest):
@@ -274,6 +278,37 @@ class PackageTest(PackedTest):
         faults, _ = ran(["cc", *words], cwd=self.folder)
         self.case("the file of C and the driver compile", faults)
 
+    @unittest.skipUnless(shutil.which("cmake"), "there is no cmake")
+    def test_c_archive(self):
+        """The archive of the file of C is enough for CMake. A Cortex-M's example is built in it. It has the digests of its
+        files."""
+        self.package()
+        ran(["tar", "--extract", "--file", f"{self.made}/{ARCHIVES[2]}"], cwd=self.folder)
+        top = f"{self.folder}/{ARCHIVES[2].removesuffix('.tar.xz')}"
+        faults, output = ran(["sha256sum", "--check", "--strict", "SHA256SUMS"], cwd=top)
+        listed = {it.rpartition(": ")[0] for it in output.decode().splitlines()} | {"SHA256SUMS"}
+        self.case("the checksums", faults + sorted(listed ^ places_below(top)))
+        builds = {"the library": (top, [])}
+        if shutil.which("arm-none-eabi-gcc"):
+            builds["the example"] = f"{top}/examples/cortex_m", ["-DCMAKE_TOOLCHAIN_FILE=cortex_m4.cmake"]
+        for name, (folder, words) in builds.items():
+            for it in (["-B", "build", *words], ["--build", "build"]):
+                faults, output = ran(["cmake", *it], cwd=folder)
+                self.case(f"{name}: cmake {it[0]}", faults or [short(output)] * (b"arning" in output))
+
+    @unittest.skipUnless(CRATE and shutil.which("rustc"), "there is no cargo")
+    def test_crate(self):
+        """The crate has the file of C, and passes its own tests."""
+        self.package()
+        faults, _ = ran(["tar", "--extract", "--file", f"{self.made}/{CRATE[0]}"], cwd=self.folder)
+        top = f"{self.folder}/bootswap-{version()}"
+        first = read(f"{top}/c/bootswap.c").decode().splitlines()[1]
+        self.case("it names the commit", faults + [first] * (f", commit {COMMIT[:12]}: " not in first))
+        self.case("it has a licence", [] if read(f"{top}/LICENSE") == read(f"{ROOT}/LICENSE") else ["it differs"])
+        environment = {name: it for name, it in os.environ.items() if name != "BOOTSWAP_C"}
+        environment.update(CARGO_TARGET_DIR=f"{self.folder}/target", CARGO_NET_OFFLINE="true")
+        self.case("its tests", ran(["cargo", "test", "--quiet"], cwd=top, env=environment)[0])
+
     def test_hardened(self):
         """What the C compiler makes of the shared library checks the stack and the lengths of copies, and has no table of
         calls that can be written."""
@@ -332,11 +367,13 @@ class PackageTest(PackedTest):
         lines.append(f"package: {ARCHIVES[1]} is left out: out/{ARM_TARGET}/libbootswap.a isn't built: "
                      f"run bindings/build --target {ARM_TARGET}")
         lines.append(f"package: {ARCHIVES[2]} is left out: out/c/bootswap.c isn't built: run bindings/build --c")
+        why = "out/c/bootswap.c isn't built: run bindings/build --c" if CRATE else "there is no cargo"
+        lines.append(f"package: bootswap-{version()}.crate is left out: {why}")
         self.case("it says so", [said.decode()] * (status != 0 or sorted(said.decode().splitlines()) != sorted(lines)))
         faults, output = ran(["sha256sum", "--check", "--strict", "SHA256SUMS"], cwd=self.made)
         faults += [output.decode()] * (len(output.splitlines()) != len(DEBIAN) + 1)
         self.case("the checksums", faults)
-        self.case("no older archive", [it for it in ARCHIVES[1:] if os.path.exists(f"{self.made}/{it}")])
+        self.case("no older archive", [it for it in (*ARCHIVES[1:], *CRATE) if os.path.exists(f"{self.made}/{it}")])
 
     def test_nothing_to_try(self):
         """Without packages nothing is tried, and no system is made."""

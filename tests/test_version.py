@@ -25,6 +25,7 @@ PLACES = [
     ("crates/command_line/src/commands.rt", 'pub const VERSION: &str = "', '";'),
     ("crates/command_line/src/commands.rt", 'const VERSION_AND_COMMIT: &str = "', f' ({UNKNOWN})";'),
     ("crates/bootswap_core/stdout", "bootswap ", f" ({UNKNOWN})\n"),
+    ("bindings/rust/Cargo.toml", '\nversion = "', '"\n'),
     ("docs/TUTORIAL.md", "$ ./bootswap --version\nbootswap ", f" ({COMMIT[:12]})\n"),
 ]
 

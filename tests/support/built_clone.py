@@ -12,7 +12,7 @@ from support.program import ProgramTest, short
 from installing import share
 
 # What the tools need of a clone beside out/.
-NEEDED = ("bindings", "docs", "examples", "include", "tools")
+NEEDED = ("bindings", "board", "docs", "examples", "include", "tools")
 
 # Prints the stamp of the program of a clone, as its build writes it.
 STAMP = """
@@ -38,7 +38,7 @@ class BuiltCloneTest(ProgramTest):
         super().setUp()
         self.clone = f"{self.folder}/clone"
         for name in NEEDED:
-            shutil.copytree(f"{ROOT}/{name}", f"{self.clone}/{name}", ignore=shutil.ignore_patterns("__pycache__"))
+            shutil.copytree(f"{ROOT}/{name}", f"{self.clone}/{name}", ignore=shutil.ignore_patterns("__pycache__", "target", "Cargo.lock"))
         for name in ("LICENSE", "README.md", "CHANGELOG.md"):
             shutil.copy(f"{ROOT}/{name}", self.clone)
         os.mkdir(f"{self.clone}/out")
