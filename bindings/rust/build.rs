@@ -18,51 +18,19 @@ use std::process::{exit, Command};
 /// Targets without an operating system: what their names begin with, the prefix of the compiler's
 /// programs, and its arguments. The first one that fits counts.
 const BARE: &[(&str, &str, &str)] = &[
-    (
-        "thumbv6m-",
-        "arm-none-eabi-",
-        "-mthumb -march=armv6s-m -mfloat-abi=soft",
-    ),
-    (
-        "thumbv7m-",
-        "arm-none-eabi-",
-        "-mthumb -march=armv7-m -mfloat-abi=soft",
-    ),
-    (
-        "thumbv7em-none-eabihf",
-        "arm-none-eabi-",
-        "-mthumb -march=armv7e-m+fp -mfloat-abi=hard",
-    ),
-    (
-        "thumbv7em-",
-        "arm-none-eabi-",
-        "-mthumb -march=armv7e-m -mfloat-abi=soft",
-    ),
-    (
-        "thumbv8m.base-",
-        "arm-none-eabi-",
-        "-mthumb -march=armv8-m.base -mfloat-abi=soft",
-    ),
+    ("thumbv6m-", "arm-none-eabi-", "-mthumb -march=armv6s-m -mfloat-abi=soft"),
+    ("thumbv7m-", "arm-none-eabi-", "-mthumb -march=armv7-m -mfloat-abi=soft"),
+    ("thumbv7em-none-eabihf", "arm-none-eabi-", "-mthumb -march=armv7e-m+fp -mfloat-abi=hard"),
+    ("thumbv7em-", "arm-none-eabi-", "-mthumb -march=armv7e-m -mfloat-abi=soft"),
+    ("thumbv8m.base-", "arm-none-eabi-", "-mthumb -march=armv8-m.base -mfloat-abi=soft"),
     (
         "thumbv8m.main-none-eabihf",
         "arm-none-eabi-",
         "-mthumb -march=armv8-m.main+fp -mfloat-abi=hard",
     ),
-    (
-        "thumbv8m.main-",
-        "arm-none-eabi-",
-        "-mthumb -march=armv8-m.main -mfloat-abi=soft",
-    ),
-    (
-        "riscv32imac-",
-        "riscv64-unknown-elf-",
-        "-march=rv32imac -mabi=ilp32",
-    ),
-    (
-        "riscv32imc-",
-        "riscv64-unknown-elf-",
-        "-march=rv32imc -mabi=ilp32",
-    ),
+    ("thumbv8m.main-", "arm-none-eabi-", "-mthumb -march=armv8-m.main -mfloat-abi=soft"),
+    ("riscv32imac-", "riscv64-unknown-elf-", "-march=rv32imac -mabi=ilp32"),
+    ("riscv32imc-", "riscv64-unknown-elf-", "-march=rv32imc -mabi=ilp32"),
 ];
 
 /// What `bootswap.c` calls, for a compiler that comes without a C library.
@@ -80,10 +48,7 @@ fn main() {
     if env::var_os("CARGO_FEATURE_PREBUILT").is_some() {
         let folder =
             named("BOOTSWAP_LIB").map_or_else(|| crate_folder.join("../../out"), PathBuf::from);
-        must_have(
-            &folder.join("libbootswap.a"),
-            "BOOTSWAP_LIB names the folder of the archive",
-        );
+        must_have(&folder.join("libbootswap.a"), "BOOTSWAP_LIB names the folder of the archive");
         println!("cargo:rustc-link-search=native={}", folder.display());
     } else {
         let folder = sources(&crate_folder);
@@ -116,15 +81,12 @@ fn c_folder(crate_folder: &Path) -> PathBuf {
 fn sources(crate_folder: &Path) -> PathBuf {
     let folder = c_folder(crate_folder);
     let file = folder.join("bootswap.c");
-    must_have(
-        &file,
-        "`bindings/build --c` makes it, and BOOTSWAP_C names its folder",
-    );
+    must_have(&file, "`bindings/build --c` makes it, and BOOTSWAP_C names its folder");
     println!("cargo:rerun-if-changed={}", folder.display());
     folder
 }
 
-/// Compiles `bootswap.c` to an archive in the folder `out`. It has no calls of simulators.
+/// Compiles `bootswap.c` to an archive in the folder `out`.
 fn compile(folder: &Path, out: &Path) {
     let target = required("TARGET");
     let bare = BARE.iter().find(|it| target.starts_with(it.0));
@@ -133,8 +95,19 @@ fn compile(folder: &Path, out: &Path) {
         Some(_) => format!("{}gcc", prefix),
         None => String::from("cc"),
     });
-    let mut words: Vec<String> = vec![String::from("-std=c11")];
-    words.push(optimization());
+    let (file, object) = (folder.join("bootswap.c"), out.join("bootswap.o"));
+    let mut command = Command::new(compiler);
+    command.args(arguments(out)).args(bare.map_or("", |it| it.2).split_whitespace());
+    command.args(of_target("CFLAGS").unwrap_or_default().split_whitespace());
+    run(command.arg("-c").arg(file).arg("-o").arg(&object));
+    let archiver = of_target("AR").unwrap_or_else(|| format!("{}ar", prefix));
+    run(Command::new(archiver).arg("crs").arg(out.join("libbootswap.a")).arg(&object));
+}
+
+/// Returns the arguments of the compiler for all targets, and for those without an operating
+/// system. The calls of simulators are left out.
+fn arguments(out: &Path) -> Vec<String> {
+    let mut words = vec![String::from("-std=c11"), optimization()];
     words.extend(["-ffunction-sections", "-fdata-sections"].map(String::from));
     words.push(String::from("-DBOOTSWAP_WITHOUT_SIMULATION"));
     if required("CARGO_CFG_TARGET_OS") == "none" {
@@ -144,29 +117,7 @@ fn compile(folder: &Path, out: &Path) {
     } else {
         words.push(String::from("-fPIC"));
     }
-    words.extend(
-        bare.map_or("", |it| it.2)
-            .split_whitespace()
-            .map(String::from),
-    );
-    words.extend(
-        of_target("CFLAGS")
-            .unwrap_or_default()
-            .split_whitespace()
-            .map(String::from),
-    );
-    let object = out.join("bootswap.o");
-    run(Command::new(&compiler)
-        .args(&words)
-        .arg("-c")
-        .arg(folder.join("bootswap.c"))
-        .arg("-o")
-        .arg(&object));
-    let archiver = of_target("AR").unwrap_or_else(|| format!("{}ar", prefix));
-    run(Command::new(archiver)
-        .arg("crs")
-        .arg(out.join("libbootswap.a"))
-        .arg(&object));
+    words
 }
 
 /// Returns how the file is optimized: as the crate is, but always a little. Without it the calls
@@ -183,9 +134,7 @@ fn optimization() -> String {
 fn of_target(name: &str) -> Option<String> {
     let target = required("TARGET");
     let own = [target.clone(), target.replace(['-', '.'], "_")];
-    own.iter()
-        .find_map(|it| named(&format!("{}_{}", name, it)))
-        .or_else(|| named(name))
+    own.iter().find_map(|it| named(&format!("{}_{}", name, it))).or_else(|| named(name))
 }
 
 /// Returns a variable of the environment. If it changes, this program runs again.
@@ -215,10 +164,9 @@ fn run(command: &mut Command) {
     match command.status() {
         Ok(status) if status.success() => {}
         Ok(status) => stop(&format!("{:?} ended with {}", command, status)),
-        Err(error) => stop(&format!(
-            "{:?} didn't run: {}. CC names the C compiler",
-            command, error
-        )),
+        Err(error) => {
+            stop(&format!("{:?} didn't run: {}. CC names the C compiler", command, error))
+        }
     }
 }
 

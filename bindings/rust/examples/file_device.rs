@@ -51,9 +51,7 @@ impl NorFlash for FileFlash {
     }
 
     fn erase(&mut self, from: u32, to: u32) -> io::Result<()> {
-        (from..to)
-            .step_by(SECTOR)
-            .try_for_each(|at| self.write(at, &[0xff; SECTOR]))
+        (from..to).step_by(SECTOR).try_for_each(|at| self.write(at, &[0xff; SECTOR]))
     }
 
     fn write(&mut self, offset: u32, bytes: &[u8]) -> io::Result<()> {
@@ -77,13 +75,7 @@ fn must<T>(what: &str, result: Result<T, Error<io::Error>>) -> T {
             Error::Refused(fault) => (fault.number(), fault.detail()),
             _ => (0, 0),
         };
-        eprintln!(
-            "{}: {} (fault {}, detail {})",
-            what,
-            error.number(),
-            fault,
-            detail
-        );
+        eprintln!("{}: {} (fault {}, detail {})", what, error.number(), fault, detail);
         exit(1)
     })
 }
@@ -93,17 +85,9 @@ fn load(name: &str) -> Vec<u8> {
 }
 
 fn open<'a>(name: &str, copy: &'a mut [u8], journal: &'a mut [u8]) -> FileDevice<'a> {
-    let file = OpenOptions::new()
-        .read(true)
-        .write(true)
-        .create(true)
-        .truncate(false)
-        .open(name);
+    let file = OpenOptions::new().read(true).write(true).create(true).truncate(false).open(name);
     let flash = FileFlash(file.unwrap_or_else(|error| stop(name, &error)));
-    must(
-        "open",
-        Device::open(SETUP, flash, Memory::copy(copy), journal),
-    )
+    must("open", Device::open(SETUP, flash, Memory::copy(copy), journal))
 }
 
 /// Writes the images to their primary slots, as at the factory.

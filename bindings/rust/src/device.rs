@@ -206,9 +206,7 @@ impl<'a, F: NorFlash> Device<'a, F> {
     /// [`Error::Refused`] with [`Fault::RunningDamaged`] or [`Fault::RunningInvalid`]: nothing is
     /// written.
     pub fn provision(&mut self) -> Result<(), Error<F::Error>> {
-        self.make(journal::provision(self.setup.images()), |call| {
-            call.provision()
-        })
+        self.make(journal::provision(self.setup.images()), |call| call.provision())
     }
 
     /// Boots, and continues until a boot answers. After a boot that reverts a set it boots once
@@ -271,16 +269,9 @@ impl<'a, F: NorFlash> Device<'a, F> {
         let mut sectors = 0usize;
         for (to, from) in rows.iter_mut().zip(components) {
             *to = from.to_sys();
-            sectors = self
-                .setup
-                .sectors(usize::from(from.image))
-                .saturating_add(sectors);
+            sectors = self.setup.sectors(usize::from(from.image)).saturating_add(sectors);
         }
-        let manifest = sys::Manifest {
-            sequence,
-            count,
-            components: rows,
-        };
+        let manifest = sys::Manifest { sequence, count, components: rows };
         let needed = journal::accept(components.len().min(sys::MAX_IMAGES), sectors);
         self.make(needed, |call| call.accept(&manifest))
     }
@@ -353,13 +344,12 @@ impl<'a, F: NorFlash> Device<'a, F> {
     /// [`SlotError::Image`] if there is no intact image.
     pub fn slot(&self, image: u8, side: Side) -> Result<Description, SlotError> {
         let found = library::slot(&self.setup.0, self.contents(), image, side as u8);
-        found
-            .map(Description)
-            .map_err(|number| match ImageFault::from_number(number) {
-                Some(fault) => SlotError::Image(fault),
-                None => Status::from_number(number)
-                    .map_or(SlotError::Unknown(number), SlotError::NotMade),
-            })
+        found.map(Description).map_err(|number| match ImageFault::from_number(number) {
+            Some(fault) => SlotError::Image(fault),
+            None => {
+                Status::from_number(number).map_or(SlotError::Unknown(number), SlotError::NotMade)
+            }
+        })
     }
 
     fn clear(&mut self) {
@@ -538,9 +528,8 @@ fn error_of<E>(status: u32) -> Error<E> {
 /// them gets further: it counts a step of the swap, records another state, or settles a set. A swap
 /// has three steps for each sector of its slots. A boot makes one swap at most, and five records.
 fn most_attempts(setup: &Setup) -> u64 {
-    let sectors: u64 = (0..setup.images().min(sys::MAX_IMAGES))
-        .map(|it| setup.sectors(it) as u64)
-        .sum();
+    let sectors: u64 =
+        (0..setup.images().min(sys::MAX_IMAGES)).map(|it| setup.sectors(it) as u64).sum();
     3 * sectors + 16
 }
 

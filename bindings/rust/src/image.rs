@@ -157,19 +157,10 @@ impl ImageParts<'_> {
     /// Returns the parts as C has them, or `None` if there are more than C has place for.
     fn to_sys(self) -> Option<sys::ImageParts> {
         let mut dependencies = [Dependency::default(); sys::MAX_DEPENDENCIES];
-        dependencies
-            .get_mut(..self.dependencies.len())?
-            .copy_from_slice(self.dependencies);
-        let no_group = sys::Group {
-            count: 0,
-            alternatives: Default::default(),
-        };
+        dependencies.get_mut(..self.dependencies.len())?.copy_from_slice(self.dependencies);
+        let no_group = sys::Group { count: 0, alternatives: Default::default() };
         let mut groups = [no_group; sys::MAX_GROUPS];
-        for (to, from) in groups
-            .get_mut(..self.groups.len())?
-            .iter_mut()
-            .zip(self.groups)
-        {
+        for (to, from) in groups.get_mut(..self.groups.len())?.iter_mut().zip(self.groups) {
             to.alternatives.get_mut(..from.len())?.copy_from_slice(from);
             to.count = from.len() as u32;
         }

@@ -18,10 +18,7 @@ pub const fn provision(images: usize) -> usize {
 /// Of [`accept`](crate::Device::accept), for this number of components, whose slots have this
 /// number of sectors, one slot for each component.
 pub const fn accept(components: usize, sectors: usize) -> usize {
-    components
-        .saturating_mul(44)
-        .saturating_add(sectors.saturating_mul(12))
-        .saturating_add(120)
+    components.saturating_mul(44).saturating_add(sectors.saturating_mul(12)).saturating_add(120)
 }
 
 /// Of [`piece`](crate::Device::piece), for this number of bytes.
@@ -32,9 +29,7 @@ pub const fn piece(length: usize) -> usize {
 /// The longest step of a swap, with sectors of this length in bytes.
 pub const fn step(sector_size: usize) -> usize {
     let programs = sector_size.saturating_add(255) / 256;
-    sector_size
-        .saturating_add(programs.saturating_mul(12))
-        .saturating_add(32)
+    sector_size.saturating_add(programs.saturating_mul(12)).saturating_add(32)
 }
 
 /// Of [`boot`](crate::Device::boot), for this number of images, and sectors of this length in

@@ -72,13 +72,7 @@ impl Call<'_> {
     }
 
     pub fn piece(&mut self, image: u8, bytes: &[u8]) -> u32 {
-        journal_call!(
-            bootswap_journal_piece,
-            self,
-            image,
-            bytes.as_ptr(),
-            bytes.len()
-        )
+        journal_call!(bootswap_journal_piece, self, image, bytes.as_ptr(), bytes.len())
     }
 
     pub fn finish(&mut self, image: u8) -> u32 {
@@ -116,14 +110,7 @@ pub(crate) fn slot(
     let mut description = sys::Description::ZERO;
     // SAFETY: as in `state`.
     match unsafe {
-        sys::bootswap_slot(
-            setup,
-            flash.as_ptr(),
-            flash.len(),
-            image,
-            side,
-            &mut description,
-        )
+        sys::bootswap_slot(setup, flash.as_ptr(), flash.len(), image, side, &mut description)
     } {
         0 => Ok(description),
         number => Err(number),
@@ -198,13 +185,7 @@ pub(crate) fn check(table: &[u8], report: &[u8]) -> Result<(), TextError> {
     let mut line = 0;
     // SAFETY: as in `state`.
     let status = unsafe {
-        sys::bootswap_check(
-            table.as_ptr(),
-            table.len(),
-            report.as_ptr(),
-            report.len(),
-            &mut line,
-        )
+        sys::bootswap_check(table.as_ptr(), table.len(), report.as_ptr(), report.len(), &mut line)
     };
     match status {
         0 => Ok(()),

@@ -76,10 +76,7 @@ impl Setup {
         }
         let (mut sectors, mut before) = (0usize, 0);
         while before < image {
-            sectors = self
-                .sectors(before)
-                .saturating_add(1)
-                .saturating_add(sectors);
+            sectors = self.sectors(before).saturating_add(1).saturating_add(sectors);
             before += 1;
         }
         Some(self.sector_size().saturating_mul(sectors))
@@ -90,11 +87,8 @@ impl Setup {
     pub const fn map_length(&self) -> usize {
         let (mut sectors, mut image) = (4usize, 0);
         while image < self.images() {
-            sectors = self
-                .sectors(image)
-                .saturating_add(1)
-                .saturating_mul(2)
-                .saturating_add(sectors);
+            sectors =
+                self.sectors(image).saturating_add(1).saturating_mul(2).saturating_add(sectors);
             image += 1;
         }
         self.sector_size().saturating_mul(sectors)

@@ -191,16 +191,8 @@ impl SavedState {
     };
 }
 
-const NO_VERSION: Version = Version {
-    major: 0,
-    minor: 0,
-    revision: 0,
-    build: 0,
-};
-const NO_DEPENDENCY: Dependency = Dependency {
-    image: 0,
-    minimum: NO_VERSION,
-};
+const NO_VERSION: Version = Version { major: 0, minor: 0, revision: 0, build: 0 };
+const NO_DEPENDENCY: Dependency = Dependency { image: 0, minimum: NO_VERSION };
 
 impl CallResult {
     /// The result of no call.
@@ -237,10 +229,7 @@ impl Description {
         dependencies_count: 0,
         groups_count: 0,
         dependencies: [NO_DEPENDENCY; MAX_DEPENDENCIES],
-        groups: [Group {
-            count: 0,
-            alternatives: [NO_DEPENDENCY; MAX_ALTERNATIVES],
-        }; MAX_GROUPS],
+        groups: [Group { count: 0, alternatives: [NO_DEPENDENCY; MAX_ALTERNATIVES] }; MAX_GROUPS],
         digest: [0; 32],
     };
 }

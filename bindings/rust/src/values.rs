@@ -112,22 +112,13 @@ impl fmt::Display for Images {
 impl Version {
     /// The version `major.minor.revision`, of build 0.
     pub const fn new(major: u8, minor: u8, revision: u16) -> Self {
-        Self {
-            major,
-            minor,
-            revision,
-            build: 0,
-        }
+        Self { major, minor, revision, build: 0 }
     }
 }
 
 impl fmt::Display for Version {
     fn fmt(&self, to: &mut fmt::Formatter<'_>) -> fmt::Result {
-        write!(
-            to,
-            "{}.{}.{}+{}",
-            self.major, self.minor, self.revision, self.build
-        )
+        write!(to, "{}.{}.{}+{}", self.major, self.minor, self.revision, self.build)
     }
 }
 
@@ -186,10 +177,7 @@ impl Boot {
     pub const fn decision(&self) -> Decision {
         let set = Images(self.result.set);
         if self.is_trial_again {
-            Decision::TrialAgain {
-                set,
-                left: self.result.left,
-            }
+            Decision::TrialAgain { set, left: self.result.left }
         } else if set.is_empty() {
             Decision::Plain
         } else if self.result.permanent != 0 {
@@ -262,13 +250,7 @@ impl Component {
     /// The component of a file, for a device with any running image.
     pub fn of(image: u8, file: &[u8], request: Request) -> Self {
         let size = u32::try_from(file.len()).unwrap_or(u32::MAX);
-        Self {
-            image,
-            size,
-            digest: crate::digest(file),
-            request,
-            precursor: None,
-        }
+        Self { image, size, digest: crate::digest(file), request, precursor: None }
     }
 
     /// Returns the component as C has it.

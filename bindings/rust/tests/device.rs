@@ -86,15 +86,8 @@ impl MappedFlash for Flash {
 
 /// An image of a version that needs the same version of another image.
 fn image(version: Version, other: u32) -> Vec<u8> {
-    let needs = [Dependency {
-        image: other,
-        minimum: version,
-    }];
-    let parts = ImageParts {
-        version,
-        dependencies: &needs,
-        ..ImageParts::default()
-    };
+    let needs = [Dependency { image: other, minimum: version }];
+    let parts = ImageParts { version, dependencies: &needs, ..ImageParts::default() };
     let mut bytes = vec![0; 2 * SECTOR];
     let length = make_image(&parts, &[version.major; 500], &mut bytes).unwrap();
     bytes.truncate(length);
@@ -105,25 +98,15 @@ fn image(version: Version, other: u32) -> Vec<u8> {
 fn factory() -> Flash {
     let mut bytes = vec![0xff; LENGTH];
     for number in 0..2 {
-        let (at, file) = (
-            SETUP.primary_slot_at(number).unwrap(),
-            image(OLD, 1 - number as u32),
-        );
+        let (at, file) = (SETUP.primary_slot_at(number).unwrap(), image(OLD, 1 - number as u32));
         bytes[at..at + file.len()].copy_from_slice(&file);
     }
-    Flash {
-        bytes,
-        writes: 0,
-        fails_at: 0,
-    }
+    Flash { bytes, writes: 0, fails_at: 0 }
 }
 
 fn upload(device: &mut Device<&mut Flash>, request: Request) -> Result<(), Error<Failed>> {
     let files = [image(NEW, 1), image(NEW, 0)];
-    let components = [
-        Component::of(0, &files[0], request),
-        Component::of(1, &files[1], request),
-    ];
+    let components = [Component::of(0, &files[0], request), Component::of(1, &files[1], request)];
     device.accept(1, &components)?;
     for (number, file) in (0..).zip(&files) {
         for bytes in file.chunks(300) {
@@ -157,11 +140,7 @@ fn boot(
     assert!(device.is_booted());
     let version = |it| device.slot(it, Side::Primary).unwrap().version();
     assert!(boot.versions().is_empty() || boot.versions() == [version(0), version(1)]);
-    Ok((
-        boot.decision(),
-        vec![version(0), version(1)],
-        boot.reverted(),
-    ))
+    Ok((boot.decision(), vec![version(0), version(1)], boot.reverted()))
 }
 
 #[test]
@@ -171,10 +150,7 @@ fn trial_and_revert() {
         boot(&mut flash, JOURNAL),
         Ok((Decision::Trial(BOTH), vec![NEW; 2], Images::default()))
     );
-    assert_eq!(
-        boot(&mut flash, JOURNAL),
-        Ok((Decision::Plain, vec![OLD; 2], BOTH))
-    );
+    assert_eq!(boot(&mut flash, JOURNAL), Ok((Decision::Plain, vec![OLD; 2], BOTH)));
 }
 
 #[test]
@@ -184,21 +160,12 @@ fn application_confirms() {
     let mut journal = [0; JOURNAL];
     let mut device = Device::resume(SETUP, &mut flash, Memory::mapped(), &mut journal).unwrap();
     let state = device.state().unwrap();
-    assert_eq!(
-        (state.phase, state.set, state.sequence),
-        (Phase::Trial, BOTH, 1)
-    );
-    assert_eq!(
-        upload(&mut device, Request::Test),
-        Err(Error::Refused(Fault::OnTrial))
-    );
+    assert_eq!((state.phase, state.set, state.sequence), (Phase::Trial, BOTH, 1));
+    assert_eq!(upload(&mut device, Request::Test), Err(Error::Refused(Fault::OnTrial)));
     assert_eq!(device.confirm(0), Ok(()));
     assert_eq!(device.confirm(1), Ok(()));
     assert_eq!(device.confirm(1), Err(Error::Refused(Fault::NotOnTrial)));
-    assert_eq!(
-        boot(&mut flash, JOURNAL),
-        Ok((Decision::Plain, vec![NEW; 2], Images::default()))
-    );
+    assert_eq!(boot(&mut flash, JOURNAL), Ok((Decision::Plain, vec![NEW; 2], Images::default())));
 }
 
 /// After a cut at each write of a boot, and at each write of the one that reverts, the next boot
@@ -209,11 +176,7 @@ fn cuts_at_each_write() {
         let start = requested(request).bytes;
         let mut writes = 1;
         for fails_at in 1.. {
-            let mut flash = Flash {
-                bytes: start.clone(),
-                writes: 0,
-                fails_at,
-            };
+            let mut flash = Flash { bytes: start.clone(), writes: 0, fails_at };
             let first = boot(&mut flash, JOURNAL);
             if first.is_ok() {
                 break;
@@ -262,160 +225,124 @@ fn copy_and_mapped() {
     }
 }
 
-#[test]
-fn texts_and_refusals() {
+/// Does something with a device that is booted for the first time.
+fn with_booted(does: impl FnOnce(&mut Device<&mut Flash>)) {
     let mut flash = factory();
     let (mut copy, mut journal) = (vec![0; LENGTH], vec![0; JOURNAL + 1024]);
-    let (mut table, mut report) = ([0; MAX_TABLE_LENGTH], [0; MAX_REPORT_LENGTH]);
-    let mut device =
-        Device::open(SETUP, &mut flash, Memory::copy(&mut copy), &mut journal).unwrap();
+    let memory = Memory::copy(&mut copy);
+    let mut device = Device::open(SETUP, &mut flash, memory, &mut journal).unwrap();
+    assert_eq!(device.state(), Err(Error::NotMade(Status::NoLog)));
+    assert_eq!(device.boot().unwrap_err(), Error::Refused(Fault::NotProvisioned));
     device.provision().unwrap();
+    assert_eq!(device.finish(0), Err(Error::Refused(Fault::NotBooted)));
     device.boot().unwrap();
-    // Image 0 needs an image 1 that isn't uploaded.
-    let file = image(NEW, 1);
-    device
-        .accept(7, &[Component::of(0, &file, Request::Test)])
-        .unwrap();
-    device.piece(0, &file).unwrap();
-    device.finish(0).unwrap();
-    let (boot, texts) = device.boot_with_texts(&mut table, &mut report).unwrap();
-    assert_eq!(boot.refusals().len(), 1);
-    let refusal = boot.refusals()[0];
-    assert_eq!(
-        (refusal.image(), refusal.reason()),
-        (0, Some(Reason::Needs))
-    );
-    assert_eq!(
-        refusal.dependencies(),
-        [Dependency {
-            image: 1,
-            minimum: NEW
-        }]
-    );
-    assert_eq!(check(texts.table, texts.report), Ok(()));
-    let mut again = [0; MAX_REPORT_LENGTH];
-    assert_eq!(choose(texts.table, &mut again), Ok(texts.report));
-    assert!(
-        texts.report.starts_with("run 0 1.0.0+0"),
-        "{}",
-        texts.report
-    );
-    assert_eq!(device.withdraw(0), Ok(()));
-    let nothing = Fault::Upload(UploadFault::NothingRequested);
-    assert_eq!(device.withdraw(0), Err(Error::Refused(nothing)));
-    // Buffers that are too small get no text.
-    let (_, texts) = device
-        .boot_with_texts(&mut table[..1], &mut report[..1])
-        .unwrap();
-    assert_eq!((texts.table, texts.report), ("", ""));
+    does(&mut device);
+}
+
+#[test]
+fn texts_and_refusals() {
+    let (mut table, mut report) = ([0; MAX_TABLE_LENGTH], [0; MAX_REPORT_LENGTH]);
+    with_booted(|device| {
+        // Image 0 needs an image 1 that isn't uploaded.
+        let file = image(NEW, 1);
+        device.accept(7, &[Component::of(0, &file, Request::Test)]).unwrap();
+        device.piece(0, &file).unwrap();
+        device.finish(0).unwrap();
+        let (boot, texts) = device.boot_with_texts(&mut table, &mut report).unwrap();
+        assert_eq!(boot.refusals().len(), 1);
+        let refusal = boot.refusals()[0];
+        assert_eq!((refusal.image(), refusal.reason()), (0, Some(Reason::Needs)));
+        assert_eq!(refusal.dependencies(), [Dependency { image: 1, minimum: NEW }]);
+        assert_eq!(check(texts.table, texts.report), Ok(()));
+        let mut again = [0; MAX_REPORT_LENGTH];
+        assert_eq!(choose(texts.table, &mut again), Ok(texts.report));
+        assert!(texts.report.starts_with("run 0 1.0.0+0"), "{}", texts.report);
+        assert_eq!(device.withdraw(0), Ok(()));
+        let nothing = Fault::Upload(UploadFault::NothingRequested);
+        assert_eq!(device.withdraw(0), Err(Error::Refused(nothing)));
+        // Buffers that are too small get no text.
+        let (_, texts) = device.boot_with_texts(&mut table[..1], &mut report[..1]).unwrap();
+        assert_eq!((texts.table, texts.report), ("", ""));
+    });
+}
+
+fn refused(fault: UploadFault) -> Result<(), Error<Failed>> {
+    Err(Error::Refused(Fault::Upload(fault)))
+}
+
+#[test]
+fn refused_manifests() {
+    let manifest = |fault| Err(Error::Refused(Fault::Manifest(fault)));
+    with_booted(|device| {
+        let file = image(NEW, 1);
+        let component = Component::of(0, &file, Request::Test);
+        assert_eq!(device.accept(1, &[]), manifest(ManifestFault::BadValue));
+        let twice = device.accept(1, &[component; 2]);
+        assert_eq!(twice, manifest(ManifestFault::RepeatedComponent));
+        let nine = device.accept(1, &[component; 9]);
+        assert_eq!(nine, Err(Error::NotMade(Status::TooMany)));
+        let absent = Component { image: 2, ..component };
+        assert_eq!(device.accept(1, &[absent]), manifest(ManifestFault::NoComponent));
+        let other = Component { precursor: Some([0; 32]), ..component };
+        assert_eq!(device.accept(1, &[other]), refused(UploadFault::WrongPrecursor));
+        let running = *device.slot(0, Side::Primary).unwrap().digest();
+        let own = Component { precursor: Some(running), ..component };
+        assert_eq!(device.accept(2, &[own]), Ok(()));
+        assert_eq!(device.accept(1, &[own]), refused(UploadFault::OldSequence));
+    });
 }
 
 #[test]
 fn refused_uploads() {
-    let mut flash = factory();
-    let (mut copy, mut journal) = (vec![0; LENGTH], vec![0; JOURNAL + 1024]);
-    let mut device =
-        Device::open(SETUP, &mut flash, Memory::copy(&mut copy), &mut journal).unwrap();
-    assert_eq!(device.state(), Err(Error::NotMade(Status::NoLog)));
-    assert_eq!(
-        device.boot().unwrap_err(),
-        Error::Refused(Fault::NotProvisioned)
-    );
-    device.provision().unwrap();
-    assert_eq!(device.finish(0), Err(Error::Refused(Fault::NotBooted)));
-    device.boot().unwrap();
-    let mut file = image(NEW, 1);
-    let component = Component::of(0, &file, Request::Test);
-    let refused = |fault| Err(Error::Refused(Fault::Upload(fault)));
-    let manifest = |fault| Err(Error::Refused(Fault::Manifest(fault)));
-    assert_eq!(device.accept(1, &[]), manifest(ManifestFault::BadValue));
-    assert_eq!(
-        device.accept(1, &[component; 2]),
-        manifest(ManifestFault::RepeatedComponent)
-    );
-    assert_eq!(
-        device.accept(1, &[component; 9]),
-        Err(Error::NotMade(Status::TooMany))
-    );
-    let absent = Component {
-        image: 2,
-        ..component
-    };
-    assert_eq!(
-        device.accept(1, &[absent]),
-        manifest(ManifestFault::NoComponent)
-    );
-    let other = Component {
-        precursor: Some([0; 32]),
-        ..component
-    };
-    assert_eq!(
-        device.accept(1, &[other]),
-        refused(UploadFault::WrongPrecursor)
-    );
-    let running = *device.slot(0, Side::Primary).unwrap().digest();
-    let own = Component {
-        precursor: Some(running),
-        ..component
-    };
-    assert_eq!(device.accept(2, &[own]), Ok(()));
-    assert_eq!(device.accept(1, &[own]), refused(UploadFault::OldSequence));
-    assert_eq!(device.finish(0), refused(UploadFault::SizeWrong));
-    assert_eq!(device.piece(0, &file), refused(UploadFault::NoSession));
-    file[40] ^= 1;
-    assert_eq!(
-        device.accept(2, &[Component::of(0, &file, Request::Test)]),
-        Ok(())
-    );
-    assert_eq!(device.piece(0, &file), Ok(()));
-    let damaged = UploadFault::NotAnImage(ImageFault::BadDigest);
-    assert_eq!(device.finish(0), refused(damaged));
-    assert_eq!(describe(&file), Err(ImageFault::BadDigest));
-    assert_eq!(
-        device.slot(2, Side::Primary),
-        Err(SlotError::NotMade(Status::NoImage))
-    );
+    with_booted(|device| {
+        let mut file = image(NEW, 1);
+        device.accept(2, &[Component::of(0, &file, Request::Test)]).unwrap();
+        assert_eq!(device.finish(0), refused(UploadFault::SizeWrong));
+        assert_eq!(device.piece(0, &file), refused(UploadFault::NoSession));
+        file[40] ^= 1;
+        assert_eq!(device.accept(2, &[Component::of(0, &file, Request::Test)]), Ok(()));
+        assert_eq!(device.piece(0, &file), Ok(()));
+        let damaged = UploadFault::NotAnImage(ImageFault::BadDigest);
+        assert_eq!(device.finish(0), refused(damaged));
+        assert_eq!(describe(&file), Err(ImageFault::BadDigest));
+        let slot = device.slot(2, Side::Primary);
+        assert_eq!(slot, Err(SlotError::NotMade(Status::NoImage)));
+    });
+}
+
+/// Boots a flash of `length` bytes by a copy of `copy` bytes, and returns why that fails.
+fn fails(length: usize, copy: usize, journal: usize) -> Error<MemoryFault> {
+    let (mut memory, mut journal) = (vec![0xff; length], vec![0; journal]);
+    let (mut copy, part) = (vec![0; copy], MemoryFlash::<SECTOR>(&mut memory));
+    match Device::open(SETUP, part, Memory::copy(&mut copy), &mut journal) {
+        Ok(mut device) => device.boot().unwrap_err(),
+        Err(error) => error,
+    }
 }
 
 #[test]
 fn sizes() {
-    let mut memory = vec![0xff; LENGTH];
-    let mut journal = [0; JOURNAL];
-    let open = |memory: &mut Vec<u8>, journal: &mut [u8], copy: usize| {
-        let (mut copy, part) = (vec![0; copy], MemoryFlash::<SECTOR>(memory));
-        Device::open(SETUP, part, Memory::copy(&mut copy), journal)
-            .map(|mut it| it.boot().unwrap_err())
-    };
-    let not_made = |status| Ok(Error::<MemoryFault>::NotMade(status));
-    assert_eq!(
-        open(&mut memory, &mut journal, LENGTH + SECTOR),
-        Err(Error::Sizes)
-    );
-    assert_eq!(
-        open(&mut memory, &mut journal, LENGTH - SECTOR),
-        not_made(Status::NoFlash)
-    );
-    assert_eq!(
-        open(&mut memory, &mut journal, LENGTH - 1),
-        not_made(Status::NoFlash)
-    );
-    assert_eq!(
-        open(&mut memory, &mut journal[1..], LENGTH),
-        Ok(Error::JournalTooSmall)
-    );
+    assert_eq!(fails(LENGTH, LENGTH, JOURNAL), Error::Refused(Fault::NotProvisioned));
+    assert_eq!(fails(LENGTH, LENGTH + SECTOR, JOURNAL), Error::Sizes);
+    assert_eq!(fails(LENGTH, LENGTH - SECTOR, JOURNAL), Error::NotMade(Status::NoFlash));
+    assert_eq!(fails(LENGTH, LENGTH - 1, JOURNAL), Error::NotMade(Status::NoFlash));
+    assert_eq!(fails(LENGTH, LENGTH, JOURNAL - 1), Error::JournalTooSmall);
+    let (mut memory, mut journal) = (vec![0xff; LENGTH], [0; JOURNAL]);
     let larger = MemoryFlash::<1024>(&mut memory);
-    assert!(matches!(
-        Device::open(SETUP, larger, Memory::mapped(), &mut journal),
-        Err(Error::Sizes)
-    ));
+    let opened = Device::open(SETUP, larger, Memory::mapped(), &mut journal);
+    assert!(matches!(opened, Err(Error::Sizes)));
+}
+
+#[test]
+fn setups() {
     for (setup, status) in [
         (Setup::new(500, &[2], 1), Status::NoMap),
         (Setup::new(512, &[], 1), Status::NoMap),
         (Setup::new(512, &[1; 9], 1), Status::NoMap),
         (Setup::new(512, &[2], 0), Status::NoTrial),
     ] {
+        let (mut memory, mut journal) = (vec![0xff; LENGTH], vec![0; 4096]);
         let part = MemoryFlash::<4>(&mut memory);
-        let mut journal = vec![0; 4096];
         let mut device = Device::open(setup, part, Memory::mapped(), &mut journal).unwrap();
         assert_eq!(device.boot().unwrap_err(), Error::NotMade(status));
     }

@@ -27,44 +27,20 @@ fn numbers_of(name: &str) -> Vec<(String, u32)> {
 /// Returns the names of bootswap_names.h for the constants of an enum, as `NO_MAP` and `no-map`.
 fn names_of(function: &str) -> Vec<(String, String)> {
     let text = header("bootswap_names.h");
-    let body = text
-        .split(&format!("*{}(uint32_t", function))
-        .nth(1)
-        .expect(function);
-    let rows = body
-        .split("\n}")
-        .next()
-        .unwrap()
-        .lines()
-        .filter_map(|line| {
-            let (name, rest) = line
-                .trim()
-                .strip_prefix("case BOOTSWAP_")?
-                .split_once(": return \"")?;
-            Some((name.to_string(), rest.trim_end_matches("\";").to_string()))
-        });
+    let body = text.split(&format!("*{}(uint32_t", function)).nth(1).expect(function);
+    let rows = body.split("\n}").next().unwrap().lines().filter_map(|line| {
+        let (name, rest) = line.trim().strip_prefix("case BOOTSWAP_")?.split_once(": return \"")?;
+        Some((name.to_string(), rest.trim_end_matches("\";").to_string()))
+    });
     rows.collect()
 }
 
 /// Returns the list of names in a function of bootswap_names.h, from number 1 on.
 fn list_of(function: &str) -> Vec<String> {
     let text = header("bootswap_names.h");
-    let body = text
-        .split(&format!("*{}(uint32_t", function))
-        .nth(1)
-        .expect(function);
-    let list = body
-        .split("names[] = {")
-        .nth(1)
-        .unwrap()
-        .split('}')
-        .next()
-        .unwrap();
-    list.split('"')
-        .skip(1)
-        .step_by(2)
-        .map(str::to_string)
-        .collect()
+    let body = text.split(&format!("*{}(uint32_t", function)).nth(1).expect(function);
+    let list = body.split("names[] = {").nth(1).unwrap().split('}').next().unwrap();
+    list.split('"').skip(1).step_by(2).map(str::to_string).collect()
 }
 
 /// `NO_MAP` as a variant: `NoMap`.
@@ -97,21 +73,13 @@ macro_rules! rows_with_fields {
 
 fn compare(kind: &str, rows: Vec<Row>) {
     let numbers = numbers_of(kind);
-    let wanted: Vec<(String, u32)> = numbers
-        .iter()
-        .map(|(name, at)| (camel(name), *at))
-        .collect();
+    let wanted: Vec<(String, u32)> = numbers.iter().map(|(name, at)| (camel(name), *at)).collect();
     let found: Vec<(String, u32)> = rows.iter().map(|it| (it.0.clone(), it.1)).collect();
     assert!(!wanted.is_empty());
     assert_eq!(found, wanted, "{}", kind);
     let names = names_of(&format!("{}_name", kind));
     let wanted: Vec<&str> = names.iter().map(|it| it.1.as_str()).collect();
-    assert_eq!(
-        rows.iter().map(|it| it.2).collect::<Vec<_>>(),
-        wanted,
-        "{}",
-        kind
-    );
+    assert_eq!(rows.iter().map(|it| it.2).collect::<Vec<_>>(), wanted, "{}", kind);
 }
 
 fn compare_list(function: &str, rows: Vec<Row>) {
@@ -160,10 +128,7 @@ fn numbers_and_names() {
 #[test]
 fn phases() {
     let text = header("bootswap.h");
-    let line = text
-        .lines()
-        .find(|it| it.contains("the phase of an upgrade"))
-        .unwrap();
+    let line = text.lines().find(|it| it.contains("the phase of an upgrade")).unwrap();
     let list = line.split("/* ").nth(1).unwrap().split(':').next().unwrap();
     let rows: Vec<Row> = rows!(Phase);
     let found: Vec<String> = rows.iter().map(|it| format!("{} {}", it.1, it.2)).collect();
@@ -173,10 +138,7 @@ fn phases() {
 /// Returns a number that the header defines.
 fn defined(name: &str) -> String {
     let text = header("bootswap.h").replace("\\\n", " ");
-    let line = text
-        .lines()
-        .find(|it| it.starts_with(&format!("#define {}", name)))
-        .expect(name);
+    let line = text.lines().find(|it| it.starts_with(&format!("#define {}", name))).expect(name);
     line[8 + name.len()..].trim().to_string()
 }
 
@@ -191,17 +153,9 @@ fn limits_and_version() {
         ("REPORT_LENGTH ", MAX_REPORT_LENGTH),
     ];
     for (name, limit) in limits {
-        assert_eq!(
-            defined(&format!("BOOTSWAP_MAX_{}", name)),
-            limit.to_string(),
-            "{}",
-            name
-        );
+        assert_eq!(defined(&format!("BOOTSWAP_MAX_{}", name)), limit.to_string(), "{}", name);
     }
-    assert_eq!(
-        defined("BOOTSWAP_VERSION "),
-        format!("{:?}", env!("CARGO_PKG_VERSION"))
-    );
+    assert_eq!(defined("BOOTSWAP_VERSION "), format!("{:?}", env!("CARGO_PKG_VERSION")));
 }
 
 /// Evaluates a sum of products, with numbers, brackets and the quotients of the header.
@@ -231,11 +185,7 @@ impl Sum<'_> {
         while self.is_at("*") || self.is_at("/") {
             let is_product = self.next() == "*";
             let other = self.factor();
-            value = if is_product {
-                value * other
-            } else {
-                value / other
-            };
+            value = if is_product { value * other } else { value / other };
         }
         value
     }
@@ -254,11 +204,7 @@ impl Sum<'_> {
 /// Returns a bound of the journal, as the macro of the header defines it.
 fn bound(name: &str, values: &[(&str, usize)]) -> usize {
     let text = defined(&format!("BOOTSWAP_JOURNAL_{}", name));
-    let body = if values.is_empty() {
-        &text
-    } else {
-        text.split_once(") ").unwrap().1
-    };
+    let body = if values.is_empty() { &text } else { text.split_once(") ").unwrap().1 };
     let mut body = body.replace("(size_t)", "");
     if name == "BOOT(" {
         let step = bound("STEP(", &values[1..]);
@@ -278,10 +224,7 @@ fn bound(name: &str, values: &[(&str, usize)]) -> usize {
 #[test]
 fn journal_bounds() {
     for images in [1, 2, 8] {
-        assert_eq!(
-            journal::provision(images),
-            bound("PROVISION(", &[("images", images)])
-        );
+        assert_eq!(journal::provision(images), bound("PROVISION(", &[("images", images)]));
         for sector_size in [512, 576, 4096, 131072] {
             let values = [("images", images), ("sector_size", sector_size)];
             assert_eq!(journal::boot(images, sector_size), bound("BOOT(", &values));
@@ -293,10 +236,7 @@ fn journal_bounds() {
         }
     }
     for length in [0, 1, 4096] {
-        assert_eq!(
-            journal::piece(length),
-            bound("PIECE(", &[("length", length)])
-        );
+        assert_eq!(journal::piece(length), bound("PIECE(", &[("length", length)]));
     }
     assert_eq!(journal::FINISH, bound("FINISH ", &[]));
     assert_eq!(journal::WITHDRAW, bound("WITHDRAW ", &[]));
@@ -306,13 +246,7 @@ fn journal_bounds() {
 #[test]
 fn map() {
     // docs/PORTING.md: E x (2 x (n_0 + 1 + n_1 + 1 + ..) + 4).
-    assert_eq!(
-        Setup::new(4096, &[32, 16], 3).map_length(),
-        4096 * (2 * (33 + 17) + 4)
-    );
-    assert_eq!(
-        Setup::new(4096, &[72, 40], 3).primary_slot_at(1),
-        Some(0x5d000 - 0x14000)
-    );
+    assert_eq!(Setup::new(4096, &[32, 16], 3).map_length(), 4096 * (2 * (33 + 17) + 4));
+    assert_eq!(Setup::new(4096, &[72, 40], 3).primary_slot_at(1), Some(0x5d000 - 0x14000));
     assert_eq!(Setup::new(4096, &[72, 40], 3).primary_slot_at(2), None);
 }
