@@ -11,6 +11,8 @@ import tempfile
 import time
 import unittest
 
+import test_cmake as cmake
+import test_rust as rust
 from support.built_clone import LIBRARIES, BuiltCloneTest, places_below
 from support.compiled import needs_compiler
 from support.files import ROOT, read
@@ -280,34 +282,45 @@ class PackageTest(PackedTest):
 
     @unittest.skipUnless(shutil.which("cmake"), "there is no cmake")
     def test_c_archive(self):
-        """The archive of the file of C is enough for CMake. A Cortex-M's example is built in it. It has the digests of its
-        files."""
+        """An empty project of CMake boots a device over the archive of the file of C. A Cortex-M's example is built in it. It has
+        the digests of its files."""
         self.package()
         ran(["tar", "--extract", "--file", f"{self.made}/{ARCHIVES[2]}"], cwd=self.folder)
         top = f"{self.folder}/{ARCHIVES[2].removesuffix('.tar.xz')}"
         faults, output = ran(["sha256sum", "--check", "--strict", "SHA256SUMS"], cwd=top)
         listed = {it.rpartition(": ")[0] for it in output.decode().splitlines()} | {"SHA256SUMS"}
         self.case("the checksums", faults + sorted(listed ^ places_below(top)))
-        builds = {"the library": (top, [])}
+        project = f"{self.folder}/project"
+        os.mkdir(project)
+        with open(f"{project}/CMakeLists.txt", "w", encoding="utf-8") as it:
+            it.write(cmake.PROJECT.format(found=f'add_subdirectory("{top}" bootswap)', source=f"{ROOT}/tests/in_memory.c"))
+        builds = {"an empty project": (project, [])}
         if shutil.which("arm-none-eabi-gcc"):
             builds["the example"] = f"{top}/examples/cortex_m", ["-DCMAKE_TOOLCHAIN_FILE=cortex_m4.cmake"]
         for name, (folder, words) in builds.items():
             for it in (["-B", "build", *words], ["--build", "build"]):
                 faults, output = ran(["cmake", *it], cwd=folder)
                 self.case(f"{name}: cmake {it[0]}", faults or [short(output)] * (b"arning" in output))
+        self.printed_by("an empty project boots", [f"{project}/build/in_memory", *cmake.IMAGES], cmake.LIVES)
 
     @unittest.skipUnless(CRATE and shutil.which("rustc"), "there is no cargo")
     def test_crate(self):
-        """The crate has the file of C, and passes its own tests."""
+        """The crate has the file of C. It passes its own tests, and an empty project boots a device over it."""
         self.package()
         faults, _ = ran(["tar", "--extract", "--file", f"{self.made}/{CRATE[0]}"], cwd=self.folder)
-        top = f"{self.folder}/bootswap-{version()}"
+        top, project = f"{self.folder}/bootswap-{version()}", f"{self.folder}/project"
         first = read(f"{top}/c/bootswap.c").decode().splitlines()[1]
         self.case("it names the commit", faults + [first] * (f", commit {COMMIT[:12]}: " not in first))
         self.case("it has a licence", [] if read(f"{top}/LICENSE") == read(f"{ROOT}/LICENSE") else ["it differs"])
         environment = {name: it for name, it in os.environ.items() if name != "BOOTSWAP_C"}
         environment.update(CARGO_TARGET_DIR=f"{self.folder}/target", CARGO_NET_OFFLINE="true")
         self.case("its tests", ran(["cargo", "test", "--quiet"], cwd=top, env=environment)[0])
+        os.makedirs(f"{project}/src")
+        for file, text in (("Cargo.toml", rust.MANIFEST.format(crate=top, features="")), ("src/main.rs", rust.MAIN)):
+            with open(f"{project}/{file}", "w", encoding="utf-8") as it:
+                it.write(text)
+        words = ["cargo", "run", "--quiet", "--", cmake.IMAGES[0]]
+        self.printed_by("an empty project boots", words, cmake.BOOTS, cwd=project, env=environment)
 
     def test_hardened(self):
         """What the C compiler makes of the shared library checks the stack and the lengths of copies, and has no table of
