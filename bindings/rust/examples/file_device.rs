@@ -5,10 +5,11 @@
 //!
 //! ```sh
 //! cargo build --example file_device
-//! alias device=target/debug/examples/file_device images=../../examples/images
-//! device flash provision $images/one.img $images/one.img
-//! device flash boot upload $images/needing.img $images/partner.img
-//! device flash boot confirm
+//! cp target/debug/examples/file_device ../../examples/images/[nop]*.img ../../out
+//! cd ../../out
+//! ./file_device flash provision one.img one.img
+//! ./file_device flash boot upload needing.img partner.img
+//! ./file_device flash boot confirm
 //! ```
 //!
 //! The second run uploads two images that need each other. The boot of the third run takes them for
