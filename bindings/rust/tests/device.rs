@@ -164,7 +164,7 @@ fn application_confirms() {
     assert_eq!(upload(&mut device, Request::Test), Err(Error::Refused(Fault::OnTrial)));
     assert_eq!(device.confirm(0), Ok(()));
     assert_eq!(device.confirm(1), Ok(()));
-    assert_eq!(device.confirm(1), Err(Error::Refused(Fault::NotOnTrial)));
+    assert_eq!(device.confirm(1), Ok(()), "once more");
     assert_eq!(boot(&mut flash, JOURNAL), Ok((Decision::Plain, vec![NEW; 2], Images::default())));
 }
 
@@ -221,7 +221,7 @@ fn copy_and_mapped() {
         assert_eq!(boot.writes(), device.writes());
         assert_eq!(boot.writes(), device.flash().writes as u64);
         assert!(flash.bytes == copied.bytes, "a journal of {} bytes", length);
-        assert!(length > JOURNAL + 600 || flash.writes == copied.writes);
+        assert!(length > JOURNAL + 1 || flash.writes == copied.writes);
     }
 }
 
@@ -260,6 +260,7 @@ fn texts_and_refusals() {
         assert_eq!(device.withdraw(0), Ok(()));
         let nothing = Fault::Upload(UploadFault::NothingRequested);
         assert_eq!(device.withdraw(0), Err(Error::Refused(nothing)));
+        assert_eq!(device.confirm(0), Err(Error::Refused(Fault::NotOnTrial)));
         // Buffers that are too small get no text.
         let (_, texts) = device.boot_with_texts(&mut table[..1], &mut report[..1]).unwrap();
         assert_eq!((texts.table, texts.report), ("", ""));
