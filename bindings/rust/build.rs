@@ -16,13 +16,18 @@ use std::path::{Path, PathBuf};
 use std::process::{exit, Command};
 
 /// Targets without an operating system: what their names begin with, the prefix of the compiler's
-/// programs, and its arguments. The first one that fits counts.
+/// programs, and its arguments. The first one that fits counts. Tables of jumps in Thumb-1 would
+/// call helpers of libgcc, which Rust doesn't have.
 const BARE: &[(&str, &str, &str)] = &[
-    ("thumbv6m-", "arm-none-eabi-", "-mthumb -march=armv6s-m -mfloat-abi=soft"),
+    ("thumbv6m-", "arm-none-eabi-", "-mthumb -march=armv6s-m -mfloat-abi=soft -fno-jump-tables"),
     ("thumbv7m-", "arm-none-eabi-", "-mthumb -march=armv7-m -mfloat-abi=soft"),
     ("thumbv7em-none-eabihf", "arm-none-eabi-", "-mthumb -march=armv7e-m+fp -mfloat-abi=hard"),
     ("thumbv7em-", "arm-none-eabi-", "-mthumb -march=armv7e-m -mfloat-abi=soft"),
-    ("thumbv8m.base-", "arm-none-eabi-", "-mthumb -march=armv8-m.base -mfloat-abi=soft"),
+    (
+        "thumbv8m.base-",
+        "arm-none-eabi-",
+        "-mthumb -march=armv8-m.base -mfloat-abi=soft -fno-jump-tables",
+    ),
     (
         "thumbv8m.main-none-eabihf",
         "arm-none-eabi-",
