@@ -29,6 +29,7 @@ static struct bootswap_manifest manifest;
 static struct bootswap_description description;
 static struct bootswap_state in_log;
 static struct bootswap_sha256 digest;
+static struct bootswap_workspace workspace;
 static char table[BOOTSWAP_MAX_TABLE_LENGTH], report[BOOTSWAP_MAX_REPORT_LENGTH];
 static uint64_t number;
 
@@ -75,6 +76,14 @@ static void choose(void) { returned = bootswap_choose(table, result.table_length
 
 static void check(void) { returned = bootswap_check(table, result.table_length, report, number, &number); }
 
+static void choose_in(void) {
+    returned = bootswap_choose_in(&workspace, table, result.table_length, report, sizeof report, &number);
+}
+
+static void check_in(void) {
+    returned = bootswap_check_in(&workspace, table, result.table_length, report, number, &number);
+}
+
 /* Nothing: what the frame around a call takes. */
 static void nothing(void) { returned = 0; }
 
@@ -103,7 +112,8 @@ static struct row rows[] = {
     {"accept", accept, 0},       {"piece", piece, 0},       {"finish", finish, 0},
     {"withdraw", withdraw, 0},   {"confirm", confirm, 0},   {"slot", slot, 0},
     {"state", state, 0},         {"describe", describe, 0}, {"digest", digest_of, 0},
-    {"choose", choose, 0},       {"check", check, 0},
+    {"choose", choose, 0},       {"check", check, 0},       {"choose_in", choose_in, 0},
+    {"check_in", check_in, 0},
 };
 
 static size_t number_at(size_t at) {
@@ -200,6 +210,8 @@ int main(int count, char **words) {
     run_boot(BOOTSWAP_BOOTED);
     run("choose");
     run("check");
+    run("choose_in");
+    run("check_in");
     for (image = 0; image < IMAGES; image++) run("confirm");
     run_boot(BOOTSWAP_BOOTED);
     upload(3);

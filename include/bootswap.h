@@ -262,6 +262,15 @@ struct bootswap_sha256 {
     uint8_t bytes[32];
 };
 
+/*
+ * Memory for the table of a choice or of a check, which takes most of the stack of these calls. It may hold anything,
+ * also nothing yet, and is the caller's again after the call. A variable of static storage serves any number of calls,
+ * one at a time.
+ */
+struct bootswap_workspace {
+    uint64_t words[913];
+};
+
 /* The most bytes of the text of a table, and of that of a report. Buffers of these sizes are always large enough. */
 #define BOOTSWAP_MAX_TABLE_LENGTH 20480
 #define BOOTSWAP_MAX_REPORT_LENGTH 2048
@@ -420,6 +429,15 @@ uint32_t bootswap_choose(const char *table, size_t table_length, char *report, s
 uint32_t bootswap_check(const char *table, size_t table_length, const char *report, size_t report_length,
                         uint64_t *line);
 
+/*
+ * The same two calls with the table in a workspace. They return and write exactly what those without one do, whatever
+ * the workspace holds, and take less than 2 kB of stack. What they leave in the workspace has no meaning.
+ */
+uint32_t bootswap_choose_in(struct bootswap_workspace *workspace, const char *table, size_t table_length, char *report,
+                            size_t report_capacity, uint64_t *length);
+uint32_t bootswap_check_in(struct bootswap_workspace *workspace, const char *table, size_t table_length,
+                           const char *report, size_t report_length, uint64_t *line);
+
 #ifdef __cplusplus
 }
 #else
@@ -430,6 +448,7 @@ _Static_assert(sizeof(struct bootswap_manifest) == 584, "a manifest");
 _Static_assert(sizeof(struct bootswap_description) == 464, "a description");
 _Static_assert(sizeof(struct bootswap_image_parts) == 432, "the values of an image");
 _Static_assert(sizeof(struct bootswap_state) == 52, "the state in a log");
+_Static_assert(sizeof(struct bootswap_workspace) == 7304, "the memory of a choice or of a check");
 #endif
 
 #endif

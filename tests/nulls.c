@@ -21,7 +21,7 @@ struct run {
     struct bootswap_sha256 digest;
     struct bootswap_description description;
     struct bootswap_state state;
-    uint64_t lengths[6];
+    uint64_t lengths[10];
     uint8_t image[128];
 };
 
@@ -30,6 +30,7 @@ static const char table_text[] = "image 0 1.0.0+0 0 0\n";
 static const struct bootswap_image_parts parts = {.header_size = 32, .version = {.major = 1}};
 static uint8_t running[2 * SECTOR], new[2 * SECTOR];
 static struct bootswap_result result;
+static struct bootswap_workspace workspace;
 
 static size_t load(const char *name, uint8_t *bytes, size_t capacity) {
     FILE *file = fopen(name, "rb");
@@ -119,6 +120,10 @@ static void call_others(struct run *run, void *none) {
     add(run, bootswap_choose(table_text, sizeof table_text - 1, none, 0, &run->lengths[1]));
     add(run, bootswap_check(none, 0, none, 0, &run->lengths[2]));
     add(run, bootswap_check(table_text, sizeof table_text - 1, none, 0, &run->lengths[3]));
+    add(run, bootswap_choose_in(&workspace, none, 0, report, sizeof report, &run->lengths[6]));
+    add(run, bootswap_choose_in(&workspace, table_text, sizeof table_text - 1, none, 0, &run->lengths[7]));
+    add(run, bootswap_check_in(&workspace, none, 0, none, 0, &run->lengths[8]));
+    add(run, bootswap_check_in(&workspace, table_text, sizeof table_text - 1, none, 0, &run->lengths[9]));
     add(run, bootswap_make_image(&parts, none, 0, run->image, sizeof run->image, &run->lengths[4]));
     add(run, bootswap_make_image(&parts, none, 0, none, 0, &run->lengths[5]));
 }
@@ -143,7 +148,7 @@ int main(int count, char **words) {
     make(&with_bytes, bytes, length);
     make(&with_null, NULL, length);
     for (size_t i = 0; i < with_null.count; i++) printf("%u ", with_null.numbers[i]);
-    for (size_t i = 0; i < 6; i++) printf("%llu ", (unsigned long long)with_null.lengths[i]);
+    for (size_t i = 0; i < 10; i++) printf("%llu ", (unsigned long long)with_null.lengths[i]);
     printf("%02x%02x\n", with_null.digest.bytes[0], with_null.digest.bytes[1]);
     return memcmp(&with_null, &with_bytes, sizeof with_null) || memcmp(bytes, old, sizeof bytes);
 }

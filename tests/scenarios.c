@@ -39,6 +39,7 @@ static uint32_t lengths[BOOTSWAP_MAX_IMAGES], sent[BOOTSWAP_MAX_IMAGES];
 static struct bootswap_state state;
 static struct bootswap_description description;
 static struct bootswap_manifest manifest;
+static struct bootswap_workspace workspace;
 
 /* Four bytes at a time: each seed hashes some megabytes, and emulators are slow. */
 static uint64_t hash(uint64_t from, const void *bytes, size_t length) {
@@ -215,7 +216,7 @@ static void provision(void) {
     end_call("provision", number, has_journal);
 }
 
-/* Chooses and checks again with the texts of a boot. */
+/* Chooses and checks again with the texts of a boot, without a workspace and with one. */
 static void check_texts(void) {
     uint64_t length = 0, line = 0;
     size_t own_capacity = any(10) != 0 ? sizeof own_report : any(200), table_length = result.table_length;
@@ -224,9 +225,13 @@ static void check_texts(void) {
     memset(own_report, 0, sizeof own_report);
     uint32_t number = bootswap_choose(table, table_length, own_report, own_capacity, &length);
     print("choose", number, length, hash(FIRST_HASH, own_report, sizeof own_report));
+    number = bootswap_choose_in(&workspace, table, table_length, own_report, own_capacity, &length);
+    print("choose in a workspace", number, length, hash(FIRST_HASH, own_report, sizeof own_report));
     if (any(4) == 0 && result.report_length > 0) report[any(result.report_length)] ^= 1;
     number = bootswap_check(table, table_length, report, result.report_length, &line);
     print("check", number, line, FIRST_HASH);
+    number = bootswap_check_in(&workspace, table, table_length, report, result.report_length, &line);
+    print("check in a workspace", number, line, FIRST_HASH);
 }
 
 static uint32_t boot(void) {

@@ -141,11 +141,12 @@ def calls_of_c():
 def calls_of_rattle():
     """Returns the calls that Rattle exports to C, as `calls_of_c`: a slice is passed as a pointer and a length."""
     structs, calls = structs_of_rattle(), {}
-    call = re.compile(r"^pub extern \"C\" fn bootswap_(\w+)\((.*?)\)(?: -> (\w+))?$", re.MULTILINE | re.DOTALL)
+    head = r"^pub (?:unsafe )?extern \"C\" fn bootswap_(\w+)\((.*?)\)(?: -> (\w+))?$"
+    call = re.compile(head, re.MULTILINE | re.DOTALL)
     for name, words, result in [it for text in sources() for it in call.findall(text)]:
         takes = []
         # C passes nothing for an allocator.
-        for reference, bracket, kind in re.findall(r"\w+: (?!Global)(&mut |&)?(\[?)(\w+)", words):
+        for reference, bracket, kind in re.findall(r"\w+: (?!Global)(&mut |&|\*mut )?(\[?)(\w+)", words):
             takes.append((bool(reference), reference == "&", rows_of(NUMBERS.get(kind) or structs[kind])))
             takes += [(False, False, rows_of(8))] if bracket else []
         calls[name] = takes, NUMBERS.get(result)

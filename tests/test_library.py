@@ -18,10 +18,12 @@ from support.libraries import ran, shared_library
 from support.processors import HERE
 from support.program import CaseTest, ProgramTest, short
 from test_random_manifests import drawn_text, listing_of
+from test_random_tables import table_at_random, table_text
 
 LIFE = f"{ROOT}/bindings/c/life.c"
 JOURNAL = f"{ROOT}/tests/journal.c"
 NULLS = f"{ROOT}/tests/nulls.c"
+WORKSPACES = f"{ROOT}/tests/workspaces.c"
 MANIFEST = [f"{ROOT}/tests/manifest.c", f"{ROOT}/bindings/c/manifest.c", "-I", f"{ROOT}/bindings/c"]
 MANIFEST_MEMORY = [f"{ROOT}/tests/manifest_memory.c", f"{ROOT}/bindings/c/manifest.c", "-I", f"{ROOT}/bindings/c"]
 MAKE_IMAGE = f"{ROOT}/tests/make_image.c"
@@ -30,11 +32,20 @@ STRICT = ["-std=c11", "-Wall", "-Wextra", "-Werror", "-I", f"{ROOT}/include"]
 # What life.c prints, whichever write of the boot is cut, after the line that names the write.
 ENDS = b"permanent\ntake 0 1.1.0+0\n"
 
-# What nulls.c prints: the numbers that its calls return, six lengths or lines, and the begin of the SHA-256 of no bytes.
+# What nulls.c prints: the numbers that its calls return, ten lengths or lines, and the begin of the SHA-256 of no bytes.
 RETURNED = (
     b"18 0 18 1 18 0 18 0 0 0 18 0 18 0 18 0 18 0 0 0 18 0 18 1 18 0 1 "
-    b"18 0 18 0 18 4 18 4 18 4 18 1 18 1 18 5 18 18 1 24 28 24 25 0 28 1 0 1 1 72 72 e3b0\n"
+    b"18 0 18 0 18 4 18 4 18 4 18 1 18 1 18 5 18 18 1 24 28 24 25 24 28 24 25 0 28 1 0 1 1 72 72 1 0 1 1 e3b0\n"
 )
+
+# A table with the most of everything. Each image needs all others, and some of them twice.
+MOST_NEEDS = [f"needs {it % 8} 1.0.0+0" for it in range(16)] + 4 * ["needs-one 255 1.0.0+0 0 2.0.0+0 1 1.0.0+0 2 1.0.0+0"]
+IN_FULL = [["image {} 1.0.0+0 0 0", *MOST_NEEDS, "request 2.0.0+0 0", *MOST_NEEDS]] * 8
+FULL_TABLE = "".join(f"{it.format(number)}\n" for number, lines in enumerate(IN_FULL) for it in lines).encode()
+
+# How many texts workspaces.c reads, and what its calls answer.
+TEXTS = 400
+ANSWERS = {"choose": {0, 24, 26, 28}, "check": {0, 24, 25, 27}}
 
 # What the library calls that it doesn't have itself. So it never allocates.
 CALLED = {"memcpy", "memmove", "memset"}
@@ -89,6 +100,23 @@ class LibraryTest(CaseTest):
         images = [f"{EXAMPLES}/images/{name}.img" for name in ("one", "patched")]
         faults, output = ([], b"") if faults else self.processor.ran(program, *images)
         self.case("what the calls return", faults or [short(output)] * (output != RETURNED))
+
+    def test_workspaces(self):
+        """With a workspace, whatever it holds, a choice and a check are the same as without one. Between them, the random texts
+        have each answer."""
+        program, file = f"{self.folder}/workspaces", f"{self.folder}/texts"
+        faults = self.processor.compiled([*STRICT, "-Wconversion", WORKSPACES, self.archive, "-o", program])
+        self.case("workspaces.c compiles", faults)
+        with open(file, "wb") as it:
+            for text in texts_at_random(random.Random(3)):
+                it.write(struct.pack("<I", len(text)) + text)
+        faults, output = ([], b"") if faults else self.processor.ran(program, file)
+        self.case("workspaces.c runs", faults)
+        for line in () if faults else output.decode().splitlines():
+            name, *pairs = re.findall(r"\w+", line)
+            counts = dict(zip(map(int, pairs[::2]), map(int, pairs[1::2])))
+            is_each = counts.keys() == ANSWERS[name] and min(counts.values()) >= TEXTS // 20
+            self.case(f"{name} with a workspace", [] if is_each else [f"how often it returns what: {counts}"])
 
     def test_manifests(self):
         """tests/manifest.c reads a text as it stands in the examples, with both libraries and in any memory."""
@@ -224,6 +252,21 @@ class OtherLanguagesTest(CaseTest):
         faults = [f"status {done.returncode}: {short(done.stderr[-2000:])}"] * (done.returncode != 0)
         faults += [f"it prints {short(done.stdout)}, and not {short(wanted)}"] * (not wanted or done.stdout != wanted)
         self.case(f"the {what} of bindings/README.md", faults)
+
+
+def texts_at_random(dice):
+    """Yields texts: random tables, and every fourth one is cut or has another byte. The first is empty, and the second a table
+    with the most of everything."""
+    yield b""
+    yield FULL_TABLE
+    for i in range(TEXTS - 2):
+        text = bytearray(table_text(table_at_random(dice)))
+        at = dice.randrange(len(text))
+        if i % 8 == 3:
+            del text[at:]
+        elif i % 8 == 7:
+            text[at] ^= 1 << dice.randrange(8)
+        yield bytes(text)
 
 
 def module_over(shared):

@@ -253,6 +253,10 @@ class _Sha256(ctypes.Structure):
     _fields_ = [("bytes", c_uint8 * 32)]
 
 
+class _Workspace(ctypes.Structure):
+    _fields_ = [("words", c_uint64 * 913)]
+
+
 def _library() -> str:
     """Returns the file of the library. A name without a folder is looked for where the system has libraries."""
     # The top of the repository, or PREFIX/lib of an installation.
@@ -274,6 +278,8 @@ def _load() -> ctypes.CDLL:
         "digest": [*flash, POINTER(_Sha256)],
         "choose": [*text, *text, POINTER(c_uint64)],
         "check": [*text, *text, POINTER(c_uint64)],
+        "choose_in": [POINTER(_Workspace), *text, *text, POINTER(c_uint64)],
+        "check_in": [POINTER(_Workspace), *text, *text, POINTER(c_uint64)],
         "parse_manifest": [POINTER(_Identity), *text, POINTER(_Manifest)],
         "read_manifest": [POINTER(_Setup), *text, *flash, POINTER(_Manifest)],
     }
@@ -293,8 +299,9 @@ def _load() -> ctypes.CDLL:
         arguments[f"{form}provision"] = [POINTER(_Setup), *flash, *writes, *result]
         for name, types in {**of_device, **boots[form]}.items():
             arguments[f"{form}{name}"] = [POINTER(_Setup), *flash, POINTER(_SavedState), *writes, *types]
-    # Everything else works over a library without the calls that read a manifest's text.
-    missing = {it for it in ("parse_manifest", "read_manifest") if not hasattr(library, f"bootswap_{it}")}
+    # Everything else works over a library without the calls that read a manifest's text, or those that 2.1.0 added.
+    optional = "parse_manifest", "read_manifest", "choose_in", "check_in"
+    missing = {it for it in optional if not hasattr(library, f"bootswap_{it}")}
     for name, types in arguments.items():
         if name in missing:
             continue

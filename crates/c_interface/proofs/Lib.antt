@@ -11,3 +11,4 @@ mod Counting
 mod Recorded
 mod Lifecycle
 mod Parts
+mod Lending

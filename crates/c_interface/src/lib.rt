@@ -7,7 +7,7 @@
 //!   `bootswap_journal_withdraw`, `bootswap_journal_confirm`, `bootswap_journal_provision`; with
 //!   power cuts on bytes in memory `bootswap_simulate_boot`, `bootswap_simulate_accept`, ..; and
 //!   `bootswap_slot`, `bootswap_state`, `bootswap_describe`, `bootswap_choose`, `bootswap_check`,
-//!   `bootswap_make_image`.
+//!   `bootswap_choose_in`, `bootswap_check_in`, `bootswap_make_image`.
 //! - Allocates: no.
 //! - Callers: programs in C, and of languages that call C. `include/bootswap.h` declares the calls.
 //!
@@ -24,6 +24,10 @@
 //! upload may come in many pieces. A flash at rest holds the same state after a piece, even if they
 //! don't match. The next call of another kind finds that. Each call returns, on any contents. The
 //! caller guarantees the lengths, and that a buffer that is written overlaps no other.
+//!
+//! `bootswap_choose_in` and `bootswap_check_in` take a workspace: memory that the caller lends for
+//! the table of the call, which would take most of its stack. It may hold anything, also nothing
+//! that was ever written. The call makes a table there and leaves room again.
 //!
 //! The flash is bytes in memory: this library doesn't call a flash driver in C. The calls with a
 //! journal record each of their writes there, so that their caller can make the same writes on a
@@ -51,3 +55,4 @@ mod sinks;
 mod slots;
 mod state;
 mod texts;
+mod workspace;

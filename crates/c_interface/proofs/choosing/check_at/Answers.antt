@@ -1,6 +1,6 @@
 use Rattle.std.proofs.Common.{◌≡◌, true, false, refl}
 use Rattle.c_interface.specs.Choosing.{NoReport, Right, Wrong}
-use Rattle.c_interface.proofs.choosing.bootswap_check.Goals as goal
+use Rattle.c_interface.proofs.choosing.check_at.Goals as goal
 
 pub returns-then-check : goal.returns-then-check
 returns-then-check c = Right c.parse_into.new.table c.parse_into-2.new.report c.in_default.ensures.spelled

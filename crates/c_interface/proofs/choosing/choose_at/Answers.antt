@@ -4,7 +4,7 @@ use Rattle.c_interface.specs.Choosing.{Chosen, Invalid, NoRoom, NoTable}
 use Rattle.certificate.proofs.ReportTextLaws.{FitsReport-from_text}
 use Rattle.certificate.proofs.RightFits.{right_report_has_text}
 use Rattle.c_interface.proofs.ShortReports.{longer, report_short}
-use Rattle.c_interface.proofs.choosing.bootswap_choose.Goals as goal
+use Rattle.c_interface.proofs.choosing.choose_at.Goals as goal
 
 pub returns-in-Err : goal.returns-in-Err
 returns-in-Err c = NoTable (search rules) refl refl
