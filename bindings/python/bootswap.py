@@ -299,7 +299,7 @@ def _load() -> ctypes.CDLL:
         arguments[f"{form}provision"] = [POINTER(_Setup), *flash, *writes, *result]
         for name, types in {**of_device, **boots[form]}.items():
             arguments[f"{form}{name}"] = [POINTER(_Setup), *flash, POINTER(_SavedState), *writes, *types]
-    # Everything else works over a library without the calls that read a manifest's text, or those that 2.1.0 added.
+    # Everything else works over a library without the calls that read a manifest's text, or those with a workspace.
     optional = "parse_manifest", "read_manifest", "choose_in", "check_in"
     missing = {it for it in optional if not hasattr(library, f"bootswap_{it}")}
     for name, types in arguments.items():
