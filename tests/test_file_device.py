@@ -102,14 +102,14 @@ class FileDeviceTest(CaseTest):
             kills += more
         self.case(f"{kills} kills", faults)
 
-    def writes(self, whole):
-        """How many times a boot of a flash calls `pwrite`."""
-        last, after = 40, 200
+    def writes(self, whole, least=40):
+        """How many times a boot of a flash calls `pwrite`: more than this number of times."""
+        last, after = least, 200
         while after - last > 1:
             middle = (last + after) // 2
             self.put(whole)
             last, after = (middle, after) if self.run_device("boot", at=middle)[0] == -signal.SIGKILL else (last, middle)
-        self.assertGreater(last, 40)
+        self.assertGreater(last, least)
         return last
 
     def killed(self, numbers, writes):

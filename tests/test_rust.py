@@ -289,26 +289,45 @@ class RustFileDeviceTest(device_in_c.FileDeviceTest):
 
     @classmethod
     def build(cls):
-        words, environment = ["build", "--quiet", "--release", "--example", "file_device"], copied(cls.folder)
-        faults, _ = ran(["cargo", *words], cwd=f"{cls.folder}/crate", env=environment)
+        words, cls.environment = ["build", "--quiet", "--release", "--example", "file_device"], copied(cls.folder)
+        faults, _ = ran(["cargo", *words], cwd=f"{cls.folder}/crate", env=cls.environment)
+        faults += HERE.compiled(["-O1", "-c", f"{cls.folder}/c/bootswap.c", "-o", f"{cls.folder}/bootswap.o"])
         if faults:
-            raise AssertionError(f"file_device.rs compiles: {faults[0]}")
+            raise AssertionError(f"file_device.rs and bootswap.c compile: {faults[0]}")
         cls.program, cls.preloaded = f"{cls.folder}/target/release/examples/file_device", preloaded(cls, "power")
 
     def test_same_writes(self):
         """The flash has the same bytes as that of the device in C after each step, and each boot makes the same number of
-        writes."""
-        in_c = f"{self.folder}/device_in_c"
-        files = [f"{ROOT}/{name}.c" for name in ("bindings/c/file_device", "bindings/c/driver", "tests/power")]
-        faults = HERE.compiled(["-O1", *INCLUDE, *files, f"{self.folder}/c/bootswap.c", "-o", in_c])
-        self.case("file_device.c compiles", faults)
+        writes: with the shortest journal, and with one that holds two steps of a swap."""
+        in_rust, in_c = "SETUP.boot_journal_length()", "BOOTSWAP_JOURNAL_BOOT(IMAGES, SECTOR)"
+        for more in (0, 600):
+            rust, c = f"{self.folder}/crate/examples/file_device.rs", f"{self.folder}/file_device.c"
+            self.lengthened(f"{CRATE}/examples/file_device.rs", rust, in_rust, more)
+            self.lengthened(f"{ROOT}/bindings/c/file_device.c", c, in_c, more)
+            words = ["cargo", "build", "--quiet", "--release", "--example", "file_device"]
+            self.case("file_device.rs compiles", ran(words, cwd=f"{self.folder}/crate", env=self.environment)[0])
+            files = [c, f"{ROOT}/bindings/c/driver.c", f"{ROOT}/tests/power.c", f"{self.folder}/bootswap.o"]
+            self.case("file_device.c compiles", HERE.compiled(["-O1", *INCLUDE, *files, "-o", f"{self.folder}/device_in_c"]))
+            self.compare(f"a journal with {more} bytes more")
+
+    @staticmethod
+    def lengthened(file, copy, journal, more):
+        """Copies a source, in which the length of the journal is N bytes more."""
+        before, _, after = read(file).decode().partition(journal)
+        with open(copy, "w", encoding="utf-8") as it:
+            it.write(f"{before}{journal} + {more}{after}")
+
+    def compare(self, name):
+        """Compares both devices in scenarios of an upgrade, a revert, and a confirmed upgrade."""
         one, needing, partner = device_in_c.ONE, device_in_c.NEEDING, device_in_c.PARTNER
         steps = [("provision", one, one), ("boot",), ("boot", "upload", needing, partner), ("boot",), ("boot",)]
         for commands in (*steps, ("boot", "upload", needing, partner), ("boot", "confirm"), ("boot",)):
             before = read(self.flash) if os.path.exists(self.flash) else b""
-            found = [self.step(program, before, commands) for program in (in_c, type(self).program)]
+            programs = (f"{self.folder}/device_in_c", type(self).program)
+            found = [self.step(program, before, commands) for program in programs]
             shown = [str([(ran_so, count) for ran_so, _, count in found])]
-            self.case(f"the same writes: {' '.join(map(os.path.basename, commands))}", shown * (found[0] != found[1]))
+            faults = shown * (found[0] != found[1] or found[0][0][0] != 0)
+            self.case(f"the same writes, {name}: {' '.join(map(os.path.basename, commands))}", faults)
 
     def step(self, program, before, commands):
         """Runs commands on a flash of these bytes. Returns how that ends, the bytes then, and the number of writes of a boot
@@ -316,6 +335,7 @@ class RustFileDeviceTest(device_in_c.FileDeviceTest):
         self.program = program
         self.put(before)
         ran_so, after = self.run_device(*commands), read(self.flash)
-        count = self.writes(before) if ran_so[1] in (device_in_c.TRIAL, device_in_c.BACK) and commands == ("boot",) else 0
+        is_swap = commands == ("boot",) and ran_so[1] in (device_in_c.TRIAL, device_in_c.BACK)
+        count = self.writes(before, least=20) if is_swap else 0
         self.put(after)
         return ran_so, after, count

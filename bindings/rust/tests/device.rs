@@ -138,6 +138,7 @@ fn boot(
     let mut device = Device::open(SETUP, flash, Memory::copy(&mut copy), &mut journal)?;
     let boot = device.boot()?;
     assert!(device.is_booted());
+    assert!(device.contents() == &device.flash().bytes[..], "the copy has the flash's bytes");
     let version = |it| device.slot(it, Side::Primary).unwrap().version();
     assert!(boot.versions().is_empty() || boot.versions() == [version(0), version(1)]);
     Ok((boot.decision(), vec![version(0), version(1)], boot.reverted()))
@@ -208,6 +209,20 @@ fn failures_close_the_device() {
     assert_eq!(device.boot().unwrap().decision(), Decision::Trial(BOTH));
 }
 
+#[test]
+fn failures_end_what_was_booted() {
+    let mut flash = requested(Request::Test);
+    boot(&mut flash, JOURNAL).unwrap();
+    flash.fails_at = flash.writes + 1;
+    let mut journal = [0; JOURNAL];
+    let mut device = Device::resume(SETUP, &mut flash, Memory::mapped(), &mut journal).unwrap();
+    assert!(device.is_booted());
+    assert_eq!(device.confirm(0), Err(Error::Flash(Failed)));
+    assert!(!device.is_booted());
+    assert_eq!(device.reopen(), Ok(()));
+    assert!(device.is_booted(), "the loader's boot answered");
+}
+
 /// The writes are the same with a copy and with mapped memory. A longer journal takes fewer
 /// attempts, and the flash ends with the same bytes.
 #[test]
@@ -218,6 +233,7 @@ fn copy_and_mapped() {
         let (mut flash, mut journal) = (requested(Request::Permanent), vec![0; length]);
         let mut device = Device::open(SETUP, &mut flash, Memory::mapped(), &mut journal).unwrap();
         let boot = device.boot().unwrap();
+        assert_eq!(boot.decision(), Decision::Permanent(BOTH));
         assert_eq!(boot.writes(), device.writes());
         assert_eq!(boot.writes(), device.flash().writes as u64);
         assert!(flash.bytes == copied.bytes, "a journal of {} bytes", length);
