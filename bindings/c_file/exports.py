@@ -23,7 +23,7 @@ RESULTS = {"void": None, "uint32_t": 32, "uint64_t": 64}
 # only these calls need aren't compiled then.
 PARTS = {
     "BOOTSWAP_WITHOUT_UPLOADS": re.compile("bootswap_(journal|simulate)_(accept|piece|finish|withdraw)"),
-    "BOOTSWAP_WITHOUT_TEXTS": re.compile("bootswap_(journal_boot_with_texts|simulate_boot|choose|check)"),
+    "BOOTSWAP_WITHOUT_TEXTS": re.compile("bootswap_(journal_boot_with_texts|simulate_boot|choose(_in)?|check(_in)?)"),
     "BOOTSWAP_WITHOUT_SIMULATION": re.compile("bootswap_simulate_.*"),
 }
 
