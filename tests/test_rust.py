@@ -233,7 +233,7 @@ class LayoutTest(CaseTest):
         structs, wanted = self.structs(), header.structs_of_c()
         names = {"saved_state": "SavedState", "result": "CallResult", "image_parts": "ImageParts", "sha256": "Sha256"}
         for name in ("setup", "saved_state", "version", "dependency", "refusal", "result", "component", "manifest", "group",
-                     "description", "image_parts", "state", "sha256"):
+                     "description", "image_parts", "state", "sha256", "workspace"):
             found = header.rows_of(structs[names.get(name, name.capitalize())])
             self.case(name, [str(found)] * (found != header.rows_of(wanted[name])))
 

@@ -54,5 +54,6 @@ pub use numbers::{Fault, ImageFault, ManifestFault, Phase, Reason, Status, Uploa
 pub use setup::Setup;
 pub use sys::{Dependency, Group, Refusal, Version};
 pub use sys::{MAX_ALTERNATIVES, MAX_DEPENDENCIES, MAX_GROUPS, MAX_IMAGES};
-pub use text::{check, choose, TextError, MAX_REPORT_LENGTH, MAX_TABLE_LENGTH};
+pub use text::{check, check_in, choose, choose_in};
+pub use text::{TextError, Workspace, MAX_REPORT_LENGTH, MAX_TABLE_LENGTH};
 pub use values::{Boot, Component, Decision, Error, Images, Request, State, Texts};

@@ -8,6 +8,7 @@ use crate::image::NotMade;
 use crate::numbers::{ImageFault, Status};
 use crate::sys;
 use crate::text::TextError;
+use core::mem::MaybeUninit;
 
 /// What the calls of a device get.
 pub(crate) struct Call<'c> {
@@ -186,6 +187,54 @@ pub(crate) fn check(table: &[u8], report: &[u8]) -> Result<(), TextError> {
     // SAFETY: as in `state`.
     let status = unsafe {
         sys::bootswap_check(table.as_ptr(), table.len(), report.as_ptr(), report.len(), &mut line)
+    };
+    match status {
+        0 => Ok(()),
+        _ => Err(TextError::from_numbers(status, line)),
+    }
+}
+
+/// Chooses by a table, which is read to the workspace, and returns the length of the report.
+pub(crate) fn choose_in(
+    workspace: &mut MaybeUninit<sys::Workspace>,
+    table: &[u8],
+    report: &mut [u8],
+) -> Result<usize, TextError> {
+    let mut length = 0;
+    // SAFETY: as in `state`. The workspace may hold anything, and keeps nothing that is read.
+    let status = unsafe {
+        sys::bootswap_choose_in(
+            workspace.as_mut_ptr(),
+            table.as_ptr(),
+            table.len(),
+            report.as_mut_ptr(),
+            report.len(),
+            &mut length,
+        )
+    };
+    match status {
+        0 => Ok(length as usize),
+        _ => Err(TextError::from_numbers(status, length)),
+    }
+}
+
+/// Checks a report by a table, which is read to the workspace.
+pub(crate) fn check_in(
+    workspace: &mut MaybeUninit<sys::Workspace>,
+    table: &[u8],
+    report: &[u8],
+) -> Result<(), TextError> {
+    let mut line = 0;
+    // SAFETY: as in `choose_in`.
+    let status = unsafe {
+        sys::bootswap_check_in(
+            workspace.as_mut_ptr(),
+            table.as_ptr(),
+            table.len(),
+            report.as_ptr(),
+            report.len(),
+            &mut line,
+        )
     };
     match status {
         0 => Ok(()),

@@ -173,6 +173,11 @@ pub struct Sha256 {
     pub bytes: [u8; 32],
 }
 
+#[repr(C)]
+pub struct Workspace {
+    pub words: [u64; 913],
+}
+
 impl SavedState {
     /// A device that isn't booted.
     pub const ZERO: Self = Self {
@@ -242,6 +247,7 @@ const _: () = assert!(core::mem::size_of::<Manifest>() == 584);
 const _: () = assert!(core::mem::size_of::<Description>() == 464);
 const _: () = assert!(core::mem::size_of::<ImageParts>() == 432);
 const _: () = assert!(core::mem::size_of::<State>() == 52);
+const _: () = assert!(core::mem::size_of::<Workspace>() == 7304);
 
 extern "C" {
     pub fn bootswap_journal_provision(
@@ -363,6 +369,22 @@ extern "C" {
         length: *mut u64,
     ) -> u32;
     pub fn bootswap_check(
+        table: *const u8,
+        table_length: usize,
+        report: *const u8,
+        report_length: usize,
+        line: *mut u64,
+    ) -> u32;
+    pub fn bootswap_choose_in(
+        workspace: *mut Workspace,
+        table: *const u8,
+        table_length: usize,
+        report: *mut u8,
+        report_capacity: usize,
+        length: *mut u64,
+    ) -> u32;
+    pub fn bootswap_check_in(
+        workspace: *mut Workspace,
         table: *const u8,
         table_length: usize,
         report: *const u8,

@@ -2,6 +2,8 @@
 
 use crate::library;
 use crate::numbers::Status;
+use crate::sys;
+use core::mem::MaybeUninit;
 
 /// The most bytes of the text of a table. A buffer of this length is always large enough.
 pub const MAX_TABLE_LENGTH: usize = 20480;
@@ -20,8 +22,8 @@ pub enum TextError {
     InvalidSet,
     /// The report isn't right for the table.
     Wrong,
-    /// The buffer is too small for a report of this length in bytes.
-    TooSmall(u64),
+    /// The buffer is too small for the report.
+    TooSmall,
     /// The library returned a number that this crate doesn't know: it is of another version.
     Unknown(u32),
 }
@@ -34,14 +36,14 @@ impl TextError {
             Some(Status::NoReport) => Self::NoReport(value),
             Some(Status::InvalidSet) => Self::InvalidSet,
             Some(Status::Wrong) => Self::Wrong,
-            Some(Status::TooSmall) => Self::TooSmall(value),
+            Some(Status::TooSmall) => Self::TooSmall,
             _ => Self::Unknown(status),
         }
     }
 }
 
 /// Chooses among the requests of a table, and returns the report, which is written to the front of
-/// a buffer of at most [`MAX_REPORT_LENGTH`] bytes.
+/// a buffer. One of [`MAX_REPORT_LENGTH`] bytes is always large enough.
 ///
 /// ```
 /// // A test of version 2.0.0 of image 0 is requested, which needs that version of image 1.
@@ -69,6 +71,48 @@ pub fn choose<'r>(table: &str, report: &'r mut [u8]) -> Result<&'r str, TextErro
 /// The checker shares no code with [`choose`].
 pub fn check(table: &str, report: &str) -> Result<(), TextError> {
     library::check(table.as_bytes(), report.as_bytes())
+}
+
+/// Memory of 7304 bytes for the table of a choice or of a check, which takes most of the stack of
+/// [`choose`] and [`check`]. What it holds has no meaning.
+pub struct Workspace(MaybeUninit<sys::Workspace>);
+
+impl Workspace {
+    /// Memory that holds nothing yet.
+    pub const fn new() -> Self {
+        Self(MaybeUninit::uninit())
+    }
+}
+
+impl Default for Workspace {
+    fn default() -> Self {
+        Self::new()
+    }
+}
+
+/// Chooses as [`choose`] does, with the table in a workspace: it takes less than 2 kB of stack.
+///
+/// ```
+/// let mut workspace = bootswap::Workspace::new();
+/// let mut buffer = [0; bootswap::MAX_REPORT_LENGTH];
+/// let table = "image 0 1.0.0+0 0 0\nrequest 2.0.0+0 0\n";
+/// let report = bootswap::choose_in(&mut workspace, table, &mut buffer)?;
+/// assert_eq!(report, "take 0 2.0.0+0\n");
+/// assert_eq!(bootswap::check_in(&mut workspace, table, report), Ok(()));
+/// # Ok::<(), bootswap::TextError>(())
+/// ```
+pub fn choose_in<'r>(
+    workspace: &mut Workspace,
+    table: &str,
+    report: &'r mut [u8],
+) -> Result<&'r str, TextError> {
+    let length = library::choose_in(&mut workspace.0, table.as_bytes(), report)?;
+    Ok(text_of(report, length))
+}
+
+/// Checks as [`check`] does, with the table in a workspace: it takes less than 2 kB of stack.
+pub fn check_in(workspace: &mut Workspace, table: &str, report: &str) -> Result<(), TextError> {
+    library::check_in(&mut workspace.0, table.as_bytes(), report.as_bytes())
 }
 
 /// Returns the text at the front of a buffer. The library writes ASCII, so it is always one.
