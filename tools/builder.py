@@ -19,7 +19,7 @@ import time
 from concurrent.futures import FIRST_COMPLETED, ThreadPoolExecutor, wait
 
 from commits import ROOT, commit_here, write_commit
-from schedule import SECONDS, Schedule
+from schedule import SECONDS, Schedule, expected
 
 OUT = f"{ROOT}/out"
 LOG = f"{OUT}/bootswap.log"
@@ -28,13 +28,16 @@ LOG = f"{OUT}/bootswap.log"
 # out/rlib, where it has the library of that crate. A program has none, so `rt` needs nothing there.
 BUILD = f"{ROOT}/crates/bootswap/out/rlib"
 
-# What a build prints first, as measured on 4 processors while all of them were busy.
-COSTS = {
-    "bootswap": "the program: from nothing it takes 45 to 100 minutes of one processor, 1.8 GB of disk",
-    "bootswap_core": "the core of the program: from nothing it takes 25 to 55 minutes of one processor, 1.1 GB of disk",
-    "c_interface": "the library: from nothing it takes 25 to 55 minutes of one processor, 1 GB of disk",
-    "manifest_interface": "the library for manifests: from nothing it takes 5 to 10 minutes of one processor, 0.2 GB of disk",
+# What a build makes, as it is called, and the most GB of disk that it takes.
+MADE = {
+    "bootswap": ("the program", 1.8),
+    "bootswap_core": ("the core of the program", 1.1),
+    "c_interface": ("the library", 1),
+    "manifest_interface": ("the library for manifests", 0.2),
 }
+
+# How many seconds a build is silent at most on a terminal.
+SILENT = 30
 
 # The most memory that the check of a crate has taken, in bytes.
 MEMORY = 2_300_000_000
@@ -54,6 +57,11 @@ class NotBuilt(Exception):
 
 def tell(text):
     print(f"bootswap: {text}", file=sys.stderr, flush=True)
+
+
+def is_watched():
+    """Returns whether somebody may sit before a terminal and wait."""
+    return sys.stderr.isatty()
 
 
 class Crate:
@@ -174,7 +182,7 @@ class Build:
 
     def __init__(self, crates, toolchain, kit, held):
         self.toolchain, self.kit, self.held, self.start = toolchain, kit, held, time.monotonic()
-        self.what, self.processors = COSTS[crates[-1].name], len(os.sched_getaffinity(0))
+        self.crates, self.processors = crates, len(os.sched_getaffinity(0))
         # That of the sources which were read just now. The build may take an hour, in which others may be committed.
         self.commit = commit_here()
         self.most = int(0.9 * free_memory() // MEMORY)
@@ -189,21 +197,38 @@ class Build:
         """Proves and builds everything that is left."""
         if self.most <= 0:
             raise NotBuilt(f"a check takes up to {MEMORY / 1e9:.1f} GB of memory, and less is free")
-        at_once = min(self.processors, self.most)
-        tell(
-            f"proving and building {self.what}, and up to {at_once * MEMORY / 1e9:.1f} GB of memory; "
-            f"{len(self.schedule.left)} crates are left, at most {at_once} side by side"
-        )
+        tell(self.announcement())
         with ThreadPoolExecutor(self.processors) as pool:
             try:
                 while self.schedule.left or self.running:
                     for crate, jobs in self.schedule.started().items():
                         self.running[pool.submit(self.build, crate, jobs)] = crate
-                    for ran in wait(self.running, return_when=FIRST_COMPLETED).done:
+                    ended = wait(self.running, SILENT, FIRST_COMPLETED).done
+                    for ran in ended:
                         self.end(self.running.pop(ran), ran.result())
+                    if not ended and is_watched():
+                        tell(f"{self.under_way()} under way ({self.seconds()}); {self.left()} left")
             finally:
                 self.stop()
         tell(f"built ({self.seconds()})")
+
+    def announcement(self):
+        """Returns what is built, and what that takes: by the crates that are left, and not from nothing."""
+        (what, disk), left = MADE[self.crates[-1].name], self.schedule.left
+        at_once = min(self.processors, self.most)
+        clock, used = (f"{max(round(it / 60), 1)} min" for it in expected(self.crates, left, self.processors, self.most))
+        return (
+            f"proving and building {what}: {len(left)} of {len(self.crates)} crates are left. That takes about {clock} on "
+            f"{at_once} idle {'processor' if at_once == 1 else 'processors'} ({used} of CPU time), up to {at_once * MEMORY / 1e9:.1f} GB of memory and {disk} GB of disk"
+        )
+
+    def under_way(self):
+        """Returns the crates that are being built."""
+        return ", ".join(it.name for it in self.running.values())
+
+    def left(self):
+        """Returns how many crates aren't built yet."""
+        return len(self.schedule.left) + len(self.running)
 
     def build(self, crate, jobs):
         """Proves and builds a crate in N processes, and returns whether that succeeded, and the output."""
@@ -257,10 +282,8 @@ class Build:
         if not is_done:
             raise NotBuilt(f"{crate.name} isn't proved, or can't be built; what was said is in {LOG}")
         self.schedule.end(crate)
-        under_way = ", ".join(it.name for it in self.running.values())
-        more = f", {under_way} under way" if under_way else ""
-        left = len(self.schedule.left) + len(self.running)
-        tell(f"{crate.name} is proved ({self.seconds()}); {left} left{more}")
+        more = f", {self.under_way()} under way" if self.running else ""
+        tell(f"{crate.name} is proved ({self.seconds()}); {self.left()} left{more}")
 
     def stop(self):
         """Ends what still runs, if the build failed or was interrupted."""
@@ -313,14 +336,22 @@ def locked():
     """
     held = os.open(os.path.dirname(os.path.dirname(BUILD)), os.O_RDONLY)
     try:
-        try:
-            fcntl.flock(held, fcntl.LOCK_EX | fcntl.LOCK_NB)
-        except BlockingIOError:
-            tell("waiting for another build, or `rt`, to end here")
-            fcntl.flock(held, fcntl.LOCK_EX)
+        wait_for(held)
         yield held
     finally:
         os.close(held)
+
+
+def wait_for(held):
+    """Waits for the lock of this descriptor, and says so: once, and on a terminal again and again."""
+    said = None
+    while True:
+        with contextlib.suppress(BlockingIOError):
+            return fcntl.flock(held, fcntl.LOCK_EX | fcntl.LOCK_NB)
+        if said is None or is_watched() and time.monotonic() - said >= SILENT:
+            tell("waiting for another build, or `rt`, to end here")
+            said = time.monotonic()
+        time.sleep(0.2)
 
 
 def library_crates(target=TARGET, name=LIBRARY):

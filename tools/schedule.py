@@ -19,6 +19,9 @@ SECONDS = {
 # More processes than these hardly make the check of a crate faster.
 MOST_JOBS = 4
 
+# What each further process of a check costs, as a part of the CPU time that one process takes.
+FURTHER = 0.3
+
 
 class Schedule:
     """The crates of a build: those that are left, and those that run, each with its number of processes."""
@@ -62,3 +65,17 @@ class Schedule:
 
     def end(self, crate):
         del self.running[crate]
+
+
+def expected(crates, left, processors, most):
+    """Returns how many seconds a build takes on idle processors, and how many CPU-seconds: of these crates those that are
+    left, scheduled as above."""
+    schedule, ends, clock, used = Schedule(crates, [*left], processors, most), {}, 0, 0
+    while schedule.left or ends:
+        for crate, jobs in schedule.started().items():
+            seconds = crate.seconds * (1 + FURTHER * (jobs - 1))
+            ends[crate], used = clock + seconds / jobs, used + seconds
+        first = min(ends, key=ends.get)
+        clock = ends.pop(first)
+        schedule.end(first)
+    return clock, used
