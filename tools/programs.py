@@ -8,7 +8,7 @@ import hashlib
 import os
 import shutil
 
-from builder import OUT, NotBuilt, asked_of_rt, build, crates_of, text_of
+from builder import OUT, NotBuilt, asked_of_rt, build, crates_of, tell, text_of
 
 WHOLE, CORE = "bootswap", "bootswap_core"
 
@@ -62,14 +62,17 @@ def is_current(name, toolchain):
     return text_of(f"{file_of(name)}.stamp") == stamp_of(name, crates_of(name), toolchain)
 
 
-def current_for(name):
-    """Returns the file of a current program that does what this one does. If there is none, proves and builds it."""
+def current_for(name, hint=None):
+    """Returns the file of a current program that does what this one does. If there is none, prints the hint, and proves and
+    builds it."""
     toolchain = asked_of_rt("version") if shutil.which("rt") else None
     for enough in dict.fromkeys((WHOLE, name)):
         if is_current(enough, toolchain):
             return file_of(enough)
     if not toolchain:
         raise NoToolchain("the Rattle toolchain's command rt is not on the PATH; it proves and builds the program")
+    if hint:
+        tell(hint)
     stamp, crates = f"{file_of(name)}.stamp", crates_of(name)
     if os.path.exists(stamp):
         os.remove(stamp)
