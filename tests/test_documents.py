@@ -13,9 +13,12 @@ from tutorial import commands_of
 
 
 def quick_start():
-    """The first command of the README and its output: the next block that begins with `done`."""
+    """The commands of the README, each with its output. The first one runs the program without a proof, and shows what the
+    proved one prints."""
     text = read(f"{ROOT}/README.md").decode()
-    return re.search(r"^```sh\n(.*?)^\./gate$.*?^```\n.*?^```\n(done\n.*?)^```$", text, re.M | re.S).groups()
+    first = re.search(r"^```sh\n(\./bootswap --unproved .*?)^```\n\n```\n(.*?)^```$", text, re.M | re.S).groups()
+    yield first[0].replace(" --unproved", "", 1), first[1]
+    yield re.search(r"^```sh\n(\./bootswap provision .*?)^\./gate$.*?^```\n.*?^```\n(done\n.*?)^```$", text, re.M | re.S).groups()
 
 
 def formats_script():
@@ -34,7 +37,8 @@ class DocumentTest(ProgramTest):
         """Each command of the documents prints what they show below it."""
         os.mkdir(f"{self.folder}/out")
         os.symlink(self.program, f"{self.folder}/bootswap")
-        commands = [("README.md, quick start", *quick_start()), ("docs/FORMATS.md, the script", *formats_script())]
+        commands = [(f"README.md, command {number}", *it) for number, it in enumerate(quick_start(), 1)]
+        commands.append(("docs/FORMATS.md, the script", *formats_script()))
         for number, (command, wanted) in enumerate(commands_of("docs/TUTORIAL.md", self.version()), 1):
             commands.append((f"docs/TUTORIAL.md, command {number}", command, wanted))
         for name, command, wanted in commands:
