@@ -285,7 +285,7 @@ struct bootswap_workspace {
  */
 #define BOOTSWAP_JOURNAL_PROVISION(images) ((size_t)144 + (size_t)24 * (size_t)(images))
 #define BOOTSWAP_JOURNAL_ACCEPT(components, sectors) \
-    ((size_t)120 + (size_t)44 * (size_t)(components) + (size_t)12 * (size_t)(sectors))
+    ((size_t)120 + (size_t)32 * (size_t)(components) + (size_t)12 * (size_t)(sectors))
 #define BOOTSWAP_JOURNAL_PIECE(length) ((size_t)31 + (size_t)(length))
 #define BOOTSWAP_JOURNAL_FINISH ((size_t)68)
 #define BOOTSWAP_JOURNAL_WITHDRAW ((size_t)44)

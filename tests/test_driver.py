@@ -486,7 +486,7 @@ class JournalsTest(DriverTest):
 
     def test_bounds(self):
         """With a journal of its bound no call is cut. With a byte less one is cut that needs all of it. Each call needs that at
-        some time, except `accept`: its bound counts two erases of the first sector of a slot, and it makes one of them."""
+        some time."""
         device, needed = self.new_device(capacity=LONG), {}
         for name, words, bound in self.calls_with_bounds(device):
             state = device.state()
@@ -498,7 +498,7 @@ class JournalsTest(DriverTest):
             is_right = number == 0 and less == (CUT if used == bound else 0)
             self.case(f"{name} with {bound} bytes", [(number, less, used)] * (not is_right) + device.flash.wrong)
         unused = {name: min(left) for name, left in needed.items()}
-        self.case("bounds that are reached", [unused] * (unused != {**dict.fromkeys(BOUNDS, 0), "accept": 2 * 12}))
+        self.case("bounds that are reached", [unused] * (unused != dict.fromkeys(BOUNDS, 0)))
 
     def calls_with_bounds(self, device):
         """Yields calls of a device, each with its bound, and makes it. Its trailers and its log hold something first. There are

@@ -18,7 +18,7 @@ pub const fn provision(images: usize) -> usize {
 /// Of [`accept`](crate::Device::accept), for this number of components, whose slots have this
 /// number of sectors, one slot for each component.
 pub const fn accept(components: usize, sectors: usize) -> usize {
-    components.saturating_mul(44).saturating_add(sectors.saturating_mul(12)).saturating_add(120)
+    components.saturating_mul(32).saturating_add(sectors.saturating_mul(12)).saturating_add(120)
 }
 
 /// Of [`piece`](crate::Device::piece), for this number of bytes.

@@ -204,7 +204,16 @@ pub rest_trans : (map : SectorMap) (image : ℕ) (side : Side) (old mid new : Ch
     → KeepsBehindFirst map image side old new
 rest_trans map image side old mid new a b = record { each = λ k high. b.each k high ∙ a.each k high }
 
--- A withdrawal changes nothing if the slot's first unit and the trailer are erased.
+-- The first two steps of a withdrawal change nothing if the slot's first unit is erased.
+pub front_idle : (map : SectorMap) (old first second : Chip) (image : ℕ)
+    → (standing_of map old image ≡ None → first ≡ old)
+    → (first_is_set (incoming_slot map first image) ≡ false → second ≡ first)
+    → first_is_set (incoming_slot map old image) ≡ false → second ≡ old
+front_idle map old first second image one two front =
+    let a = one (gone_without_front map old image front) in
+    two (ap (λ chip. first_is_set (incoming_slot map chip image)) a ∙ front) ∙ a
+
+-- A withdrawal changes nothing if the trailer is erased too.
 pub nothing_left : (map : SectorMap) (old first second new : Chip) (image : ℕ)
     → (standing_of map old image ≡ None → first ≡ old)
     → (first_is_set (incoming_slot map first image) ≡ false → second ≡ first)
@@ -212,10 +221,8 @@ pub nothing_left : (map : SectorMap) (old first second new : Chip) (image : ℕ)
     → first_is_set (incoming_slot map old image) ≡ false → are_erased (trailer_bytes map old image Secondary) ≡ true
     → new ≡ old
 nothing_left map old first second new image one two three front erased =
-    let a = one (gone_without_front map old image front) in
-    let b = two (ap (λ chip. first_is_set (incoming_slot map chip image)) a ∙ front) in
-    let c = three (ap (λ chip. are_erased (trailer_bytes map chip image Secondary)) (b ∙ a) ∙ erased) in
-    c ∙ b ∙ a
+    let before = front_idle map old first second image one two front in
+    three (ap (λ chip. are_erased (trailer_bytes map chip image Secondary)) before ∙ erased) ∙ before
 
 -- The number of erases of a withdrawal.
 pub erases_of : (map : SectorMap) (old first second new : Chip) (image : ℕ)

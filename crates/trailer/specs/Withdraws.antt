@@ -90,6 +90,8 @@ pub record Withdraws (map : SectorMap) (image : ℕ) (old new : Chip)
       + (if are_erased (trailer_bytes map old image Secondary) then 0 else 1))
   -- If the flash is off, the call returns `Off`.
   pub off : old.is_on ≡ false → IsErrOf result Off
-  -- It asks a journal for at most 44 bytes.
+  -- It asks a journal for at most 44 bytes, and for at most 12 if the slot's first unit was erased.
   pub journal : new.journaled ≤ old.journaled + 44
+  pub journal_unset : first_is_set (incoming_slot map old image) ≡ false
+      → new.journaled ≤ old.journaled + 12
   pub ends : Ends result old new

@@ -185,6 +185,30 @@ open_erases map old mid image now before after there rest gone kept first slot =
         ap {B = ℕ} (λ t. if t then 1 else 0) e,
       )
 
+-- The journal after a slot is opened: if the slot's first unit was set, then the withdrawal has erased its first sector.
+pub open_journal : (map : SectorMap) (old mid : Chip) (image now : ℕ) → IsLaidOut map mid → 0 < slot_sectors map image
+    → (first_is_set (incoming_slot map old image) ≡ true
+    → are_erased (first_sector map.sector_size (incoming_slot map mid image)) ≡ true)
+    → mid.journaled ≤ old.journaled + 44
+    → (first_is_set (incoming_slot map old image) ≡ false → mid.journaled ≤ old.journaled + 12)
+    → now ≤ mid.journaled + 12 * slot_sectors map image
+    → (IsErased mid (start_of map (Slot image Secondary)) map.sector_size
+    → now + 12 ≤ mid.journaled + 12 * slot_sectors map image)
+    → now ≤ old.journaled + (32 + 12 * slot_sectors map image)
+open_journal map old mid image now after some gone most unset all but_first =
+    by (first_is_set (incoming_slot map old image)) refl where
+      by : (set : Bool) → first_is_set (incoming_slot map old image) ≡ set
+          → now ≤ old.journaled + (32 + 12 * slot_sectors map image)
+      by true e =
+          let none : 0 * map.sector_size ≡ 0 = omega arith in
+          let one : (0 + 1) * map.sector_size ≡ map.sector_size = omega arith in
+          let blank = range_is_erased map mid (Slot image Secondary) (start_of map (Slot image Secondary)) map.sector_size
+          (0 * map.sector_size) ((0 + 1) * map.sector_size)
+          (ap are_erased (first_is map.sector_size (incoming_slot map mid image)) ∙ gone e) after
+          (sector_ends map image 0 some) (omega (arith, none)) (omega (arith, none, one)) in
+          omega (arith, most, but_first blank)
+      by false e = omega (arith, unset e, all)
+
 -- ---- the sectors that are erased
 
 none_in : (size : ℕ) (bytes : List ℕ) (n : ℕ) → are_erased bytes ≡ true → worn_in size bytes n ≡ 0
@@ -292,12 +316,12 @@ worn_next map old mid new cs i d lt keeps none one before =
 -- What opening the slots of the next component and those after it asks a journal for.
 journal_next : (map : SectorMap) (cs : List Component) (i : ℕ) (d : Component) → i < length cs
     → journal_of_components map (drop i cs)
-    ≡ (44 + 12 * slot_sectors map (get_or cs i d).image) + journal_of_components map (drop (i + 1) cs)
+    ≡ (32 + 12 * slot_sectors map (get_or cs i d).image) + journal_of_components map (drop (i + 1) cs)
 journal_next map cs i d lt = ap (λ l. journal_of_components map l) (drop_more cs i d lt)
 
 -- What opening the slots of one component more asks a journal for.
 pub journal_more : (map : SectorMap) (old mid new : ℕ) (cs : List Component) (i : ℕ) (d : Component) → i < length cs
-    → new ≤ mid + (44 + 12 * slot_sectors map (get_or cs i d).image)
+    → new ≤ mid + (32 + 12 * slot_sectors map (get_or cs i d).image)
     → mid + journal_of_components map (drop i cs) ≤ old + journal_of_components map cs
     → new + journal_of_components map (drop (i + 1) cs) ≤ old + journal_of_components map cs
 journal_more map old mid new cs i d lt one before = omega (arith, journal_next map cs i d lt, one, before)

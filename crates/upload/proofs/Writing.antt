@@ -185,6 +185,34 @@ sectors_idle map old mid new image index lt before next blank =
     next (subst (λ chip. IsErased chip ((first_of map (Slot image Secondary) + index) * map.sector_size) map.sector_size)
     (sym same) (sector_erased_too map old image index lt blank)) ∙ same
 
+-- The journal while the sectors of a slot are visited, if the first one was erased.
+pub record FirstIsFree (index : ℕ) (old mid : Chip) : Type 0 where
+  -- Before the first sector nothing has changed.
+  pub none : index ≡ 0 → mid ≡ old
+  -- After it, each other sector takes at most 12 bytes.
+  pub some : 0 < index → mid.journaled + 12 ≤ old.journaled + 12 * index
+
+-- So it is after the last sector.
+pub free_at_end : {n : ℕ} {old new : Chip} → FirstIsFree n old new → 0 < n
+    → new.journaled + 12 ≤ old.journaled + 12 * n
+free_at_end free some = free.some some
+
+-- And after a further sector, of `n` in all.
+pub free_next : (map : SectorMap) (old mid new : Chip) (image index n : ℕ) → index < n
+    → IsErased old (start_of map (Slot image Secondary)) map.sector_size → FirstIsFree index old mid
+    → (IsErased mid ((first_of map (Slot image Secondary) + index) * map.sector_size) map.sector_size → new ≡ mid)
+    → new.journaled ≤ mid.journaled + 12 → new.journaled + 12 ≤ old.journaled + 12 * n
+free_next map old mid new image zero n lt erased free idle journal =
+    let at : start_of map (Slot image Secondary) ≡ (first_of map (Slot image Secondary) + 0) * map.sector_size =
+    omega (arith, sector_place map image 0) in
+    let here = subst (λ k. IsErased old k map.sector_size) at erased in
+    let same = free.none refl in
+    let still = idle (subst (λ chip. IsErased chip ((first_of map (Slot image Secondary) + 0) * map.sector_size)
+    map.sector_size) (sym same) here) ∙ same in
+    omega (arith, lt, ap (λ chip. chip.journaled) still)
+free_next map old mid new image (suc index) n lt erased free idle journal =
+    omega (arith, lt, journal, free.some (omega arith))
+
 -- The first unit of an erased slot isn't set.
 pub front_blank : (map : SectorMap) (chip : Chip) (image : ℕ) → IsLaidOut map chip → image < map.images
     → IsErased chip (start_of map (Slot image Secondary)) (length_of map (Slot image Secondary))

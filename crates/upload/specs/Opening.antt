@@ -33,8 +33,8 @@ pub record OpensSlot (map : SectorMap) (image : ℕ) (old new : Chip) {T : Type 
   pub erased : OnOk result (worn map new image ≡ 0)
   -- If slot and trailer were erased, nothing changes.
   pub idle : IsBlank map old image → new ≡ old
-  -- It asks a journal for at most 44 bytes, and 12 for each sector of the slot.
-  pub journal : new.journaled ≤ old.journaled + (44 + 12 * slot_sectors map image)
+  -- It asks a journal for at most 32 bytes, and 12 for each sector of the slot.
+  pub journal : new.journaled ≤ old.journaled + (32 + 12 * slot_sectors map image)
   pub ends : Ends result old new
 
 -- A call opens an upload for a component, in a table of uploads.

@@ -80,4 +80,7 @@ pub record ErasesSlot (map : SectorMap) (image : ℕ) (old new : Chip) {T : Type
   pub worn : OnOk result (new.erases ≡ old.erases + worn_slot map old image)
   -- It asks a journal for at most 12 bytes for each sector of the slot.
   pub journal : new.journaled ≤ old.journaled + 12 * slot_sectors map image
+  -- If the first sector was erased, it asks for 12 bytes less.
+  pub journal_first : IsErased old (start_of map (Slot image Secondary)) map.sector_size
+      → new.journaled + 12 ≤ old.journaled + 12 * slot_sectors map image
   pub ends : Ends result old new

@@ -46,12 +46,12 @@ abbrev pub erases_of_record : SectorMap → Chip → ℕ → ℕ → ℕ
 erases_of_record map chip recorded sequence =
     if recorded == sequence then 0 else if is_place_free map chip then 0 else 1
 
--- The bytes that opening the slots of components asks a journal for, at most: 44 for each, and 12
+-- The bytes that opening the slots of components asks a journal for, at most: 32 for each, and 12
 -- for each sector of its slot.
 abbrev pub journal_of_components : SectorMap → List Component → ℕ
 journal_of_components map [] = 0
 journal_of_components map (c ∷ cs) =
-    (44 + 12 * slot_sectors map c.image) + journal_of_components map cs
+    (32 + 12 * slot_sectors map c.image) + journal_of_components map cs
 
 -- Accepting a manifest with this sequence number and these components erased exactly that number of
 -- sectors.

@@ -1,7 +1,7 @@
 use Rattle.std.proofs.Common.{◌∙◌, ap, arith, inr, refl}
 use Rattle.std.proofs.lemmas.Result.{on_ok_weaker}
 use Rattle.trailer.proofs.Withdrawal.{none_after_front, none_after_trailer, front_after_trailer, erases_of, first_gone, unset_kept}
-use Rattle.trailer.proofs.Withdrawal.{nothing_left, rest_of_trailer, rest_trans}
+use Rattle.trailer.proofs.Withdrawal.{front_idle, nothing_left, rest_of_trailer, rest_trans}
 use Rattle.sector_map.specs.declared.layout.Side.TheVariants.{Secondary}
 use Rattle.sector_map.specs.Part.{Slot}
 use Rattle.flash_model.proofs.Ending.{at_error, ends_passed, ends_then}
@@ -28,6 +28,11 @@ returns-in_err-take_back g c =
       unset = λ unset. slot;
       erases = at_error _ _ e;
       journal = omega (arith, c.take_back.ensures.journal);
+      journal_unset = λ front. omega (
+        arith,
+        ap (λ chip. chip.journaled)
+            (c.take_back.ensures.idle (gone_without_front c.args.map.now _ c.args.image front)),
+      );
       off = refuses_failed _ _ _ e (ends_passed _ _ _ _ c.from_residual.ensures.1 c.in_err-take_back.ensures.ends);
       ends = ends_passed _ _ _ _ c.from_residual.ensures.1 c.in_err-take_back.ensures.ends;
     }
@@ -45,9 +50,7 @@ returns-in_err-erase_front g c =
           c.erase_front.ensures.outside;
       rest = rest;
       idle = λ front erased.
-          let still = c.take_back.ensures.idle (gone_without_front c.args.map.now _ c.args.image front) in
-          c.erase_front.ensures.idle (ap (λ chip. first_is_set (incoming_slot c.args.map.now chip c.args.image)) still
-          ∙ front) ∙ still;
+          front_idle c.args.map.now _ _ _ c.args.image c.take_back.ensures.idle c.erase_front.ensures.idle front;
       either = inr none;
       ok = at_error _ _ e;
       bytes = at_error _ _ e;
@@ -56,6 +59,11 @@ returns-in_err-erase_front g c =
       unset = unset;
       erases = at_error _ _ e;
       journal = omega (arith, c.take_back.ensures.journal, c.erase_front.ensures.journal);
+      journal_unset = λ front. omega (
+        arith,
+        ap (λ chip. chip.journaled)
+            (front_idle c.args.map.now _ _ _ c.args.image c.take_back.ensures.idle c.erase_front.ensures.idle front),
+      );
       off = refuses_first _ _ _ c.in_ok-take_back.ensures.off;
       ends = ends_then _ _ _ _ _ c.in_ok-take_back.ensures.ends
           (ends_passed _ _ _ _ c.from_residual-in_err-erase_front.ensures.1 c.in_err-erase_front.ensures.ends);
@@ -91,6 +99,12 @@ returns g c =
           c.in_ok-take_back.ensures.erases c.in_ok-erase_front.ensures.erases erases)
           c.clear.ensures.erases;
       journal = omega (arith, c.take_back.ensures.journal, c.erase_front.ensures.journal, c.clear.ensures.journal);
+      journal_unset = λ front. omega (
+        arith,
+        c.clear.ensures.journal,
+        ap (λ chip. chip.journaled)
+            (front_idle c.args.map.now _ _ _ c.args.image c.take_back.ensures.idle c.erase_front.ensures.idle front),
+      );
       off = refuses_first _ _ _ c.in_ok-take_back.ensures.off;
       ends = ends_then _ _ _ _ _ c.in_ok-take_back.ensures.ends
           (ends_then _ _ _ _ _ c.in_ok-erase_front.ensures.ends c.clear.ensures.ends);

@@ -14,7 +14,7 @@ use Rattle.upload.proofs.Writing.{front_blank}
 use Rattle.upload.proofs.Frames.{erased_stands}
 use Rattle.sector_map.proofs.Parts.{keeps_trans, keeps_wider, laid_out_kept}
 use Rattle.sector_map.proofs.Touched.{slot_of_incoming}
-use Rattle.upload.proofs.Worn.{none_worn, open_erases}
+use Rattle.upload.proofs.Worn.{none_worn, open_erases, open_journal}
 use Rattle.upload.proofs.opening.open_slot.Goals as goal
 
 pub returns-in_err-withdraw : goal.returns-in_err-withdraw
@@ -27,7 +27,11 @@ returns-in_err-withdraw g c = rw (err_passed _ _ c.from_residual.ensures.1) (rec
   erased = tt;
   idle = λ blank. c.withdraw.ensures.idle
       (front_blank c.args.map.now _ c.args.image c.requires.laid_out c.requires.there blank.slot) blank.trailer;
-  journal = omega (arith, c.withdraw.ensures.journal);
+  journal = omega (
+    arith,
+    c.withdraw.ensures.journal,
+    c.requires.laid_out.is_map.counts.some c.args.image c.requires.there,
+  );
   ends = c.in_err-withdraw.ensures.ends;
 })
 
@@ -59,7 +63,9 @@ returns g c =
           (ap are_erased (c.erase_slot.ensures.outside.parts (TrailerOf c.args.image Secondary) refl)
           ∙ c.in_ok-withdraw.ensures.bytes)) c.erase_slot.ensures.ok;
       idle = idle;
-      journal = omega (arith, c.withdraw.ensures.journal, c.erase_slot.ensures.journal);
+      journal = open_journal map _ _ c.args.image _ laid (c.requires.laid_out.is_map.counts.some c.args.image
+          c.requires.there) c.in_ok-withdraw.ensures.first c.withdraw.ensures.journal c.withdraw.ensures.journal_unset
+          c.erase_slot.ensures.journal c.erase_slot.ensures.journal_first;
       ends = ends_after _ _ (g.F.Flash.chip c.withdraw.new.flash) _ c.in_ok-withdraw.ensures.ends.uncut
           c.in_ok-withdraw.ensures.ends.asleep c.erase_slot.ensures.ends;
     }

@@ -7,7 +7,7 @@ use Rattle.flash_model.specs.Chip.{IsErased}
 use Rattle.flash_model.proofs.Ending.{asleep_trans, ends_after, ends_well, uncut_trans}
 use Rattle.trailer.specs.Standing.{incoming_slot}
 use Rattle.upload.specs.Wear.{worn_in}
-use Rattle.upload.proofs.Writing.{erased_more, next_sector, sector_place, sectors_idle, slot_erased}
+use Rattle.upload.proofs.Writing.{FirstIsFree, erased_more, free_at_end, free_next, next_sector, sector_place, sectors_idle, slot_erased}
 use Rattle.upload.proofs.Ends.{err_passed}
 use Rattle.upload.proofs.Worn.{worn_more}
 use Rattle.upload.proofs.slots.erase_slot.Goals as goal
@@ -30,6 +30,9 @@ returns g c =
       worn = subst (λ n. (g.F.Flash.chip c.loop-index.flash).erases ≡ (g.F.Flash.chip c.args.flash.now).erases
           + worn_in map.sector_size (incoming_slot map (g.F.Flash.chip c.args.flash.now) c.args.image) n) every all.worn;
       journal = omega (arith, every, all.journal);
+      journal_first = λ erased. free_at_end (subst (λ n. FirstIsFree n (g.F.Flash.chip c.args.flash.now)
+          (g.F.Flash.chip c.loop-index.flash)) every (all.first erased))
+          (c.requires.laid_out.is_map.counts.some c.args.image c.requires.there);
       ends = ends_well _ _ _ all.uncut all.asleep;
     }
 
@@ -51,6 +54,10 @@ returns-in_err-erase_sector g c =
         c.erase_sector.ensures.journal,
         all.journal,
       );
+      journal_first = λ erased.
+          free_next c.args.map.now _ _ _ c.args.image c.loop-index.index (slot_sectors c.args.map.now c.args.image)
+          (omega (arith, c.loop-index-test.true, c.slot_sectors-index-end.ensures)) erased (all.first erased)
+          c.erase_sector.ensures.idle c.erase_sector.ensures.journal;
       ends = ends_after _ _ (g.F.Flash.chip c.loop-index.flash) _ all.uncut all.asleep
           c.in_err-erase_sector.ensures.ends;
     })
@@ -71,6 +78,11 @@ loop-index-preserved g c =
       uncut = uncut_trans _ (g.F.Flash.chip c.loop-index.flash) _ all.uncut c.in_ok-erase_sector.ensures.ends.uncut;
       erases = omega (arith, c.in_ok-erase_sector.ensures.erases, all.erases);
       journal = omega (arith, c.erase_sector.ensures.journal, all.journal);
+      first = λ erased. record {
+        none = λ start. absurd (omega (arith, start));
+        some = λ later. free_next map _ _ _ c.args.image c.loop-index.index (c.loop-index.index + 1) (omega arith) erased
+            (all.first erased) c.erase_sector.ensures.idle c.erase_sector.ensures.journal;
+      };
       worn = worn_more map _ _ c.args.image c.loop-index.index _ _ c.requires.laid_out laid lt all.outside.size
           all.behind all.worn c.in_ok-erase_sector.ensures.worn;
       behind = λ k low. c.erase_sector.ensures.sector.after k (omega (arith, low, place, next))

@@ -5,6 +5,7 @@ use Rattle.sector_map.specs.Part.{Slot, only}
 use Rattle.sector_map.specs.Map.{Keeps, length_of, start_of}
 use Rattle.trailer.specs.Standing.{incoming_slot}
 use Rattle.upload.specs.Wear.{worn_in}
+use Rattle.upload.proofs.Writing.{FirstIsFree}
 use Rattle.upload.proofs.slots.erase_slot.Given as goal
 
 abbrev pub invariant-loop-index : goal.invariant-loop-index
@@ -14,6 +15,8 @@ invariant-loop-index g l = record {
   uncut : IsUncut (g.F.Flash.chip l.initial.flash) (g.F.Flash.chip l.flash);
   erases : (g.F.Flash.chip l.flash).erases ≤ (g.F.Flash.chip l.initial.flash).erases + l.index;
   journal : (g.F.Flash.chip l.flash).journaled ≤ (g.F.Flash.chip l.initial.flash).journaled + 12 * l.index;
+  first : IsErased (g.F.Flash.chip l.initial.flash) (start_of l.map (Slot l.image Secondary)) l.map.sector_size
+      → FirstIsFree l.index (g.F.Flash.chip l.initial.flash) (g.F.Flash.chip l.flash);
   worn : (g.F.Flash.chip l.flash).erases ≡ (g.F.Flash.chip l.initial.flash).erases
       + worn_in l.map.sector_size (incoming_slot l.map (g.F.Flash.chip l.initial.flash) l.image) l.index;
   behind : (k : ℕ) → start_of l.map (Slot l.image Secondary) + l.index * l.map.sector_size ≤ k
