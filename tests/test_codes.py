@@ -1,29 +1,21 @@
 """That `codes` lists each refusal that the code and docs/FORMATS.md have."""
 
-import itertools
 import os
 import re
 
 from support.files import ROOT, read
 from support.program import ProgramTest, short
 
-# The tables of codes and names in docs/FORMATS.md, each by the line before it.
-TABLES_OF_CODES = [
-    "7. Nothing follows the image",
-    "Values that no image can have are refused",
-    "A map is refused by the first of these",
-    "- `Cut`: power failed in the call",
-    "A device takes a manifest that names",
-    "Refusals of uploads:",
-]
+
+def words_of(text):
+    """Returns a text with one space between two words."""
+    return " ".join(text.split())
 
 
-def codes_under(head):
-    """Returns the rows of the first table after this line of docs/FORMATS.md, as `CODE NAME MEANING`."""
-    _, found, text = read(f"{ROOT}/docs/FORMATS.md").decode().partition(f"\n{head}")
-    row = re.compile(r"\| (?:`refused )?(\d+)(?: | \| `)(\w+)` \| (.*) \|")
-    lines = itertools.dropwhile(lambda line: not row.fullmatch(line), text.splitlines())
-    return [" ".join(row.fullmatch(it).groups()) for it in itertools.takewhile(row.fullmatch, lines)]
+def lists_of_the_formats():
+    """Returns the lists of refusals in docs/FORMATS.md. Their lines are shorter than those of `codes`."""
+    blocks = re.findall(r"^```\n(.*?)^```$", read(f"{ROOT}/docs/FORMATS.md").decode(), re.MULTILINE | re.DOTALL)
+    return {words_of(it) for it in blocks if re.match(r" 1 [A-Z]|damaged ", it)}
 
 
 # Where the source has the numbers and names of refusals, by the headings of the list that `codes` prints.
@@ -54,14 +46,12 @@ class CodesTest(ProgramTest):
     """The list of `codes`."""
 
     def test_codes_of_the_formats(self):
-        """`codes` and its help list each code and name of docs/FORMATS.md."""
+        """docs/FORMATS.md has the lists that `codes` and its help print, and no other."""
         status, out, err = self.run_program(["codes"])
-        listed = " ".join(out.decode().split())
         self.case("codes: its status", [] if (status, err) == (0, b"") else [f"{status} {short(err)}"])
-        for head in TABLES_OF_CODES:
-            rows = codes_under(head)
-            lacks = [it for it in rows if f" {it} " not in f"{listed} "]
-            self.case(f"codes: {len(rows)} of {head.strip('|')}", lacks if rows else ["there are none"])
+        lists = {words_of(it.partition("\n")[2]) for it in out.decode().split("\n\n")[1:]}
+        self.case("codes: its lists", [] if len(lists) == 7 else [f"{len(lists)} lists"])
+        self.case("codes: those of docs/FORMATS.md", sorted(lists ^ lists_of_the_formats()))
         status, help_text, err = self.run_program(["help", "codes"])
         is_right = (status, err) == (0, b"") and out in help_text
         self.case("help codes", [] if is_right else [f"{status} {short(help_text)}"])

@@ -76,13 +76,13 @@ class DocsTest(unittest.TestCase):
         done = subprocess.run(words, stdin=subprocess.DEVNULL, stdout=subprocess.PIPE, stderr=subprocess.STDOUT, text=True)
         self.assertEqual((done.returncode, done.stdout), (0, ""), "`tools/docs` writes them anew")
 
-    def test_tables_of_refusals_are_those_of_the_code(self):
+    def test_lists_of_refusals_are_those_of_the_code(self):
         paths = glob.glob("crates/*/src/**/*.rt", root_dir=ROOT, recursive=True)
         refusals = [found for path in paths for found in refusals_of(text_of(path))]
-        tables = re.findall(r"^\| (?:Code|Number) \| (?:Name|Fault) \|.*\n\|[-|]+\n((?:\|.*\n)+)", text_of("docs/FORMATS.md"), re.MULTILINE)
-        self.assertEqual(len(tables), 6)
-        for table in tables:
-            rows = re.findall(r"^\| (\d+) \| `(\w+)` \|", table, re.MULTILINE)
+        lists = re.findall(r"^```\n( 1 .*?)^```$", text_of("docs/FORMATS.md"), re.MULTILINE | re.DOTALL)
+        self.assertEqual(len(lists), 6)
+        for shown in lists:
+            rows = re.findall(r"^ ?(\d+) (\w+) ", shown, re.MULTILINE)
             with self.subTest(f"refusals from {rows[0][1]} on"):
                 self.assertIn([(int(number), name) for number, name in rows], refusals)
 
