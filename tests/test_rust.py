@@ -46,30 +46,7 @@ bootswap = {{ path = "{crate}"{features} }}
 
 [workspace]
 """
-# What plays the part and the applications of docs/PORTING.md, as examples/cortex_m does: version 1 takes an upload of version 2.
-PLAYED = """
-fn image(major: u8) -> Vec<u8> {
-    let version = bootswap::Version::new(major, 0, 0);
-    let parts = bootswap::ImageParts { version, header_size: 512, ..bootswap::ImageParts::default() };
-    let mut bytes = vec![0; 10_000];
-    let length = bootswap::make_image(&parts, &[major; 5000], &mut bytes).unwrap();
-    bytes.truncate(length);
-    bytes
-}
-
-fn main() {
-    let (mut flash, old, new) = (vec![0xff; SETUP.map_length()], image(1), image(2));
-    flash[..old.len()].copy_from_slice(&old);
-    let mut start = |file: Option<&[u8]>| {
-        let table = boot(bootswap::MemoryFlash::<4096>(&mut flash)).unwrap();
-        let resets = work(bootswap::MemoryFlash::<4096>(&mut flash), file).unwrap();
-        println!("vectors {}, version {}, resets {}", table, flash[20], resets);
-    };
-    start(Some(&new));
-    start(None);
-    start(None);
-}
-"""
+# What the example upgrade.rs prints: version 1 takes an upload of version 2.
 PLAYS = b"".join(b"vectors 512, version %d, resets %s\n" % it for it in ((1, b"true"), (2, b"false"), (2, b"false")))
 
 # The traits of the crate embedded-storage 0.3, which can't be fetched by an offline cargo, and a flash that has them.
@@ -153,7 +130,7 @@ class RustTest(CaseTest):
         faults, output = self.cargo("doc")
         self.case("cargo doc", faults + [short(output)] * (b"warning" in output))
         faults, output = self.cargo("package", "--list", "--allow-dirty")
-        wanted = {"README.md", "build.rs", "src/lib.rs", "tests/header.rs", "examples/file_device.rs"}
+        wanted = {"README.md", "build.rs", "src/lib.rs", "tests/header.rs", "examples/file_device.rs", "examples/upgrade.rs"}
         self.case("cargo package", faults + sorted(wanted - {*output.decode().split()}))
 
     @unittest.skipUnless(shutil.which("cargo-clippy"), "there is no clippy")
@@ -174,11 +151,10 @@ class RustTest(CaseTest):
             faults, output = self.run_project(name, features, MAIN, image, BOOTSWAP_LIB=archives)
             self.case(name, faults or [short(output)] * (output != b"runs 1.0.0+0\n"))
 
-    def test_porting(self):
-        """The loader and the application of docs/PORTING.md upgrade a device."""
-        shown = re.search(r"^```rust\n(.*?)^```$", read(f"{ROOT}/docs/PORTING.md").decode(), re.MULTILINE | re.DOTALL)[1]
-        faults, output = self.run_project("porting", "", shown + PLAYED)
-        self.case("docs/PORTING.md", faults or [short(output)] * (output != PLAYS))
+    def test_upgrade(self):
+        """The loader and the application of examples/upgrade.rs upgrade a device."""
+        faults, output = self.cargo("run", "--quiet", "--example", "upgrade")
+        self.case("upgrade.rs", faults or [short(output)] * (output != PLAYS))
 
     def test_adapter(self):
         """The adapter of the README makes a flash of embedded-storage's trait one of this crate."""
