@@ -172,18 +172,22 @@ def contract_of(place):
 
 
 class Statement:
-    """All that the contract of a call speaks of: definitions by their files, types by theirs, and names from outside."""
+    """All that the contract of a call speaks of: the lines of definitions and types by their files and names, in the order in
+    which a reader needs them first, and names from outside."""
 
     def __init__(self, place):
         self.abstract, self.fields = place.abstract, place.fields
         self.file, self.contract, uses = contract_of(place)
-        self.definitions, self.types, self.outside = {}, {}, {}
+        self.shown, self.outside, self.waiting = {}, {}, []
         for line in self.contract:
             for word in NAME.findall(line):
                 self.visit(uses.place_of(word))
+        # The list grows: what a definition speaks of comes after all that was named before.
+        for module, definition in self.waiting:
+            self.visit_words(module, definition)
 
     def visit(self, place):
-        """Adds what is at a place, and all that it speaks of."""
+        """Adds what is at a place."""
         if place is None:
             return
         name, word = place
@@ -191,7 +195,9 @@ class Statement:
         if not glob.glob(f"{ROOT}/crates/{crate}"):
             self.outside.setdefault(name.removeprefix("Rattle."), set()).add(word)
         elif "declared" in parts:
-            self.visit_type(crate, parts[-2] if parts[-1] == "TheVariants" else word)
+            kind = parts[-2] if parts[-1] == "TheVariants" else word
+            path, lines = type_named(crate, kind)
+            self.shown.setdefault((path, kind), lines)
         else:
             self.visit_definition(module_of(name), word)
 
@@ -201,42 +207,38 @@ class Statement:
         if word not in module.definitions:
             # A constructor, which its type brings, or a name that the module passes on.
             return self.visit(module.uses.names.get(word)) or self.visit_constructor(module, word)
-        found = self.definitions.setdefault(module.path, {})
-        if word not in found:
-            shown = module.definitions[word]
-            found[word] = shown = self.fields and shown.only(self.fields) or shown
-            for it in shown.words():
-                first = it.partition(".")[0]
-                if first in module.definitions or first in {c for d in module.definitions.values() for c in constructors(d)}:
-                    self.visit_definition(module, first)
-                else:
-                    self.visit(module.uses.place_of(it))
+        if (module.path, word) not in self.shown:
+            definition = module.definitions[word]
+            definition = self.fields and definition.only(self.fields) or definition
+            self.shown[module.path, word] = definition.lines
+            self.waiting.append((module, definition))
+
+    def visit_words(self, module, definition):
+        """Adds what a definition speaks of."""
+        for it in definition.words():
+            first = it.partition(".")[0]
+            if first in module.definitions or first in {c for d in module.definitions.values() for c in constructors(d)}:
+                self.visit_definition(module, first)
+            else:
+                self.visit(module.uses.place_of(it))
 
     def visit_constructor(self, module, word):
         for name, it in module.definitions.items():
-            if word in constructors(it) and name not in self.definitions.get(module.path, {}):
+            if word in constructors(it):
                 self.visit_definition(module, name)
 
-    def visit_type(self, crate, name):
-        path, lines = type_named(crate, name)
-        found = self.types.setdefault(path, {})
-        if name not in found:
-            found[name] = lines
-
     def without(self, others):
-        """Leaves out the definitions and types of other statements."""
-        for other in others:
-            for mine, theirs in ((self.definitions, other.definitions), (self.types, other.types)):
-                for file, names in theirs.items():
-                    mine[file] = {name: it for name, it in mine.get(file, {}).items() if name not in names}
+        """Leaves out what other statements show."""
+        shown = {at for other in others for at in other.shown}
+        self.shown = {at: lines for at, lines in self.shown.items() if at not in shown}
         return self
 
     def count(self):
         """Returns how many definitions there are, how many lines and comment lines they have, and how many types there are."""
-        found = [it for names in self.definitions.values() for it in names.values()]
-        lines = [line for it in found for line in it.lines]
+        found = [lines for (path, _), lines in self.shown.items() if path.endswith(".antt")]
+        lines = sum(found, [])
         comments = sum(line.strip().startswith("--") for line in lines)
-        return len(found), len(lines), comments, sum(len(it) for it in self.types.values())
+        return len(found), len(lines), comments, len(self.shown) - len(found)
 
 
 def constructors(definition):
@@ -244,11 +246,6 @@ def constructors(definition):
     if not any(" data " in f" {it}" for it in definition.lines):
         return []
     return [found[1] for it in definition.lines if (found := re.match(r"  (?:pub )?([A-Z]\w*) :", it))]
-
-
-def in_reading_order(module, found):
-    """Returns the definitions that are found of a file, in its order."""
-    return [found[name] for name in module.definitions if name in found]
 
 
 def counted(count, what):
@@ -280,12 +277,7 @@ def lines_of(place, earlier):
     statement = Statement(place).without([Statement(it) for it in earlier])
     page = [f"{in_words(statement.count())}.", ""] if any(statement.count()) else []
     page += block("rust", statement.file, [statement.contract])
-    for file, found in statement.definitions.items():
-        module = module_of("Rattle." + file.removeprefix("crates/").removesuffix(".antt").replace("/", "."))
-        if found:
-            page += block("text", file, [it.lines for it in in_reading_order(module, found)])
-    for file, found in sorted(statement.types.items()):
-        if found:
-            page += block("rust", file, found.values())
+    for path, found in itertools.groupby(statement.shown.items(), key=lambda it: it[0][0]):
+        page += block("rust" if path.endswith(".rt") else "text", path, [lines for _, lines in found])
     outside = [f"- `{module}`: {', '.join(sorted(names))}" for module, names in sorted(statement.outside.items())]
     return [*page, "Defined by the standard library and ported crates:", "", *outside]
