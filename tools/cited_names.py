@@ -5,18 +5,13 @@ import glob
 import os
 import re
 
+import promises
 from crate_heads import ROOT, text_of
 
 CITED = re.compile(r"`([^`\n]+)`")
 FILE = re.compile(r"(?:\./)?[\w./]+\.(?:rt|antt|py|c|js|rs)")
 PATH = re.compile(r"(?:\w+::)*(\w+)::(\w+)")
 LINK = re.compile(r"\]\(([^)#:]+)(?:#[^)]*)?\)")
-
-# A section of docs/PROOFS.md begins with the crates that it is about. Of each promise these lines say which call makes it,
-# and where its definitions are.
-SECTION = re.compile(r"^## ([^\n]*)\n(.*?)(?=^## |\Z)", re.MULTILINE | re.DOTALL)
-CALLS = re.compile(r"^(?:Call|Private)\b.*?(?=^Definitions|^Mutants|\n\n)", re.MULTILINE | re.DOTALL)
-DEFINITIONS = re.compile(r"^Definitions\b.*?(?=^Mutants|\n\n)", re.MULTILINE | re.DOTALL)
 
 
 @functools.cache
@@ -60,29 +55,11 @@ def unknown_files(text):
     return [it for it in files if not any(path.endswith(f"/{it.removeprefix('../')}") for path in known)]
 
 
-def unknown_definitions(text, crates):
-    """Returns the files of definitions that a paragraph cites and that aren't there. A file is one of these crates, or of the
-    crate that is named last before it or in its path."""
-    for name in CITED.findall(text):
-        first, _, last = name.rpartition("/")
-        named = first.split("/")[0] or name
-        if os.path.isdir(f"{ROOT}/crates/{named}"):
-            crates = [named]
-        if FILE.fullmatch(name) and not any(path.split("/")[0] in crates and path.endswith(f"/{last}") for path in sources()):
-            yield f"{name} of {' or '.join(crates)}"
-
-
-def unknown_places(text):
-    """Returns the calls and definitions of promises that aren't there."""
-    for title, section in SECTION.findall(text):
-        yield from unknown_words("".join(CALLS.findall(section)))
-        for paragraph in DEFINITIONS.findall(section):
-            yield from unknown_definitions(paragraph, CITED.findall(title))
-
-
 def faults_of(page, text):
     """Returns what is wrong with the names in a page."""
     text = re.sub(r"^```.*?^```", "", text, flags=re.MULTILINE | re.DOTALL)
-    names = [*unknown_paths(text), *unknown_files(text), *unknown_places(text)]
+    names = [*unknown_paths(text), *unknown_files(text)]
+    if page == promises.PAGE:
+        names += unknown_words("".join(promises.CALLS.search(it[0])[0] for it in promises.promises_in(text)))
     names += [it for it in LINK.findall(text) if not os.path.exists(f"{ROOT}/docs/{it}")]
     return [f"{page}: it names {it}, which isn't there" for it in dict.fromkeys(names)]

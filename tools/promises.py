@@ -1,8 +1,9 @@
 """The promises of docs/PROOFS.md, and the mutants that break them.
 
-A promise is a sentence in bold at the beginning of a paragraph, in a section that names its crates. Its entry has a line
-`Call:`, and ends with a line `Mutants:`, which `tools/docs` writes, unless only laws make the promise. A mutant names each
-promise that it breaks in a line `promise:` of its `.edit` file, without the full stop.
+A promise is a sentence in bold at the beginning of a paragraph, in a section that names its crates. After its text, on a line
+of their own, its entry has the calls that make it. `tools/docs` writes the lines `Definitions:` (tools/definitions.py) and
+`Mutants:` after them. If only laws make the promise, it has no mutants. A mutant names each promise that it breaks in a line
+`promise:` of its `.edit` file, without the full stop.
 """
 
 import dataclasses
@@ -19,9 +20,14 @@ SECTION = re.compile(r"^## ([^\n]*)\n.*?(?=^## |\Z)", re.MULTILINE | re.DOTALL)
 CRATES = re.compile(r"^Crates: (.*?)\.", re.MULTILINE | re.DOTALL)
 # A promise, and its entry up to the next paragraph that begins in bold, or the next heading.
 ENTRY = re.compile(r"^\*\*([^*]+?)\.?\*\*.*?(?=^\*\*|^#|\Z)", re.MULTILINE | re.DOTALL)
+# The calls that make the promise of an entry: the line after its text.
+CALLS = re.compile(r"(?<=\\\n).*?(?=\\\n|\n\n|\n*\Z)", re.DOTALL)
 # How many mutants of a promise the page names at most.
 MOST_SHOWN = 2
 LINE = re.compile(r"^Mutants: .*?(?=\n\n|\n*\Z)", re.MULTILINE | re.DOTALL)
+DEFINITIONS = re.compile(r"\\\nDefinitions: .*?(?=\\\n|\n\n|\n*\Z)", re.DOTALL)
+# What a section says of "each call".
+EACH_CALL = re.compile(r"\*Each call\* is (.*?)\.\s", re.DOTALL)
 
 
 @dataclasses.dataclass
@@ -50,7 +56,7 @@ class Mutant:
 
 def promises_in(text):
     """Returns the entries of promises in a text."""
-    return [it for it in ENTRY.finditer(text) if "\nCall: " in it[0]]
+    return [*ENTRY.finditer(text)]
 
 
 def name_of(entry):
@@ -91,7 +97,9 @@ def faults_of(text, mutants, sections):
     """Returns what is wrong with the promises of the page and of mutants."""
     broken = {promise for it in mutants for promise in it.promises}
     for entry in promises_in(text):
-        is_law = re.search(r"^Call: laws? ", entry[0], re.MULTILINE) and name_of(entry) not in broken
+        if not CALLS.search(entry[0]):
+            yield f"{PAGE}: the promise has no calls: {name_of(entry)}"
+        is_law = re.search(r"^[Ll]aws? `", entry[0], re.MULTILINE) and name_of(entry) not in broken
         if not is_law and not LINE.search(entry[0]):
             yield f"{PAGE}: the promise has no line `Mutants:`: {name_of(entry)}"
     listed = {crate for it in sections for crate in it.crates}
@@ -120,17 +128,27 @@ def breaking(promise, section, mutants, sections):
     return ", ".join(words + [f"+{len(found) - len(shown)}"] * (len(found) > len(shown))) or "none"
 
 
-def written(text, written_line, mutants, sections):
-    """Returns the text of the page with its lines `Mutants:` made anew, each by `written_line`."""
+def calls_of(entry, section):
+    """Returns the calls that make the promise of an entry, in a section."""
+    calls = CALLS.search(entry)[0]
+    each = EACH_CALL.search(section)
+    return re.sub("^Each call", lambda it: each[1] if each else it[0], calls)
+
+
+def written(text, definitions_line, mutants_line, mutants, sections):
+    """Returns the text of the page with its lines `Definitions:` and `Mutants:` made anew, each by the function for it."""
     every = iter(sections)
 
     def section_anew(section):
         if not promises_in(section[0]):
             return section[0]
         own = next(every)
-        return ENTRY.sub(lambda it: entry_anew(it, own), section[0])
+        return ENTRY.sub(lambda it: entry_anew(it, own, section[0]), section[0])
 
-    def entry_anew(entry, own):
-        return LINE.sub(lambda _: written_line(breaking(name_of(entry), own, mutants, sections)), entry[0])
+    def entry_anew(entry, own, section):
+        new = DEFINITIONS.sub("", entry[0])
+        line = definitions_line(calls_of(new, section), own.crates)
+        new = CALLS.sub(lambda it: it[0] + line, new, count=1)
+        return LINE.sub(lambda _: mutants_line(breaking(name_of(entry), own, mutants, sections)), new)
 
     return SECTION.sub(section_anew, text)
