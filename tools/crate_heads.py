@@ -27,12 +27,11 @@ FIRST_SENTENCE = re.compile(r"(.+?)\.(?: |$)")
 
 @dataclasses.dataclass
 class Crate:
-    """A crate: the crates of the repository that it calls, and those from outside, as `crates.txt` has them; what it is for,
-    and the items of its head by their labels, without their full stops."""
+    """A crate: the crates of the repository that it calls, as `crates.txt` has them, what it is for, and the items of its head by
+    their labels, without their full stops."""
 
     name: str
     calls: list
-    outside: list
     purpose: str
     items: dict
 
@@ -76,11 +75,9 @@ def read_crates():
     lines = [it.partition("#")[0].strip() for it in text_of("crates.txt").splitlines()]
     parts = [it.partition(":") for it in lines if it]
     called = {head.split()[0]: rest.split() for head, _, rest in parts}
-    order = {name: at for at, name in enumerate(called)}
     crates = []
     for name, below in called.items():
-        own = sorted((it for it in below if it in order), key=order.get)
-        crates.append(Crate(name, own, [it for it in below if it not in order], *read_head(head_of(name))))
+        crates.append(Crate(name, [it for it in below if it in called], *read_head(head_of(name))))
     return sorted(crates, key=lambda it: it.is_test)
 
 

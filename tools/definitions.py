@@ -5,10 +5,11 @@ A clause is an `ensures` of a function, or a field of a record that its contract
 """
 
 import functools
+import os
 import re
 
 from cited_names import CITED
-from crate_heads import read_crates
+from crate_heads import ROOT
 from statements import FIELD, NAME, Uses, code_of, module_of
 
 FUNCTION = re.compile(r"^( *)(?:pub(?:\([^)]*\))? )?(?:extern \"C\" )?fn (\w+)\b(.*?)(?=^\1\{|;$)", re.MULTILINE | re.DOTALL)
@@ -87,10 +88,10 @@ def files_of_group(contracts, wanted):
 def files_of(calls, crates):
     """Returns the files of definitions of a promise, by its calls and the crates of its section. Files of other crates count
     only if there are none of these."""
-    files, known = [], {it.name for it in read_crates()}
+    files = []
     for group in calls.split(";"):
         names = CITED.findall(PARENTHESES.sub("", group))
-        named = [it for name in names for it in name.split("::")[:1] if it in known]
+        named = [it for name in names for it in name.split("::")[:1] if os.path.isdir(f"{ROOT}/crates/{it}")]
         wanted = {it for part in PARENTHESES.findall(group) for it in CITED.findall(part) if it.islower()}
         files += files_of_group(contracts_named([it.split("::")[-1] for it in names], named or crates), wanted)
     own = [it for it in files if it.split("/")[1] in crates]
