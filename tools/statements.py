@@ -227,18 +227,25 @@ class Statement:
             if word in constructors(it):
                 self.visit_definition(module, name)
 
-    def without(self, others):
-        """Leaves out what other statements show."""
-        shown = {at for other in others for at in other.shown}
-        self.shown = {at: lines for at, lines in self.shown.items() if at not in shown}
-        return self
 
-    def count(self):
-        """Returns how many definitions there are, how many lines and comment lines they have, and how many types there are."""
-        found = [lines for (path, _), lines in self.shown.items() if path.endswith(".antt")]
-        lines = sum(found, [])
-        comments = sum(line.strip().startswith("--") for line in lines)
-        return len(found), len(lines), comments, len(self.shown) - len(found)
+@functools.cache
+def statement_of(place):
+    """Returns what the contract that a page asks for speaks of."""
+    return Statement(place)
+
+
+def shown_after(earlier, place):
+    """Returns what the contract at a place speaks of and earlier ones don't."""
+    known = {at for it in earlier for at in statement_of(it).shown}
+    return {at: lines for at, lines in statement_of(place).shown.items() if at not in known}
+
+
+def count(shown):
+    """Returns how many definitions are shown, how many lines and comment lines they have, and how many types there are."""
+    found = [lines for (path, _), lines in shown.items() if path.endswith(".antt")]
+    lines = [line for it in found for line in it]
+    comments = sum(line.strip().startswith("--") for line in lines)
+    return len(found), len(lines), comments, len(shown) - len(found)
 
 
 def constructors(definition):
@@ -262,7 +269,7 @@ def in_words(counts):
 
 def total_of(places):
     """Returns the line of a page that says how much it has in all sections."""
-    counts = [Statement(it).without([Statement(one) for one in places[:n]]).count() for n, it in enumerate(places)]
+    counts = [count(shown_after(places[:n], it)) for n, it in enumerate(places)]
     return f"All sections: {in_words([sum(them) for them in zip(*counts)])}."
 
 
@@ -274,10 +281,10 @@ def block(language, path, parts):
 
 def lines_of(place, earlier):
     """Returns the lines of a page for the contract that it asks for, and what that speaks of and earlier ones don't."""
-    statement = Statement(place).without([Statement(it) for it in earlier])
-    page = [f"{in_words(statement.count())}.", ""] if any(statement.count()) else []
+    statement, shown = statement_of(place), shown_after(earlier, place)
+    page = [f"{in_words(count(shown))}.", ""] if shown else []
     page += block("rust", statement.file, [statement.contract])
-    for path, found in itertools.groupby(statement.shown.items(), key=lambda it: it[0][0]):
+    for path, found in itertools.groupby(shown.items(), key=lambda it: it[0][0]):
         page += block("rust" if path.endswith(".rt") else "text", path, [lines for _, lines in found])
     outside = [f"- `{module}`: {', '.join(sorted(names))}" for module, names in sorted(statement.outside.items())]
     return [*page, "Defined by the standard library and ported crates:", "", *outside]
