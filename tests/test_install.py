@@ -18,6 +18,11 @@ from support.program import short
 
 from installing import LIST, major, version
 
+# The manual pages that pandoc makes, and what an installation says without it.
+MADE_PAGES = {"share/man/man5/bootswap-formats.5", *(f"share/man/man3/{it}.3" for it in ("libbootswap", *declared("call")))}
+LEFT_OUT = b"install: pandoc, which makes bootswap-formats(5) and libbootswap(3), isn't installed: these pages are left out\n"
+NO_PANDOC = b"" if shutil.which("pandoc") else LEFT_OUT
+
 # The places of an installation, but for the examples and Python's folder.
 PLACES = {
     *("bin/bootswap", "lib/libbootswap.a", "lib/libbootswap_manifest.a", "lib/libbootswap.so"),
@@ -28,8 +33,7 @@ PLACES = {
     *(f"share/doc/bootswap/docs/{it}" for it in os.listdir(f"{ROOT}/docs")),
     LIST,
     *("share/man/man1/bootswap.1", *(f"share/man/man1/bootswap-{it}.1" for it in COMMANDS)),
-    *("share/man/man5/bootswap-formats.5", "share/man/man3/libbootswap.3"),
-    *(f"share/man/man3/{it}.3" for it in declared("call")),
+    *(() if NO_PANDOC else MADE_PAGES),
     *("share/bash-completion/completions/bootswap", "share/zsh/vendor-completions/_bootswap"),
     "share/fish/vendor_completions.d/bootswap.fish",
 }
@@ -86,14 +90,14 @@ class InstallTest(BuiltCloneTest):
 
     def install(self):
         """Installs below the prefix of this test."""
-        said = NOT_SEARCHED.format(self.prefix).encode()
+        said = NO_PANDOC + NOT_SEARCHED.format(self.prefix).encode()
         self.expect_tool("it is installed", "install", "--prefix", self.prefix, said=said)
         return {**os.environ, "LD_LIBRARY_PATH": f"{self.prefix}/lib"}
 
     def test_files(self):
         """Each file is in its place below the folder that stands for the root, and only there."""
         system = f"{self.folder}/system"
-        self.expect_tool("it is installed", "install", "--prefix", "/usr", "--destdir", system)
+        self.expect_tool("it is installed", "install", "--prefix", "/usr", "--destdir", system, said=NO_PANDOC)
         found = places_below(f"{system}/usr")
         self.case("nothing is outside the prefix", [it for it in os.listdir(system) if it != "usr"])
         examples = {f"share/doc/bootswap/examples/{it}" for it in places_below(f"{ROOT}/examples")}
@@ -150,7 +154,7 @@ class InstallTest(BuiltCloneTest):
     def test_modes(self):
         """Everybody may use what is installed, whatever the umask of the caller is."""
         system, faults = f"{self.folder}/system", []
-        self.expect_tool("it is installed", "install", "--prefix", "/usr", "--destdir", system, umask=0o077)
+        self.expect_tool("it is installed", "install", "--prefix", "/usr", "--destdir", system, said=NO_PANDOC, umask=0o077)
         for at, folders, names in os.walk(system):
             for name in [*folders, *names]:
                 found = os.lstat(f"{at}/{name}")
@@ -172,7 +176,30 @@ class InstallTest(BuiltCloneTest):
         if "mount" in done.stderr and not done.stdout:
             self.skipTest(f"no layer can be laid over the system here: {short(done.stderr.encode())}")
         wanted = "found\nabsent\nnot in the cache\n"
-        self.case("by the linker's cache", [done.stdout, done.stderr] * ((done.stdout, done.stderr) != (wanted, "")))
+        wanted = wanted, NO_PANDOC.decode()
+        self.case("by the linker's cache", [done.stdout, done.stderr] * ((done.stdout, done.stderr) != wanted))
+
+    def test_without_pandoc(self):
+        """Without pandoc the pages that it makes are left out, and a line says so. The pages of the commands are there."""
+        os.makedirs(f"{self.folder}/path")
+        os.symlink(sys.executable, f"{self.folder}/path/python3")
+        environment = {**os.environ, "PATH": f"{self.folder}/path"}
+        said = LEFT_OUT + NOT_SEARCHED.format(self.prefix).encode()
+        self.expect_tool("it is installed", "install", "--prefix", self.prefix, said=said, env=environment)
+        pages = {it for it in PLACES | MADE_PAGES if it.startswith("share/man/")}
+        found = {it for it in places_below(self.prefix) if it.startswith("share/man/")}
+        self.case("the pages", sorted(found ^ (pages - MADE_PAGES)))
+
+    def test_libraries(self):
+        """Libraries may have another folder, in which programs find them by pkg-config too. They are removed from there."""
+        words = ("--prefix", self.prefix, "--libdir", "lib/a/b")
+        self.expect_tool("it is installed", "install", *words, "--destdir", self.folder, said=NO_PANDOC)
+        top = f"{self.folder}{self.prefix}"
+        self.case("the library is there", [] if os.path.exists(f"{top}/lib/a/b/libbootswap.so") else ["it isn't"])
+        lines = read(f"{top}/lib/a/b/pkgconfig/bootswap.pc").decode().splitlines()
+        self.case("pkg-config", [] if "libdir=${prefix}/lib/a/b" in lines else lines)
+        self.expect_tool("it is removed", "uninstall", *words, "--destdir", self.folder)
+        self.case("nothing is left", sorted(places_below(top)))
 
     def test_again(self):
         """An installation over an older one leaves nothing of the older one."""
@@ -205,7 +232,7 @@ class InstallTest(BuiltCloneTest):
         status, said = self.run_tool("install", "--prefix", self.prefix)
         self.case("the prefix is a file", [f"{status}: {short(said)}"] * (status != 1 or self.prefix.encode() not in said))
 
-    @unittest.skipUnless(shutil.which("man") and shutil.which("groff"), "there is no man")
+    @unittest.skipUnless(all(map(shutil.which, ("man", "groff", "pandoc"))), "there is no man, groff or pandoc")
     def test_manual(self):
         """`man` finds the page of a command, that of a call and that of the formats. All have the date of the release."""
         self.install()

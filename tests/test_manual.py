@@ -5,39 +5,19 @@ import shutil
 import subprocess
 import sys
 import tempfile
+import unittest
 
 from support.commands import COMMANDS
 from support.files import ROOT, read
-from support.headers import comments, declarations, declared, headers
+from support.headers import comments, declarations, declared
 from support.program import CaseTest, ProgramTest, short
 
 sys.path.insert(0, f"{ROOT}/tools")
 
-from manual_pages.formats import formats_page
-from manual_pages.library import library_pages
-from manual_pages.roff import NoPage
+from manual_pages import formats_page, library_pages
 
 SECTIONS = ["NAME", "SYNOPSIS", "DESCRIPTION", "OPTIONS", "EXIT STATUS", "EXAMPLES", "SEE ALSO"]
 PAGES = [[], *([it] for it in COMMANDS)]
-
-# Markdown that no page may have. The first line is line 3.
-UNKNOWN_MARKDOWN = [
-    *("#### Too deep", "##No space", "# Another title", "## A *title*", "> A quote", "    Code by its indentation", "~~~"),
-    *("***", "---", "A title\n---", "* An item", "+ An item", "1) An item", "- An item\nnot indented"),
-    *("- An item\n  - in an item", "- An item\n  1. in an item", "```sh\ncode\n```", "```\ncode without an end"),
-    *("| a table |\n", "| a | b |\n|---|\n", "| a |\n|---|\n| b | c |", "| a |\n|---|\n| b |\nno row"),
-    *("a <b>word</b>", "<!-- nothing -->", "<a id='x'></a>A place", "an &amp;", "a \\* star", "a _word_", "a *word"),
-    *("an `open word", "![a picture](x.png)", "a [reference][x]", "[x]: y", "a [link](x y)", "a line  \nbroken"),
-]
-
-# What no header may have. The first line is line 3.
-UNKNOWN_DECLARATIONS = [
-    *("int without_comment(void);", "/* Without a declaration. */", "#if 1", "// A remark."),
-    *("/* A type. */\ntypedef int number;", "/* A union. */\nunion u {\n    int a;\n};"),
-    *("/* A field. */\nstruct s {\n    int (*call)(void);\n};", "/* A bit. */\nstruct s {\n    int a;\n    int b : 1;\n};"),
-    *("/* No number. */\nenum e {\n    A = 1,\n    B,\n};", "/* A macro. */\n#define ONE(x)"),
-    *("/*\n * - An item.\n */\nint a(void);", "/* Two. */\nint a(void);\n#define A 1"),
-]
 
 
 def options_of(text):
@@ -151,24 +131,26 @@ class ManualTest(ProgramTest):
         self.case("a page to a full device", [] if (status, err) == (1, b"") else [f"{status} {err}"])
 
 
+@unittest.skipUnless(shutil.which("pandoc"), "there is no pandoc")
 class MadePageTest(CaseTest):
     """The pages that are made of docs/FORMATS.md and of the headers: bootswap-formats(5) and libbootswap(3)."""
 
     @classmethod
     def setUpClass(cls):
         cls.formats = read(f"{ROOT}/docs/FORMATS.md").decode()
-        cls.library = library_pages(headers(), "2000-01-01", "1.2.3")
-        cls.pages = {"bootswap-formats.5": formats_page(cls.formats, "2000-01-01", "1.2.3")}
+        cls.library = library_pages("2000-01-01", "1.2.3")
+        cls.pages = {"bootswap-formats.5": formats_page("2000-01-01", "1.2.3")}
         cls.pages["libbootswap.3"] = cls.library["libbootswap"]
 
     def shown(self, name, by, width):
-        """Returns a page as `man` or `mandoc` shows it in a terminal of this width, and the warnings."""
+        """Returns a page as `man` or `mandoc` shows it in a terminal of this width, and the warnings. A terminal of more than 80
+        columns has wider columns of tables."""
         if not shutil.which(by) or by == "man" and not shutil.which("groff"):
             self.skipTest(f"there is no {by}")
         words = {"man": ["man", "--warnings", "-l"], "mandoc": ["mandoc", "-T", "utf8", "-O", f"width={width - 2}"]}
         with tempfile.TemporaryDirectory() as folder:
             with open(f"{folder}/{name}", "w", encoding="utf-8") as it:
-                it.write(self.pages[name])
+                it.write(self.pages[name] if width <= 80 else re.sub(r"\blw\([\d.]+n\)", "lw(150n)", self.pages[name]))
             environment = {"PATH": "/usr/bin:/bin", "MANWIDTH": str(width), "LC_ALL": "C.UTF-8"}
             ran = subprocess.run([*words[by], f"{folder}/{name}"], capture_output=True, env=environment, check=False)
         return re.sub(".\x08", "", ran.stdout.decode()), ran.stderr.decode()
@@ -181,7 +163,7 @@ class MadePageTest(CaseTest):
         """A page has its name, section, date and version. So the same sources make the same page."""
         for name, page in self.pages.items():
             stem, section = name.upper().split(".")
-            title = f'.TH {stem} {section} 2000-01-01 "bootswap 1.2.3"'.replace("-F", "\\-F")
+            title = f'.TH {stem} {section} 2000-01-01 "bootswap 1.2.3"'
             self.case(f"the title of {name}", [] if title in page.splitlines()[:2] else page.splitlines()[:2])
             found = re.findall("^.SH (.*)$", page, re.MULTILINE)
             self.case(f"the sections of {name}", [] if (found[0], found[-1]) == ("NAME", "SEE ALSO") else found)
@@ -222,6 +204,7 @@ class MadePageTest(CaseTest):
             page = self.folded("libbootswap.3", by)
             for kind in ("call", "constant", "number", "struct", "enum"):
                 self.case(f"{by}: each {kind}", [it for it in declared(kind) if not re.search(rf"\b{it}\b", page)])
+            page = page.replace("`", "")
             texts = [it.replace("`", "") for it in [*comments(), *declarations()]]
             self.case(f"{by}: each comment and declaration", [it for it in texts if it not in page])
 
@@ -229,25 +212,3 @@ class MadePageTest(CaseTest):
         """Each call has a page, which is that of the library."""
         others = {name: text for name, text in self.library.items() if name != "libbootswap"}
         self.assertEqual(others, {it: ".so man3/libbootswap.3\n" for it in declared("call")})
-
-    def test_unknown_markdown(self):
-        """Markdown that isn't known is refused with its line, so no text is lost."""
-        for text in UNKNOWN_MARKDOWN:
-            document = f"# Formats\n\n{text}\n"
-            self.refused("docs/FORMATS.md", document, formats_page, document, "2000-01-01", "1.2.3")
-
-    def test_unknown_declarations(self):
-        """A part of a header that isn't known is refused with its line."""
-        for text in UNKNOWN_DECLARATIONS:
-            header = f"/* Names. */\n\n{text}\n"
-            others = {**headers(), "bootswap_names.h": header}
-            self.refused("include/bootswap_names.h", header, library_pages, others, "2000-01-01", "1.2.3")
-
-    def refused(self, source, document, make, *words):
-        """A case: no page is made of a document, and the fault names a line of it, from line 3 on."""
-        with self.subTest(document):
-            with self.assertRaises(NoPage) as caught:
-                make(*words)
-            said = re.fullmatch(rf"{source}:(\d+): no manual page can be made of this: (.*)", str(caught.exception))
-            lines = [*document.splitlines(), "the end"]
-            self.assertEqual((lines[int(said[1]) - 1].strip(), int(said[1]) > 2), (said[2].strip(), True))

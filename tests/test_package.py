@@ -32,8 +32,8 @@ SECONDS = str(calendar.timegm(time.strptime(DAY, "%Y-%m-%d")))
 VERSION = f"bootswap {version()} ({COMMIT[:12]})\n"
 
 DEBIAN = (
-    *(f"{it}_{version()}_amd64.deb" for it in ("bootswap", "libbootswap-dev", "python3-bootswap")),
-    f"bootswap-doc_{version()}_all.deb",
+    *(f"{it}_{version()}-1_amd64.deb" for it in ("bootswap", "libbootswap-dev", "python3-bootswap")),
+    f"bootswap-doc_{version()}-1_all.deb",
 )
 ARCHIVES = (
     f"bootswap-{version()}-x86_64-linux.tar.xz",
@@ -61,55 +61,6 @@ FILES = {
     "python3-bootswap": {"lib/python3/dist-packages/bootswap.py"},
     "bootswap-doc": {"share/doc/bootswap/README.md", "share/doc/bootswap/docs/TUTORIAL.md"},
 }
-
-# Changes, and how Debian's tools show those of the packages that are made of them.
-CHANGELOG = f"""# Changelog
-
-## What a version promises
-
-- Nothing.
-
-## [Unreleased]
-
-### Added
-
-- A new
-  option.
-
-## [{version()}] - 2026-02-03
-
-Some words.
-
-| Before | Now |
-|---|---|
-| `e` | [f](docs/F.md), `g` |
-
-### Fixed
-
-- `a` and [b](docs/B.md).
-- c
-
-## [0.9.0] - 2026-01-02
-
-- d
-"""
-CHANGES = f"""Changes:
- bootswap ({version()}) unstable; urgency=medium
- .
-   [ Not released: Added ]
-   * A new option.
- .
-   * Some words.
-   * `e` -> f, `g`
- .
-   [ Fixed ]
-   * `a` and b.
-   * c
- .
- bootswap (0.9.0) unstable; urgency=medium
- .
-   * d
-"""
 
 # What a user does with the packages on a system of its own, and what it prints. The system is this one, over which a
 # layer lies that is thrown away. The folders of the toolchain aren't on the PATH.
@@ -166,8 +117,12 @@ sys.exit(not share(sys.argv[2:], sys.argv[1]))
 SYSTEM = os.environ.get("BOOTSWAP_DEBIAN_ROOT")
 
 
+# What makes the packages for Debian.
+TOOLS = ("dpkg-buildpackage", "dh", "dh_python3", "pandoc")
+
+
 @needs_compiler
-@unittest.skipUnless(shutil.which("dpkg-deb"), "there is no dpkg-deb")
+@unittest.skipUnless(all(map(shutil.which, TOOLS)), f"one of these is missing: {', '.join(TOOLS)}")
 class PackedTest(BuiltCloneTest):
     """A test of packages of a clone with the built program and libraries."""
 
@@ -181,12 +136,20 @@ class PackedTest(BuiltCloneTest):
 
     def setUp(self):
         super().setUp()
-        shutil.copytree(self.c, f"{self.clone}/out/c")
+        shutil.copytree(self.c, f"{self.clone}/out/c", ignore=shutil.ignore_patterns("packages"))
         os.mkdir(f"{self.clone}/out/{ARM_TARGET}")
         for archive, name in zip(self.arm, LIBRARIES):
             shutil.copy(archive, f"{self.clone}/out/{ARM_TARGET}/{name}")
         self.made = f"{self.clone}/out/packages"
         self.environment = {**os.environ, "SOURCE_COMMIT": COMMIT, "SOURCE_DATE_EPOCH": SECONDS}
+
+    def packages(self):
+        """Leaves the packages of the clone as each test finds it. They are made for the first test of a class that needs them."""
+        if os.path.exists(f"{self.c}/packages"):
+            shutil.copytree(f"{self.c}/packages", self.made)
+        else:
+            self.package()
+            shutil.copytree(self.made, f"{self.c}/packages")
 
     def package(self):
         """Makes the packages."""
@@ -216,7 +179,7 @@ class PackageTest(PackedTest):
 
     def test_contents(self):
         """Each package has its files, whose owner is root, and no file is in two packages."""
-        self.package()
+        self.packages()
         faults, _ = ran(["sha256sum", "--check", "--strict", "SHA256SUMS"], cwd=self.made)
         self.case("the checksums", faults)
         seen = {}
@@ -237,7 +200,7 @@ class PackageTest(PackedTest):
 
     def test_named_documents(self):
         """Each document that a manual page names is where the page says."""
-        self.package()
+        self.packages()
         system, named, faults = self.unpacked(), set(), []
         for at, _, names in os.walk(f"{system}/usr/share/man"):
             for name in names:
@@ -250,23 +213,33 @@ class PackageTest(PackedTest):
         few = {"COMMANDS.md", "FLEETS.md", "docs/PORTING.md"} - named
         self.case("the pages name documents", sorted(few))
 
-    @unittest.skipUnless(shutil.which("dpkg-parsechangelog"), "there is no dpkg-parsechangelog")
-    def test_changelog(self):
-        """Each package has the changes of all versions, as Debian's tools read them. The latest entry begins with what
-        isn't released yet."""
-        with open(f"{self.clone}/CHANGELOG.md", "w", encoding="utf-8") as it:
-            it.write(CHANGELOG)
-        self.package()
+    def test_changes(self):
+        """Each package has the changes of all versions, and its own changelog begins with this version."""
+        self.packages()
         system = self.unpacked()
         for name in FILES:
-            changes = gzip.decompress(read(f"{system}/usr/share/doc/{name}/changelog.gz"))
-            words = ["dpkg-parsechangelog", "-l", self.file("changes", changes), "--all"]
-            faults, output = ran(words, cwd=self.folder)
-            self.case(name, faults or [output.decode()] * (CHANGES not in output.decode()))
+            changes, own = (gzip.decompress(read(f"{system}/usr/share/doc/{name}/changelog{it}.gz")) for it in ("", ".Debian"))
+            self.case(f"{name}: all changes", [] if changes == read(f"{ROOT}/CHANGELOG.md") else ["they differ"])
+            head = f"bootswap ({version()}-1) unstable; "
+            self.case(f"{name}: the version", [] if own.decode().startswith(head) else [own.decode().partition("\n")[0]])
+
+    def test_relations(self):
+        """A package depends on the libraries and packages that it uses."""
+        self.packages()
+        own = rf"bootswap \(= {re.escape(version())}-1\)"
+        depends = {
+            "bootswap": r"libc6 \(>= 2\.\d+\)",
+            "libbootswap-dev": own,
+            "python3-bootswap": rf"{own}, python3:any \(>= 3\.9~\)",
+            "bootswap-doc": "",
+        }
+        for (name, wanted), file in zip(depends.items(), DEBIAN):
+            _, output = ran(["dpkg-deb", "--field", f"{self.made}/{file}", "Depends"])
+            self.case(name, [] if re.fullmatch(wanted, output.decode().strip()) else [output.decode()])
 
     def test_archives(self):
         """An archive is unpacked to one folder, in which the program runs, or the library of a board is."""
-        self.package()
+        self.packages()
         for name in ARCHIVES:
             faults, _ = ran(["tar", "--extract", "--file", f"{self.made}/{name}"], cwd=self.folder)
             self.case(f"{name} is unpacked", faults)
@@ -284,7 +257,7 @@ class PackageTest(PackedTest):
     def test_c_archive(self):
         """An empty project of CMake boots a device over the archive of the file of C. A Cortex-M's example is built in it. It has
         the digests of its files."""
-        self.package()
+        self.packages()
         ran(["tar", "--extract", "--file", f"{self.made}/{ARCHIVES[2]}"], cwd=self.folder)
         top = f"{self.folder}/{ARCHIVES[2].removesuffix('.tar.xz')}"
         faults, output = ran(["sha256sum", "--check", "--strict", "SHA256SUMS"], cwd=top)
@@ -306,7 +279,7 @@ class PackageTest(PackedTest):
     @unittest.skipUnless(CRATE and shutil.which("rustc"), "there is no cargo")
     def test_crate(self):
         """The crate has the file of C. It passes its own tests, and an empty project boots a device over it."""
-        self.package()
+        self.packages()
         faults, _ = ran(["tar", "--extract", "--file", f"{self.made}/{CRATE[0]}"], cwd=self.folder)
         top, project = f"{self.folder}/bootswap-{version()}", f"{self.folder}/project"
         first = read(f"{top}/c/bootswap.c").decode().splitlines()[1]
@@ -335,7 +308,7 @@ class PackageTest(PackedTest):
     @unittest.skipUnless(shutil.which("lintian"), "there is no lintian")
     def test_lintian(self):
         """Debian's checker of packages has nothing to say."""
-        self.package()
+        self.packages()
         for name in DEBIAN:
             done = subprocess.run(["lintian", "--allow-root", f"{self.made}/{name}"], capture_output=True, text=True)
             self.case(name, [it for it in done.stdout.splitlines() if it[:2] in ("E:", "W:")])
@@ -343,7 +316,7 @@ class PackageTest(PackedTest):
     @unittest.skipUnless(os.getuid() == 0 and shutil.which("unshare"), "only root can lay a layer over the system")
     def test_used(self):
         """The packages are enough for the program, a C program and a Python program. Removed, nothing is left."""
-        self.package()
+        self.packages()
         layer = f"{self.folder}/layer"
         os.mkdir(layer)
         environment = {"PATH": "/usr/sbin:/usr/bin:/sbin:/bin", "USES": USES, "LC_ALL": "C"}
@@ -372,7 +345,7 @@ class PackageTest(PackedTest):
 
     def test_without_small_processors(self):
         """If the library for ARM or the file of C isn't built, its archive is left out, and so is one that was made before."""
-        self.package()
+        self.packages()
         os.remove(f"{self.clone}/out/{ARM_TARGET}/libbootswap.a")
         os.remove(f"{self.clone}/out/c/bootswap.c")
         status, said = self.run_tool("package", env=self.environment)
@@ -451,6 +424,6 @@ class CleanSystemTest(PackedTest):
 
     def test_clean_system(self):
         """They are installed, used as the documents say, and removed again, and nothing of them is left."""
-        self.package()
+        self.packages()
         status, said = self.run_tool("try_packages", "--root", SYSTEM)
         self.case("all checks", [said.decode()] * (status != 0))

@@ -6,6 +6,7 @@ import shutil
 import subprocess
 import sys
 import tempfile
+import time
 import unittest.mock
 
 from support.files import ROOT, read
@@ -60,6 +61,10 @@ class VersionTest(CaseTest):
         day = re.search(r'^const EDITION: &str = " 1 (\S*) ', text_of("crates/arguments/src/manual/page.rt"), re.MULTILINE)[1]
         last = re.search(r"^## \[\d.*$", text_of("CHANGELOG.md"), re.MULTILINE)[0]
         self.case("the last release", [last] * (last != f"## [{version()}] - {day}"))
+        entry = text_of("debian/changelog").partition("\n\nbootswap ")[0]
+        version_of, day_of = re.fullmatch(r"bootswap \((.*)\) .*>  (.*) 00:00:00 \+0000", entry, re.DOTALL).groups()
+        wanted = f"{version()}-1", time.strftime("%a, %d %b %Y", time.strptime(day, "%Y-%m-%d"))
+        self.case("that of Debian's packages", [f"{version_of}, {day_of}"] * ((version_of, day_of) != wanted))
 
 
 class PrintedVersionTest(ProgramTest):

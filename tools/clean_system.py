@@ -11,7 +11,6 @@ import time
 from builder import ROOT, text_of
 from commits import version_in
 from results import Counts, report
-from sealed_archives import paths_below
 from tutorial import commands_of
 
 # Debian 12, and what one needs there beside the packages: a C compiler, Python, `man`, and completion.
@@ -91,7 +90,8 @@ class CleanSystem:
 
     def state(self):
         """Returns what is there: the files outside of caches, and the packages that `dpkg` knows."""
-        files = {it.removeprefix(self.root) for it in paths_below(self.root)}
+        below = (f"{at}/{name}" for at, folders, names in os.walk(self.root) for name in [*folders, *names])
+        files = {it.removeprefix(self.root) for it in below}
         _, known = self.call("dpkg-query --show --showformat '${Package} ${db:Status-Status}\\n'", 0)
         return {it for it in files if not CHANGING.match(it)} | {*known.splitlines()}
 

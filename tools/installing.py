@@ -14,8 +14,7 @@ import sys
 from typing import NamedTuple, Optional
 
 from builder import OUT, ROOT, text_of
-from manual_pages.formats import SOURCE, formats_page
-from manual_pages.library import HEADERS, library_pages
+from manual_pages import formats_page, library_pages
 
 # The list of what was installed, one place a line. A folder that the installation made ends with a slash.
 LIST = "share/bootswap/installed"
@@ -109,22 +108,28 @@ def share(archives, shared):
     return subprocess.run([*words, "-Wl,--whole-archive", *archives, "-Wl,--no-whole-archive"]).returncode == 0
 
 
-def items(prefix, python, program, archives, shared):
-    """Returns the files of an installation below a prefix: the program, the static libraries and the shared one, the module
-    of Python in its folder, the documents, and what belongs to them."""
-    library = [*shared_items("lib", shared), *library_items(prefix, "lib", archives, day_of(program))]
+def items(prefix, libraries, python, program, archives, shared):
+    """Returns the files of an installation below a prefix: the program, the static libraries and the shared one in a folder, the
+    module of Python in another, the documents, and what belongs to them. The pages that pandoc makes are `page_items`."""
+    library = [*shared_items(libraries, shared), *library_items(prefix, libraries, archives)]
     return [*program_items(program), *library, *python_items(python), *document_items()]
 
 
+def page_items(program):
+    """Returns the manual pages that the program doesn't print. They have the date of those that it prints."""
+    day = day_of(program)
+    library = [Item(f"share/man/man3/{name}.3", text=text) for name, text in library_pages(day, version()).items()]
+    return [Item("share/man/man5/bootswap-formats.5", text=formats_page(day, version())), *library]
+
+
 def program_items(program):
-    """Returns the files of the program: itself, its manual pages and completions, which it prints, the page of its formats,
-    its licence, and the examples."""
+    """Returns the files of the program: itself, its manual pages and completions, which it prints, its licence, and the
+    examples."""
     commands = [[], *([it] for it in commands_of(program))]
     pages = {"-".join(["bootswap", *words]): ["help", "man", *words] for words in commands}
     return [
         Item("bin/bootswap", program, mode=0o755),
         *(Item(f"share/man/man1/{name}.1", contents=printed(program, words)) for name, words in pages.items()),
-        Item("share/man/man5/bootswap-formats.5", text=formats_page(text_of(f"{ROOT}/{SOURCE}"), day_of(program), version())),
         *(Item(place, contents=printed(program, ["help", "completions", it])) for it, place in COMPLETIONS.items()),
         Item(f"{DOCUMENTS}/LICENSE", f"{ROOT}/LICENSE"),
         *copies(f"{ROOT}/examples", EXAMPLES),
@@ -166,12 +171,10 @@ def shared_items(libraries, shared):
     return [Item(f"{libraries}/{full}", shared), Item(f"{libraries}/libbootswap.so.{major()}", link=full)]
 
 
-def library_items(prefix, libraries, archives, day):
-    """Returns the files that one needs to compile and link a C program, with the folder of libraries below a prefix, and the
-    manual pages of the library, which have this date."""
+def library_items(prefix, libraries, archives):
+    """Returns the files that one needs to compile and link a C program, with the folder of libraries below a prefix."""
     to_prefix = "/".join(".." for _ in libraries.split("/"))
     names = {"prefix": prefix, "libraries": libraries, "to_prefix": to_prefix, "version": version(), "major": major()}
-    pages = library_pages({it: text_of(f"{ROOT}/include/{it}") for it in HEADERS}, day, version())
     return [
         *(Item(f"include/{it}", f"{ROOT}/include/{it}") for it in sorted(os.listdir(f"{ROOT}/include"))),
         *(Item(f"{libraries}/{os.path.basename(it)}", it) for it in archives),
@@ -179,7 +182,6 @@ def library_items(prefix, libraries, archives, day):
         Item(f"{libraries}/pkgconfig/bootswap.pc", text=PKG_CONFIG.format(**names)),
         Item(f"{libraries}/cmake/bootswap/bootswap-config.cmake", text=CMAKE.format(**names)),
         Item(f"{libraries}/cmake/bootswap/bootswap-config-version.cmake", text=CMAKE_VERSION.format(**names)),
-        *(Item(f"share/man/man3/{name}.3", text=text) for name, text in pages.items()),
         *copies(f"{ROOT}/bindings/c", f"{EXAMPLES}/c"),
     ]
 
@@ -311,6 +313,7 @@ def given_folders(words, about):
     """Returns the folders that the arguments name."""
     parser = argparse.ArgumentParser(description=about, formatter_class=argparse.RawDescriptionHelpFormatter)
     parser.add_argument("--prefix", metavar="DIR", default="/usr/local", help="where to install (default: /usr/local)")
+    parser.add_argument("--libdir", metavar="DIR", default="lib", help="where libraries are below that (default: lib)")
     parser.add_argument("--destdir", metavar="DIR", default="", help="a folder that stands for the root of the system")
     given = parser.parse_args(words)
     if not os.path.isabs(given.prefix):

@@ -12,7 +12,7 @@ from support.program import ProgramTest, short
 from installing import share
 
 # What the tools need of a clone beside out/.
-NEEDED = ("bindings", "board", "docs", "examples", "include", "tools")
+NEEDED = ("bindings", "board", "debian", "docs", "examples", "include", "tools")
 
 # Prints the stamp of the program of a clone, as its build writes it.
 STAMP = """

@@ -1,1 +1,0 @@
-"""Makes the manual pages that the program doesn't print: bootswap-formats(5) and libbootswap(3)."""
