@@ -16,7 +16,7 @@ from support.program import CaseTest, short
 sys.path.insert(0, f"{ROOT}/tools")
 
 import builder
-import programs
+import needed
 from schedule import expected
 
 ANNOUNCED = re.compile(
@@ -43,7 +43,7 @@ class BuildMessageTest(CaseTest):
 
     def build(self, left):
         """Returns a build of the core of which the last N crates are left, on 4 processors."""
-        crates = builder.crates_of(programs.CORE)
+        crates = builder.crates_of(needed.CORE)
         with contextlib.ExitStack() as patched:
             for where, name, value in (
                 (builder.Crate, "is_built", lambda it, _: it not in crates[-left:]),

@@ -1,41 +1,21 @@
-"""The programs that `./bootswap` runs: the complete one, and its core, which has fewer commands and is proved faster.
+"""The programs that `./bootswap` runs: the complete one, and its core (needed.py).
 
-Both answer the commands of the core alike. A program is current if its stamp, NAME.stamp beside it in out/, names the sources,
-the program and the toolchain as they are now.
+A program is current if its stamp, NAME.stamp beside it in out/, names the sources, the program and the toolchain as they are
+now. These digests are compared only if a file may have changed (unchanged.py).
 """
 
 import hashlib
 import os
 import shutil
+import time
 
 from builder import OUT, NotBuilt, asked_of_rt, build, crates_of, tell, text_of
-
-WHOLE, CORE = "bootswap", "bootswap_core"
-
-# The commands of the core, and the options that it doesn't accept.
-OF_CORE = ("provision", "run", "help")
-OPTIONS = ("--explain", "--json")
-
-# The options for the help of a command. The core has the help of all commands.
-HELP = ("--help", "-h")
-
-# The topics of `help` that the core lacks: manual pages, completion scripts, and the list of these two.
-TOPICS = ("man", "completions", "help")
+from needed import WHOLE
+from unchanged import lines_now, remember
 
 
 class NoToolchain(NotBuilt):
     """There is nothing to build the program with."""
-
-
-def needed_for(words):
-    """Returns the name of the smallest program that does what these arguments ask for. Without arguments that is `choose`."""
-    command, rest = words[:1], words[1:2]
-    if not command or any(it in words for it in OPTIONS):
-        return WHOLE
-    if command == ["help"] and rest and rest[0] in TOPICS:
-        return WHOLE
-    is_help = command[0].startswith("-") or rest in ([it] for it in HELP)
-    return CORE if is_help or command[0] in OF_CORE else WHOLE
 
 
 def file_of(name):
@@ -65,9 +45,11 @@ def is_current(name, toolchain):
 def current_for(name, hint=None):
     """Returns the file of a current program that does what this one does. If there is none, prints the hint, and proves and
     builds it."""
+    now, lines = time.time_ns(), {it: lines_now(it) for it in (WHOLE, name)}
     toolchain = asked_of_rt("version") if shutil.which("rt") else None
-    for enough in dict.fromkeys((WHOLE, name)):
+    for enough in lines:
         if is_current(enough, toolchain):
+            remember(enough, lines[enough], now)
             return file_of(enough)
     if not toolchain:
         raise NoToolchain("the Rattle toolchain's command rt is not on the PATH; it proves and builds the program")

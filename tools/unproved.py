@@ -15,7 +15,8 @@ import sys
 import tempfile
 
 from builder import ROOT, NotBuilt, tell
-from programs import HELP, NoToolchain
+from needed import HELP
+from programs import NoToolchain
 
 OPTION = "--unproved"
 
