@@ -3,6 +3,7 @@
 
 import argparse
 import os
+import struct
 import sys
 
 sys.path.insert(0, os.path.dirname(os.path.realpath(__file__)))
@@ -30,6 +31,8 @@ def main(asked):
             it.write(made)
     except OSError as error:
         sys.exit(f"make_image.py: {error.filename}: {error.strerror}")
+    except (TypeError, ValueError, struct.error):
+        sys.exit(f"make_image.py: no image has the version {asked.version} and a header of {asked.header_size} bytes")
 
 
 if __name__ == "__main__":

@@ -1,10 +1,11 @@
 #!/usr/bin/env python3
-"""Makes the intact images of this folder by their format, and replaces no other file: examples/make_images.py FOLDER
+"""Makes the intact images of examples/images by their format, and replaces no other file.
 
 An image is a header of 32 bytes, a body, a protected area where the image has a security counter or needs others (each
 of some, or one of several), and an unprotected area with the SHA-256 of what stands before it. docs/FORMATS.md has the whole format.
 """
 
+import argparse
 import hashlib
 import os
 import struct
@@ -62,16 +63,20 @@ def has(name, contents):
 
 
 def main(words):
-    if len(words) != 1:
-        sys.exit(__doc__)
-    files = {f"{words[0]}/{name}.img": contents for name, contents in IMAGES.items()}
+    parser = argparse.ArgumentParser(description=__doc__, formatter_class=argparse.RawDescriptionHelpFormatter)
+    parser.add_argument("folder", metavar="FOLDER", help="an existing folder")
+    folder = parser.parse_args(words).folder
+    files = {f"{folder}/{name}.img": contents for name, contents in IMAGES.items()}
     for name, contents in files.items():
         if os.path.lexists(name) and not has(name, contents):
             sys.exit(f"make_images.py: {name} is another file")
     for name, contents in files.items():
         if not os.path.lexists(name):
-            with open(name, "xb") as it:
-                it.write(contents)
+            try:
+                with open(name, "xb") as it:
+                    it.write(contents)
+            except OSError as error:
+                sys.exit(f"make_images.py: {name}: {error.strerror}")
 
 
 if __name__ == "__main__":

@@ -3,7 +3,6 @@
 `tools/install`, `tools/uninstall` and `tools/package` use this. Places are below a prefix, such as /usr/local.
 """
 
-import argparse
 import contextlib
 import glob
 import os
@@ -13,6 +12,7 @@ import subprocess
 import sys
 from typing import NamedTuple, Optional
 
+from arguments import parser_of
 from builder import OUT, ROOT, text_of
 from manual_pages import formats_page, library_pages
 
@@ -311,7 +311,7 @@ def built(name, how):
 
 def given_folders(words, about):
     """Returns the folders that the arguments name."""
-    parser = argparse.ArgumentParser(description=about, formatter_class=argparse.RawDescriptionHelpFormatter)
+    parser = parser_of(about)
     parser.add_argument("--prefix", metavar="DIR", default="/usr/local", help="where to install (default: /usr/local)")
     parser.add_argument("--libdir", metavar="DIR", default="lib", help="where libraries are below that (default: lib)")
     parser.add_argument("--destdir", metavar="DIR", default="", help="a folder that stands for the root of the system")

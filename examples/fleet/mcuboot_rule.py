@@ -84,9 +84,12 @@ def main() -> None:
     parser.add_argument("fleet", metavar="FLEET", help="file of a fleet; - is standard input")
     parser.add_argument("--rule", choices=RULES, default="code", help="default: code")
     args = parser.parse_args()
-    with sys.stdin.buffer if args.fleet == "-" else open(args.fleet, "rb") as fleet:
-        for name, table in devices_in(lines_in(fleet)):
-            print(f"device {name}\n{lines_of(table, args.rule)}", end="")
+    try:
+        with sys.stdin.buffer if args.fleet == "-" else open(args.fleet, "rb") as fleet:
+            for name, table in devices_in(lines_in(fleet)):
+                print(f"device {name}\n{lines_of(table, args.rule)}", end="")
+    except (OSError, ValueError) as error:
+        raise SystemExit(f"mcuboot_rule.py: {error}") from None
 
 
 if __name__ == "__main__":

@@ -118,8 +118,11 @@ def main() -> None:
     add_picture(parser, "--svg", "draw the bars into this file too")
     args = parser.parse_args()
     picture = picture_of(args.svg, [0 if args.summary == "-" else args.summary], args.force)
-    with sys.stdin.buffer if args.summary == "-" else open(args.summary, "rb") as stream:
-        devices, rows = rows_of(counts_in(stream), args.most)
+    try:
+        with sys.stdin.buffer if args.summary == "-" else open(args.summary, "rb") as stream:
+            devices, rows = rows_of(counts_in(stream), args.most)
+    except OSError as error:
+        raise SystemExit(f"reach.py: {args.summary}: {error.strerror}") from None
     print(text_of(devices, rows), end="", flush=True)
     if picture:
         try:

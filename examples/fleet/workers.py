@@ -49,12 +49,19 @@ def repeated(call: Callable[[], Any]) -> Any:
 @contextlib.contextmanager
 def dask_workers(address: str) -> Iterator[tuple[Callable[..., Any], int]]:
     """Yields the same for the workers of a dask scheduler, once there is one."""
-    import cloudpickle
-    from distributed import Client
+    try:
+        import cloudpickle
+        from distributed import Client
+    except ImportError as error:
+        raise RuntimeError(f"--dask takes dask.distributed (Debian: python3-distributed): {error}") from None
 
     # The workers get the code of this module too.
     cloudpickle.register_pickle_by_value(sys.modules[__name__])
-    with Client(address) as client:
+    try:
+        client = Client(address)
+    except (OSError, ValueError) as error:
+        raise RuntimeError(f"--dask {address}: {error}") from None
+    with client:
         client.wait_for_workers(1)
         # A part is passed as an argument, which the scheduler keeps. A scattered one would be lost with its worker.
         yield functools.partial(client.submit, pure=False), sum(client.ncores().values())
