@@ -1,7 +1,7 @@
 """That the headers, their crates, Python and the page have the same structs, calls and numbers.
 
-A struct is compared by its rows: the path of each number in it, such as `refused[1].reason`, its offset and its size. So the
-four may name their types differently, but not their fields.
+Each says itself what it has: Python by `ctypes`, the page by its tables, Rattle by its sources, whose structs `ctypes` lays out
+too. A C compiler compares that with the headers.
 """
 
 import ctypes
@@ -18,6 +18,7 @@ from unittest import mock
 
 from support.compiled import needs_compiler
 from support.files import ROOT
+from support.headers import declared
 from support.processors import HERE
 
 HEADER, NAMES = "include/bootswap.h", "include/bootswap_names.h"
@@ -25,18 +26,30 @@ HEADER, NAMES = "include/bootswap.h", "include/bootswap_names.h"
 # The headers that declare structs and calls of the library.
 HEADERS = (HEADER, "include/bootswap_simulate.h", "include/bootswap_manifest.h")
 
-# Names of the header that are others elsewhere: `class` is a word of C++, and a number of the header has `INVALID_SET`.
+# Names of Rattle and Python that are others in the headers: `class` is a word of C++, and a number has `INVALID_SET`.
 OTHER_NAMES = {"class": "class_id", "InvalidSet": "RunningInvalid"}
+OTHER_STRUCTS = {"call_result": "result", "digest": "sha256"}
 
-NUMBERS = {"u8": 1, "u16": 2, "u32": 4, "u64": 8}
+# A struct that C has only within another one, without a name.
+WITHIN = "SavedUpload"
+
+NUMBERS = {"u8": ctypes.c_uint8, "u16": ctypes.c_uint16, "u32": ctypes.c_uint32, "u64": ctypes.c_uint64}
+
+# What is compared with the headers comes after this. A text is of bytes in the other languages.
+START = """#include <stddef.h>
+#include <stdint.h>
+#define char uint8_t
+#include <bootswap_manifest.h>
+#include <bootswap_simulate.h>
+"""
 
 # Bounds of the journal. The flash of a setup that has a map has fewer than 2^32 bytes, in sectors of 512 bytes or more.
 JOURNAL_BOUNDS = {
     "PROVISION(1)": 144 + 24,
     "PROVISION(8)": 144 + 8 * 24,
-    "ACCEPT(2, 2 + 3)": 120 + 2 * 44 + 5 * 12,
-    "ACCEPT(8, 8388607)": 120 + 8 * 44 + 8388607 * 12,
-    "ACCEPT((uint8_t)8, (uint16_t)65535)": 120 + 8 * 44 + 65535 * 12,
+    "ACCEPT(2, 2 + 3)": 120 + 2 * 32 + 5 * 12,
+    "ACCEPT(8, 8388607)": 120 + 8 * 32 + 8388607 * 12,
+    "ACCEPT((uint8_t)8, (uint16_t)65535)": 120 + 8 * 32 + 65535 * 12,
     "PIECE(0)": 31,
     "PIECE(1 << 20)": 31 + (1 << 20),
     "FINISH": 68,
@@ -61,41 +74,88 @@ def sources():
     return [text_of(it) for it in sorted(glob.glob("crates/*/src/**/*.rt", root_dir=ROOT, recursive=True))]
 
 
-def size_and_alignment(kind):
-    """Returns the size of a type and its alignment: of a number, of an array, or of a struct, which is a list of fields."""
-    if isinstance(kind, int):
-        return kind, kind
-    if isinstance(kind, tuple):
-        size, alignment = size_and_alignment(kind[0])
-        return size * kind[1], alignment
-    end, widest = 0, 1
-    for _, field in kind:
-        size, alignment = size_and_alignment(field)
-        end, widest = -(-end // alignment) * alignment + size, max(widest, alignment)
-    return -(-end // widest) * widest, widest
+def header():
+    """Returns the headers without their comments."""
+    return re.sub(r"/\*.*?\*/", "", "".join(map(text_of, HEADERS)), flags=re.DOTALL)
+
+
+def name_in_c(name):
+    """Returns the name in C of a struct of another language."""
+    name = re.sub(r"(?<=[a-z])(?=[A-Z])", "_", name.strip("_")).lower().removesuffix("_row")
+    return f"struct bootswap_{OTHER_STRUCTS.get(name, name)}"
+
+
+def structs_of_sources(texts):
+    """Returns the structs that sources in Rattle or Rust lay out as C does, by their names, as types of `ctypes`."""
+    text, kinds = "\n".join(texts), dict(NUMBERS)
+    lengths = dict(re.findall(r"const (\w+): usize = (\d+);", text))
+    bodies = dict(re.findall(r"^#\[repr\(C\)\]\n(?:#.*\n)*pub struct (\w+) \{\n((?: .*\n)*)\}", text, re.MULTILINE))
+
+    def kind_of(name):
+        array = re.fullmatch(r"\[(\w+); (\w+)\]", name)
+        if array:
+            return kind_of(array[1]) * int(lengths.get(array[2], array[2]))
+        if name not in kinds:
+            fields = re.findall(r"^    pub(?:\(crate\))? (\w+): (.+),$", bodies[name], re.MULTILINE)
+            fields = [(OTHER_NAMES.get(it, it), kind_of(kind)) for it, kind in fields]
+            kinds[name] = type(name, (ctypes.Structure,), {"_fields_": fields})
+        return kinds[name]
+
+    return {name: kind_of(name) for name in bodies if name != WITHIN}
 
 
 def rows_of(kind, path="", start=0):
-    """Returns the numbers in a type: the path, the offset and the size of each. A struct is laid out as C lays it out."""
-    if isinstance(kind, int):
-        return [(path, start, kind)]
-    if isinstance(kind, tuple):
-        size, _ = size_and_alignment(kind[0])
-        return [row for i in range(kind[1]) for row in rows_of(kind[0], f"{path}[{i}]", start + i * size)]
-    rows, end = [], start
-    for name, field in kind:
-        size, alignment = size_and_alignment(field)
-        end = -(-end // alignment) * alignment
-        rows += rows_of(field, f"{path}.{OTHER_NAMES.get(name, name)}".removeprefix("."), end)
-        end += size
-    return rows
+    """Returns the numbers in a type of `ctypes`, as that lays it out: the path, the offset and the size of each."""
+    if issubclass(kind, ctypes.Array):
+        size = ctypes.sizeof(kind._type_)
+        return [row for i in range(kind._length_) for row in rows_of(kind._type_, f"{path}[{i}]", start + i * size)]
+    if not issubclass(kind, ctypes.Structure):
+        return [(path, start, ctypes.sizeof(kind))]
+    parts = [(name, field, start + getattr(kind, name).offset) for name, field in kind._fields_]
+    return [row for name, field, at in parts for row in rows_of(field, f"{path}.{name}".removeprefix("."), at)]
 
 
-def header():
-    """Returns the headers without their comments, and with numbers for the names of limits."""
-    text = re.sub(r"/\*.*?\*/", "", "".join(map(text_of, HEADERS)), flags=re.DOTALL)
-    limits = limits_of_c()
-    return re.sub(r"\[(\w+)\]", lambda it: f"[{limits.get(it[1], it[1])}]", text)
+def facts_of(structs):
+    """Yields what C has to say of the structs of another language: the size of each, and the place and the type of each number in
+    it. These fill it, so C has no other field."""
+    for name, kind in structs.items():
+        of, rows = name_in_c(name), rows_of(kind)
+        yield f"sizeof({of}) == {sum(size for _, _, size in rows)}"
+        for path, at, size in rows:
+            yield f"offsetof({of}, {path}) == {at} && _Generic((({of} *)0)->{path}, uint{8 * size}_t: 1, default: 0)"
+
+
+def type_in_c(kind):
+    """Returns the name in C of a type of `ctypes`."""
+    if hasattr(kind, "contents"):
+        return f"{type_in_c(kind._type_)} *"
+    return name_in_c(kind.__name__) if issubclass(kind, ctypes.Structure) else f"uint{8 * ctypes.sizeof(kind)}_t"
+
+
+def calls_of_python(module):
+    """Returns the calls of the Python module as C declares them, but that nothing is constant there."""
+    calls = {name: getattr(module._LIBRARY, name) for name in calls_of_c()}
+    types = {name: ", ".join(map(type_in_c, it.argtypes)) for name, it in calls.items()}
+    return {name: f"{type_in_c(it.restype) if it.restype else 'void'} {name}({types[name]});" for name, it in calls.items()}
+
+
+def calls_of_rattle():
+    """Returns the calls that Rattle exports to C as C declares them: a slice is passed as a pointer and a length."""
+    calls = {}
+    head = r"^pub (?:unsafe )?extern \"C\" fn (\w+)\((.*?)\)(?: -> (\w+))?$"
+    for name, words, result in re.findall(head, "\n".join(sources()), re.MULTILINE | re.DOTALL):
+        types = []
+        # C passes nothing for an allocator.
+        for reference, bracket, kind in re.findall(r"\w+: (?!Global)(&mut |&|\*mut )?(\[?)(\w+)", words):
+            of = type_in_c(NUMBERS[kind]) if kind in NUMBERS else name_in_c(kind)
+            types += [f"{'const ' * (reference == '&')}{of}{' *' * bool(reference)}", *["size_t"] * bool(bracket)]
+        calls[name] = f"{type_in_c(NUMBERS[result]) if result else 'void'} {name}({', '.join(types)});"
+    return calls
+
+
+def calls_of_c():
+    """Returns the names of the calls that the headers declare."""
+    return re.findall(r"^\w+ (bootswap_\w+)\(", header(), re.MULTILINE)
 
 
 def limits_of_c():
@@ -103,74 +163,15 @@ def limits_of_c():
     return dict(re.findall(r"^#define (BOOTSWAP_MAX_\w+) (\d+)$", "".join(map(text_of, HEADERS)), re.MULTILINE))
 
 
-def number_of_c(kind):
-    """Returns the size of a type of C that is a number."""
-    return {"char": 1, "size_t": 8}.get(kind) or NUMBERS[f"u{kind.strip('uint_')}"]
+def errors_of(text, compiler=HERE.compiler):
+    """Returns what a C compiler says of a text."""
+    words = [*compiler, "-std=c11", "-ffreestanding", "-fsyntax-only", "-I", f"{ROOT}/include", "-x", "c", "-"]
+    return subprocess.run(words, input=f"{text}\n", capture_output=True, text=True).stderr
 
 
-def fields_of_c(body, structs):
-    """Returns the fields of a struct of C, whose body this is."""
-    fields = []
-    for inner, kind, names in re.findall(r"\s*(?:struct \{(.*?)\}|((?:struct )?\w+)) ([^;{}]+);", body, re.DOTALL):
-        found = fields_of_c(inner, structs) if inner else structs.get(kind) or number_of_c(kind)
-        for name, count in re.findall(r"(\w+)(?:\[(\d+)\])?", names):
-            fields.append((name, (found, int(count)) if count else found))
-    return fields
-
-
-def structs_of_c():
-    """Returns the structs of the headers by their names: the fields of each."""
-    structs = {}
-    for name, body in re.findall(r"^(struct \w+) \{\n(.*?)^\};", header(), re.MULTILINE | re.DOTALL):
-        structs[name] = fields_of_c(body, structs)
-    return {name.removeprefix("struct bootswap_"): fields for name, fields in structs.items()}
-
-
-def calls_of_c():
-    """Returns the calls of the headers by their names: what each takes, and the size of what it returns. What it takes is
-    whether it is a pointer, whether that is to a constant, and the numbers there."""
-    structs, calls = structs_of_c(), {}
-    for result, name, words in re.findall(r"^(\w+) bootswap_(\w+)\((.*?)\);", header(), re.MULTILINE | re.DOTALL):
-        taken = re.findall(r"(const )?(struct bootswap_)?(\w+) (\*?)\w+(?:,|$)", words)
-        kinds = [structs[kind] if is_struct else number_of_c(kind) for _, is_struct, kind, _ in taken]
-        takes = [(bool(star), bool(const), rows_of(kind)) for (const, _, _, star), kind in zip(taken, kinds)]
-        calls[name] = takes, None if result == "void" else number_of_c(result)
-    return calls
-
-
-def calls_of_rattle():
-    """Returns the calls that Rattle exports to C, as `calls_of_c`: a slice is passed as a pointer and a length."""
-    structs, calls = structs_of_rattle(), {}
-    head = r"^pub (?:unsafe )?extern \"C\" fn bootswap_(\w+)\((.*?)\)(?: -> (\w+))?$"
-    call = re.compile(head, re.MULTILINE | re.DOTALL)
-    for name, words, result in [it for text in sources() for it in call.findall(text)]:
-        takes = []
-        # C passes nothing for an allocator.
-        for reference, bracket, kind in re.findall(r"\w+: (?!Global)(&mut |&|\*mut )?(\[?)(\w+)", words):
-            takes.append((bool(reference), reference == "&", rows_of(NUMBERS.get(kind) or structs[kind])))
-            takes += [(False, False, rows_of(8))] if bracket else []
-        calls[name] = takes, NUMBERS.get(result)
-    return calls
-
-
-def structs_of_rattle():
-    """Returns the fields of each struct that Rattle lays out as C does, by its name."""
-    texts = sources()
-    lengths = dict(it for text in texts for it in re.findall(r"const (\w+): usize = (\d+);", text))
-    struct = re.compile(r"^#\[repr\(C\)\]\n(?:#.*\n)*pub struct (\w+) \{\n((?: .*\n)*)\}", re.MULTILINE)
-    bodies = dict(it for text in texts for it in struct.findall(text))
-
-    def kind_of(name):
-        array = re.fullmatch(r"\[(\w+); (\w+)\]", name)
-        if array:
-            return kind_of(array[1]), int(lengths.get(array[2], array[2]))
-        return NUMBERS.get(name) or fields_of(name)
-
-    def fields_of(struct):
-        fields = re.findall(r"^    pub (\w+): (.+),$", bodies[struct], re.MULTILINE)
-        return [(name, kind_of(kind)) for name, kind in fields]
-
-    return {name: fields_of(name) for name in bodies}
+def faults_of(facts, compiler=HERE.compiler):
+    """Returns what a C compiler says of facts that don't hold."""
+    return errors_of(START + "\n".join(f'_Static_assert({it}, "{it}");' for it in facts), compiler)
 
 
 def python_module():
@@ -182,26 +183,10 @@ def python_module():
     return module
 
 
-def rows_of_python(kind, path="", start=0):
-    """Returns the numbers in a type of `ctypes`, as that lays it out."""
-    if issubclass(kind, ctypes.Array):
-        size = ctypes.sizeof(kind._type_)
-        return [row for i in range(kind._length_) for row in rows_of_python(kind._type_, f"{path}[{i}]", start + i * size)]
-    if not issubclass(kind, ctypes.Structure):
-        return [(path, start, ctypes.sizeof(kind))]
-    parts = [(name, field, start + getattr(kind, name).offset) for name, field in kind._fields_]
-    return [row for name, field, at in parts for row in rows_of_python(field, f"{path}.{name}".removeprefix("."), at)]
-
-
-def calls_of_python(module):
-    """Returns the calls of the Python module, as `calls_of_c`, but that nothing is constant there."""
-    calls = {}
-    for name in calls_of_c():
-        call = getattr(module._LIBRARY, f"bootswap_{name}")
-        is_pointer = [hasattr(it, "contents") for it in call.argtypes]
-        takes = [(star, False, rows_of_python(it._type_ if star else it)) for it, star in zip(call.argtypes, is_pointer)]
-        calls[name] = takes, call.restype and ctypes.sizeof(call.restype)
-    return calls
+def structs_of_python(module):
+    """Returns the structs of the Python module by their names."""
+    kinds = [it for it in vars(module).values() if isinstance(it, type) and issubclass(it, ctypes.Structure)]
+    return {it.__name__: it for it in kinds if it.__name__ != f"_{WITHIN}"}
 
 
 def table_of_page(name):
@@ -240,12 +225,6 @@ def printed_names(processor):
     return names
 
 
-def compiles(compiler, words):
-    """Returns whether there is a compiler, and it compiles a file of nothing."""
-    done = shutil.which(compiler[0]) and subprocess.run([*compiler, *words], input="", capture_output=True, text=True)
-    return bool(done) and done.returncode == 0
-
-
 def names_of_rattle(kind):
     """Returns the names of an enum's variants by their numbers, as its methods `code` and `name` have them."""
     text = next(it for it in sources() if f"pub enum {kind} {{" in it)
@@ -265,34 +244,20 @@ class CompiledHeaderTest(unittest.TestCase):
 
     processor = HERE
 
-    def test_a_compiler_lays_structs_out_so(self):
-        lines = ["#include <bootswap_manifest.h>", "#include <bootswap_simulate.h>"]
-        for name, fields in structs_of_c().items():
-            kind = f"struct bootswap_{name}"
-            size = size_and_alignment(fields)[0]
-            lines.append(f'_Static_assert(sizeof({kind}) == {size}, "the size of {name}");')
-            for path, offset, size in rows_of(fields):
-                facts = f"offsetof({kind}, {path}) == {offset} && sizeof((({kind} *)0)->{path}) == {size}"
-                lines.append(f'_Static_assert({facts}, "{name}.{path}");')
-        words = [*self.processor.compiler, "-std=c11", "-fsyntax-only", "-I", f"{ROOT}/include", "-x", "c", "-"]
-        done = subprocess.run(words, input="\n".join([*lines, ""]), capture_output=True, text=True)
-        self.assertEqual((done.returncode, done.stderr), (0, ""))
+    def test_structs(self):
+        """Each processor lays the structs out as Python and Rattle do."""
+        self.assertEqual(faults_of(facts_of(structs_of_python(python_module())), self.processor.compiler), "")
 
     def test_journal_bounds(self):
         """The bounds of the journal are these numbers of type `size_t`. None overflows for a setup that has a map, also if that
         type has 32 bits."""
-        lines = ["#include <bootswap.h>"]
-        for bound, wanted in JOURNAL_BOUNDS.items():
-            is_so = f"BOOTSWAP_JOURNAL_{bound} == {wanted}u && sizeof BOOTSWAP_JOURNAL_{bound} == sizeof(size_t)"
-            lines.append(f'_Static_assert({is_so}, "{bound}");')
-        words, text = ["-std=c11", "-ffreestanding", "-fsyntax-only", "-I", f"{ROOT}/include", "-x", "c", "-"], "\n".join(lines)
+        bounds = {f"BOOTSWAP_JOURNAL_{it}": wanted for it, wanted in JOURNAL_BOUNDS.items()}
+        facts = [f"{it} == {wanted}u && sizeof {it} == sizeof(size_t)" for it, wanted in bounds.items()]
         compilers = [[*self.processor.compiler], [*self.processor.compiler, "-m32"], ["arm-none-eabi-gcc"]]
         for compiler in compilers:
             with self.subTest(" ".join(compiler)):
-                if compiler != compilers[0] and not compiles(compiler, words):
-                    continue
-                done = subprocess.run([*compiler, *words], input=text + "\n", capture_output=True, text=True)
-                self.assertEqual((done.returncode, done.stderr), (0, ""))
+                if compiler == compilers[0] or shutil.which(compiler[0]) and not errors_of("", compiler):
+                    self.assertEqual(faults_of(facts, compiler), "")
 
     def test_names(self):
         """include/bootswap_names.h has the names that the program prints."""
@@ -308,47 +273,39 @@ class CompiledHeaderTest(unittest.TestCase):
         self.assertEqual(printed_names(self.processor), wanted)
 
 
-class HeaderTest(unittest.TestCase):
-    @classmethod
-    def setUpClass(cls):
-        cls.structs = {name: rows_of(fields) for name, fields in structs_of_c().items()}
-        cls.enums = enums_of_c()
-        cls.module = python_module()
+@needs_compiler
+class LayoutTest(unittest.TestCase):
+    """The structs and calls of the headers and of other languages, as a compiler compares them."""
 
-    def check_structs(self, others):
-        """Checks that each struct of the header has the rows of one of these. If none has, a failure shows the closest."""
-        for name, rows in self.structs.items():
-            with self.subTest(name):
-                self.assertTrue(rows)
-                self.assertEqual(rows, max(others.values(), key=lambda it: (it == rows, len({*it} & {*rows}))))
-
-    def test_the_crate_has_the_structs(self):
-        self.check_structs({name: rows_of(fields) for name, fields in structs_of_rattle().items()})
-
-    def test_python_has_the_structs(self):
-        kinds = [it for it in vars(self.module).values() if isinstance(it, type) and issubclass(it, ctypes.Structure)]
-        self.check_structs({it.__name__: rows_of_python(it) for it in kinds})
+    def test_structs(self):
+        for language, structs in (("Rattle", structs_of_sources(sources())), ("Python", structs_of_python(python_module()))):
+            with self.subTest(language):
+                self.assertEqual({*map(name_in_c, structs)}, {f"struct {it}" for it in declared("struct")})
+                self.assertEqual(faults_of(facts_of(structs)), "")
 
     def test_calls(self):
-        calls, rattle, python = calls_of_c(), calls_of_rattle(), calls_of_python(self.module)
-        self.assertEqual({*rattle}, {*calls})
-        for name, (takes, result) in calls.items():
-            with self.subTest(name):
-                self.assertEqual(rattle[name], (takes, result))
-                self.assertEqual(python[name], ([(star, False, rows) for star, _, rows in takes], result))
+        rattle = calls_of_rattle()
+        self.assertEqual({*rattle}, {*calls_of_c()})
+        self.assertEqual(errors_of("\n".join([START, *rattle.values()])), "")
+        start = START.replace("#define char", "#define const\n#define char")
+        self.assertEqual(errors_of("\n".join([start, *calls_of_python(python_module()).values()])), "")
 
     def test_the_page_has_the_structs(self):
-        structs, sizes = structs_of_c(), table_of_page("SIZES")
+        facts = [f"sizeof(struct bootswap_{name}) == {size}" for name, size in table_of_page("SIZES").items()]
         for name, offsets in table_of_page("OFFSETS").items():
-            with self.subTest(name):
-                self.assertEqual(sizes[name], size_and_alignment(structs[name])[0])
-                for field, offset in offsets.items():
-                    starts = [at for path, at, _ in self.structs[name] if re.match(rf"{field}\b", path)]
-                    self.assertEqual((field, offset), (field, min(starts, default=None)))
-        for name, size in sizes.items():
-            self.assertEqual((name, size), (name, size_and_alignment(structs[name])[0]))
+            facts += [f"offsetof(struct bootswap_{name}, {field}) == {at}" for field, at in offsets.items()]
+        self.assertEqual(faults_of(facts), "")
         # The code itself has no offset.
         self.assertEqual(re.findall(r"\bat\b[.\w]* \+ \d.*", text_of("web/library.js")), [])
+
+
+class NumberTest(unittest.TestCase):
+    """The numbers of the header, and those of other languages."""
+
+    @classmethod
+    def setUpClass(cls):
+        cls.enums = enums_of_c()
+        cls.module = python_module()
 
     def test_numbers_that_calls_return(self):
         wanted = self.enums["status"]

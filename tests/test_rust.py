@@ -206,29 +206,10 @@ class LayoutTest(CaseTest):
         self.text = read(f"{CRATE}/src/sys.rs").decode()
 
     def test_structs(self):
-        structs, wanted = self.structs(), header.structs_of_c()
-        names = {"saved_state": "SavedState", "result": "CallResult", "image_parts": "ImageParts", "sha256": "Sha256"}
-        for name in ("setup", "saved_state", "version", "dependency", "refusal", "result", "component", "manifest", "group",
-                     "description", "image_parts", "state", "sha256", "workspace"):
-            found = header.rows_of(structs[names.get(name, name.capitalize())])
-            self.case(name, [str(found)] * (found != header.rows_of(wanted[name])))
-
-    def structs(self):
-        """Returns the fields of each struct by its name, as tests/test_header.py has those of C."""
-        lengths = dict(re.findall(r"^pub const (\w+): usize = (\d+);", self.text, re.MULTILINE))
-        bodies = dict(re.findall(r"^#\[repr\(C\)\]\n(?:#.*\n)*pub struct (\w+) \{\n((?: .*\n)*)\}", self.text, re.MULTILINE))
-
-        def kind_of(name):
-            array = re.fullmatch(r"\[(\w+); (\w+)\]", name)
-            if array:
-                return kind_of(array[1]), int(lengths.get(array[2], array[2]))
-            return header.NUMBERS.get(name) or fields_of(name)
-
-        def fields_of(struct):
-            fields = re.findall(r"^    pub(?:\(crate\))? (\w+): (.+),$", bodies[struct], re.MULTILINE)
-            return [(name, kind_of(kind)) for name, kind in fields]
-
-        return {name: fields_of(name) for name in bodies}
+        structs = header.structs_of_sources([self.text])
+        wanted = {f"struct {it}" for it in re.findall(r"^struct (\w+) \{", header.text_of(header.HEADER), re.MULTILINE)}
+        self.case("the structs", sorted({*map(header.name_in_c, structs)} ^ wanted))
+        self.case("their fields", header.faults_of(header.facts_of(structs)).splitlines())
 
     def test_calls(self):
         """Each call of bootswap.h has the same arguments in the same order."""
