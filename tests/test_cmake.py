@@ -8,24 +8,17 @@ import unittest
 
 import test_cortex_m_example as example
 from support.compiled import needs_compiler
-from support.files import EXAMPLES, ROOT, read
+from support.files import EXAMPLES, read
 from support.libraries import c_folder, ran
 from support.program import CaseTest, short
 
+import empty_projects
 from installing import major, version
 
-IMAGES = [f"{EXAMPLES}/images/{it}.img" for it in ("one", "patched")]
+IMAGES = [f"{EXAMPLES}/images/{it}" for it in empty_projects.IMAGES]
 
-# What tests/in_memory.c prints with these images: their versions are 1.0.0 and 1.1.0. Without uploads or texts it boots once.
-LIVES = b"plain\nrun 0 1.0.0+0\npermanent\ntake 0 1.1.0+0\n"
-BOOTS = b"runs 1.0.0+0\n"
-
-PROJECT = """cmake_minimum_required(VERSION 3.16)
-project(in_memory LANGUAGES C)
-{found}
-add_executable(in_memory {source})
-target_link_libraries(in_memory PRIVATE bootswap::bootswap)
-"""
+# What the program of the empty project prints with these images.
+LIVES, BOOTS = empty_projects.LIVES.encode(), empty_projects.BOOTS.encode()
 
 # The warnings that our own builds ask for.
 STRICT = "-DCMAKE_C_FLAGS=-Wall -Wextra -Wpedantic -Werror"
@@ -55,8 +48,7 @@ class CMakeTest(CaseTest):
 
     def project(self, found):
         """Makes a project in an empty folder. `found` is how it takes the library."""
-        with open(f"{self.folder}/CMakeLists.txt", "w", encoding="utf-8") as it:
-            it.write(PROJECT.format(found=found, source=f"{ROOT}/tests/in_memory.c"))
+        empty_projects.write_cmake(self.folder, found)
         return self.folder
 
     def configured(self, folder, *words):
@@ -84,7 +76,7 @@ class CMakeTest(CaseTest):
 
     def test_subdirectory(self):
         """A project that has the folder as a part of it boots a device. Installed, it installs nothing of the library."""
-        self.build("a part", self.project(f'add_subdirectory("{self.library}" bootswap)'))
+        self.build("a part", self.project(empty_projects.part(self.library)))
         self.boots("a part: it boots", LIVES)
         faults, _ = ran(["cmake", "--install", f"{self.folder}/build", "--prefix", f"{self.folder}/prefix"])
         self.case("a part: it installs nothing", faults + [it for it in os.listdir(self.folder) if it == "prefix"])
@@ -93,12 +85,12 @@ class CMakeTest(CaseTest):
         """A project that finds the installed library boots a device. It finds this major version, and up to this version."""
         prefix = self.installed()
         where = f"-DCMAKE_PREFIX_PATH={prefix}"
-        self.build("installed", self.project(f"find_package(bootswap {version()} CONFIG REQUIRED)"), where)
+        self.build("installed", self.project(empty_projects.package(version())), where)
         self.boots("installed: it boots", LIVES)
         later = re.sub(r"\d+$", lambda it: str(int(it[0]) + 1), version())
         for asked, is_found in ((f"{major()}.0", True), (version(), True), (later, False), (int(major()) + 1, False)):
             shutil.rmtree(f"{self.folder}/build")
-            faults, output = self.configured(self.project(f"find_package(bootswap {asked} CONFIG REQUIRED)"), where)
+            faults, output = self.configured(self.project(empty_projects.package(asked)), where)
             told = [short(output)] * (bool(faults) == is_found)
             self.case(f"find_package(bootswap {asked}) {'finds it' if is_found else 'finds none'}", told)
 
@@ -126,7 +118,7 @@ class CMakeTest(CaseTest):
 
     def symbols(self, name, *words):
         """Builds a project, and returns the functions in its library."""
-        found = f'add_subdirectory("{self.library}" bootswap)'
+        found = empty_projects.part(self.library)
         parts = [re.match(r"-DBOOTSWAP_(\w+)=OFF", it)[1] for it in words]
         found += "".join(f"\nadd_definitions(-DBOOTSWAP_WITHOUT_{it})" for it in parts)
         self.build(name, self.project(found), "-DCMAKE_BUILD_TYPE=MinSizeRel", *words)

@@ -15,6 +15,8 @@ from support.libraries import TARGET, archive_for, c_folder, ran
 from support.processors import HERE
 from support.program import CaseTest, short
 
+import empty_projects
+
 CRATE = f"{ROOT}/bindings/rust"
 
 # Targets without an operating system, and the prefix of the compiler that build.rs takes.
@@ -35,17 +37,6 @@ HELPERS = "__aeabi_(u?idiv(mod)?|u?ldivmod|lmul|llsl|llsr|lasr)|__(ashl|ashr|lsh
 
 needs_cargo = unittest.skipUnless(shutil.which("cargo") and shutil.which("rustc"), "there is no cargo")
 
-# A project that takes the crate, and boots a device in memory.
-MANIFEST = """[package]
-name = "empty"
-version = "0.1.0"
-edition = "2021"
-
-[dependencies]
-bootswap = {{ path = "{crate}"{features} }}
-
-[workspace]
-"""
 # What the example upgrade.rs prints: version 1 takes an upload of version 2.
 PLAYS = b"".join(b"vectors 512, version %d, resets %s\n" % it for it in ((1, b"true"), (2, b"false"), (2, b"false")))
 
@@ -80,24 +71,6 @@ fn main() {
     println!("it adapts");
 }
 """
-
-MAIN = """use bootswap::{Decision, Device, Memory, MemoryFlash, Setup};
-
-const SETUP: Setup = Setup::new(512, &[2], 1);
-
-fn main() {
-    let file = std::fs::read(std::env::args().nth(1).unwrap()).unwrap();
-    let (mut flash, mut journal) = ([0xff; SETUP.map_length()], [0; SETUP.boot_journal_length()]);
-    flash[..file.len()].copy_from_slice(&file);
-    let part = MemoryFlash::<512>(&mut flash);
-    let mut device = Device::open(SETUP, part, Memory::mapped(), &mut journal).unwrap();
-    device.provision().unwrap();
-    let boot = device.boot().unwrap();
-    assert_eq!(boot.decision(), Decision::Plain);
-    println!("runs {}", boot.versions()[0]);
-}
-"""
-
 
 def copied(folder):
     """Copies the crate, and the library as one file of C, to the folders `crate` and `c` of a folder. Returns the environment in
@@ -147,9 +120,9 @@ class RustTest(CaseTest):
         os.makedirs(archives)
         shutil.copy(archive_for(TARGET), f"{archives}/libbootswap.a")
         for name, features in (("one file of C", ""), ("prebuilt", ', features = ["prebuilt"]')):
-            image = f"{EXAMPLES}/images/one.img"
-            faults, output = self.run_project(name, features, MAIN, image, BOOTSWAP_LIB=archives)
-            self.case(name, faults or [short(output)] * (output != b"runs 1.0.0+0\n"))
+            image = f"{EXAMPLES}/images/{empty_projects.IMAGES[0]}"
+            faults, output = self.run_project(name, features, None, image, BOOTSWAP_LIB=archives)
+            self.case(name, faults or [short(output)] * (output != empty_projects.BOOTS.encode()))
 
     def test_upgrade(self):
         """The loader and the application of examples/upgrade.rs upgrade a device."""
@@ -165,10 +138,7 @@ class RustTest(CaseTest):
     def run_project(self, name, features, main, *words, **variables):
         """Makes an empty project that takes the crate, and runs its program."""
         project = f"{self.folder}/{name}"
-        os.makedirs(f"{project}/src")
-        for file, text in (("Cargo.toml", MANIFEST.format(crate=self.crate, features=features)), ("src/main.rs", main)):
-            with open(f"{project}/{file}", "w", encoding="utf-8") as it:
-                it.write(text)
+        empty_projects.write_cargo(project, self.crate, features, main)
         return self.cargo("run", "--quiet", "--", *words, cwd=project, **variables)
 
     def test_without_library(self):
