@@ -8,7 +8,7 @@ import unittest
 
 import test_cortex_m_example as example
 from support.compiled import needs_compiler
-from support.files import EXAMPLES, read
+from support.files import EXAMPLES, ROOT, read
 from support.libraries import c_folder, ran
 from support.program import CaseTest, short
 
@@ -94,6 +94,23 @@ class CMakeTest(CaseTest):
             told = [short(output)] * (bool(faults) == is_found)
             self.case(f"find_package(bootswap {asked}) {'finds it' if is_found else 'finds none'}", told)
 
+    def test_readme(self):
+        """What bindings/c_file/README.md shows builds: a project with the folder in it, and one that finds it installed."""
+        page = read(f"{ROOT}/bindings/c_file/README.md").decode()
+        shown = re.search(r"^```cmake\n(.*?)^```$", page, re.MULTILINE | re.DOTALL)[1]
+        shutil.copytree(self.library, f"{self.folder}/bootswap")
+        self.build("a part", self.project(f"add_executable(loader in_memory.c)\n{shown}"))
+        faults, output = ran([f"{self.folder}/build/loader", *IMAGES])
+        self.case("a part: its loader boots", faults or [short(output)] * (output != LIVES))
+        self.setUp()
+        os.makedirs(f"{self.folder}/clone/out")
+        os.symlink(self.library, f"{self.folder}/clone/out/c")
+        commands = re.search(r"^```sh\n(cmake -S out/c .*?)^```$", page, re.MULTILINE | re.DOTALL)[1]
+        self.case("it is installed", ran(["bash", "-e", "-c", commands], cwd=f"{self.folder}/clone")[0])
+        found = re.search(r"`(find_package\(bootswap .*?\))`", page)[1]
+        self.build("installed", self.project(found), f"-DCMAKE_PREFIX_PATH={self.folder}/clone/prefix")
+        self.boots("installed: it boots", LIVES)
+
     def test_installed_files(self):
         prefix, found = self.installed(), []
         for at, _, names in os.walk(prefix):
@@ -137,11 +154,8 @@ class CMakeTest(CaseTest):
 class CMakeCortexMTest(example.CortexMExampleTest):
     """The example of docs/PORTING.md, built by CMake with a toolchain file."""
 
-    def build_example(self):
-        """Builds the example, and returns the command that runs the machine."""
-        words = ["-B", "build", f"-DBOOTSWAP={self.clone}", "-DCMAKE_TOOLCHAIN_FILE=cortex_m4.cmake"]
-        for it in (words, ["--build", "build"]):
-            faults, output = ran(["cmake", *it], cwd=self.empty)
-            self.case(f"it is made: cmake {it[0]}", faults or [short(output)] * (b"arning" in output or b"dropped" in output))
-        self.made = f"{self.empty}/build"
-        return ["cmake", "--build", "build", "--target", "run"]
+    build_folder = "/build"
+
+    def commands(self):
+        copy, *_ = super().commands()
+        return [copy, *example.block_of_porting("sh", "cmake -B build")]

@@ -299,10 +299,13 @@ class PackageTest(PackedTest):
         top = f"{self.check_all(empty_projects.checks_of_c, ARCHIVES[2])}/{ARCHIVES[2].removesuffix('.tar.xz')}"
         listed = {it.split("  ", 1)[1] for it in read(f"{top}/SHA256SUMS").decode().splitlines()} | {"SHA256SUMS"}
         self.case("SHA256SUMS has all files", sorted(listed ^ places_below(top)))
-        if shutil.which("arm-none-eabi-gcc"):
-            for it in (["-B", "build", "-DCMAKE_TOOLCHAIN_FILE=cortex_m4.cmake"], ["--build", "build"]):
-                faults, output = ran(["cmake", *it], cwd=f"{top}/examples/cortex_m")
-                self.case(f"the example: cmake {it[0]}", faults or [short(output)] * (b"arning" in output))
+        commands = re.findall(r"^    ((?:make|cmake) .*run)$", read(f"{top}/README").decode(), re.MULTILINE)
+        self.assertEqual(len(commands), 2)
+        for command in commands if shutil.which("arm-none-eabi-gcc") else []:
+            # What it runs is an endless machine, which tests/test_cortex_m_example.py runs.
+            command = re.sub("( --target)? run$", "", command)
+            faults, output = ran(["bash", "-c", command], cwd=f"{top}/examples/cortex_m")
+            self.case(f"the example: {command}", faults or [short(output)] * (b"arning" in output))
 
     @unittest.skipUnless(CRATE and shutil.which("rustc"), "there is no cargo")
     def test_crate(self):

@@ -32,8 +32,11 @@ BARE_TARGETS = {
     "riscv32imc-unknown-none-elf": "riscv64-unknown-elf-",
 }
 
+# What has build.rs compile by clang.
+CLANG = {"CC": "clang", "AR": "llvm-ar"}
+
 # The helpers of a C compiler that Rust's compiler_builtins has too.
-HELPERS = "__aeabi_(u?idiv(mod)?|u?ldivmod|lmul|llsl|llsr|lasr)|__(ashl|ashr|lshr|mul|u?div|u?mod)[ds]i3|__c[lt]z[ds]i2"
+HELPERS = "__aeabi_(u?idiv(mod)?|u?ldivmod|lmul|llsl|llsr|lasr|mem(cpy|move|set|clr)[48]?)|__(ashl|ashr|lshr|mul|u?div|u?mod)[ds]i3|__c[lt]z[ds]i2"
 
 needs_cargo = unittest.skipUnless(shutil.which("cargo") and shutil.which("rustc"), "there is no cargo")
 
@@ -148,24 +151,37 @@ class RustTest(CaseTest):
         self.case("it is named", [short(output)] * (said not in output))
 
     def test_bare_targets(self):
-        """build.rs compiles the file of C for processors without an operating system. It calls nothing but functions of memory
-        and helpers of arithmetic."""
+        """build.rs compiles the file of C for processors without an operating system, by gcc and by clang. It calls nothing but
+        functions of memory and helpers of arithmetic. Of another processor it asks for a compiler."""
         program = f"{self.folder}/build"
         self.case("build.rs compiles", ran(["rustc", "--edition=2021", f"{self.crate}/build.rs", "-o", program])[0])
         for target, prefix in BARE_TARGETS.items():
-            with self.subTest(target):
-                if not shutil.which(f"{prefix}gcc"):
-                    self.skipTest(f"not installed: {prefix}gcc")
-                out = f"{self.folder}/{target}"
-                os.mkdir(out)
-                variables = {"OUT_DIR": out, "TARGET": target, "OPT_LEVEL": "s", "CARGO_CFG_TARGET_OS": "none"}
-                faults, output = ran([program], env={**self.environment, **variables, "CARGO_MANIFEST_DIR": self.crate})
-                self.assertEqual(faults, [])
-                self.assertNotIn(b"warning", output)
-                names = ran([f"{prefix}nm", "--format=posix", f"{out}/libbootswap.a"])[1].decode().splitlines()
-                called = {it.split()[0] for it in names if it.split()[1:2] == ["U"]}
-                others = {it for it in called - {"memcpy", "memmove", "memset"} if not re.fullmatch(HELPERS, it)}
-                self.assertEqual(others, set())
+            for name, archiver, variables in ((f"{prefix}gcc", f"{prefix}ar", {}), ("clang", "llvm-ar", CLANG)):
+                with self.subTest(f"{target} by {name}"):
+                    missing = [it for it in (name, archiver, f"{prefix}nm") if not shutil.which(it)]
+                    if missing:
+                        self.skipTest(f"not installed: {' and '.join(missing)}")
+                    faults, output = self.run_build(program, target, f"{self.folder}/{target}-{name}", "none", **variables)
+                    self.assertEqual(faults, [])
+                    self.assertNotIn(b"warning", output)
+                    self.assertEqual(self.called_by(f"{self.folder}/{target}-{name}/libbootswap.a", prefix), set())
+        target = "sparc64-unknown-linux-gnu"
+        _, output = self.run_build(program, target, f"{self.folder}/{target}", "linux")
+        said = f"bootswap: no C compiler is known for {target}: name one in CC_sparc64_unknown_linux_gnu\n".encode()
+        self.case("without a compiler", [short(output)] * (said not in output))
+
+    def run_build(self, program, target, out, system, **variables):
+        """Runs build.rs for a target."""
+        os.mkdir(out)
+        variables.update(OUT_DIR=out, TARGET=target, HOST=TARGET, OPT_LEVEL="s", CARGO_CFG_TARGET_OS=system)
+        return ran([program], env={**self.environment, **variables, "CARGO_MANIFEST_DIR": self.crate})
+
+    @staticmethod
+    def called_by(archive, prefix):
+        """Returns the functions that an archive calls, but for those of memory and of arithmetic."""
+        names = ran([f"{prefix}nm", "--format=posix", archive])[1].decode().splitlines()
+        called = {it.split()[0] for it in names if it.split()[1:2] == ["U"]}
+        return {it for it in called - {"memcpy", "memmove", "memset"} if not re.fullmatch(HELPERS, it)}
 
 
 @needs_compiler
@@ -210,6 +226,14 @@ class LayoutTest(CaseTest):
         self.case("the calls", sorted({*found} ^ {*wanted}))
         for name, call in wanted.items():
             self.case(name, [f"{found.get(name)}, and not {call}"] * (found.get(name) != call))
+
+    def test_device_statuses(self):
+        """The numbers that driver.h adds are those of `Error::number`."""
+        driver, values = (read(f"{ROOT}/bindings/{it}").decode() for it in ("c/driver.h", "rust/src/values.rs"))
+        wanted = dict(re.findall(r"^    BOOTSWAP_(\w+) = (\d+)", driver, re.MULTILINE))
+        arms = re.findall(r"^            Self::(\w+).* => (\d+),$", values, re.MULTILINE)
+        found = {{"Flash": "DRIVER_FAILED", "JournalTooSmall": "JOURNAL_TOO_SMALL"}.get(name, name): number for name, number in arms}
+        self.case("driver.h", [f"{found}, and not {wanted}"] * (found != wanted))
 
     @staticmethod
     def kinds(words):

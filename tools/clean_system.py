@@ -37,8 +37,8 @@ PYTHON_PRINTS = "take 0 1.1.0+0\n"
 COMPILE = "cc /usr/share/doc/libbootswap-dev/examples/c/life.c $(pkg-config --cflags --libs bootswap) -o life"
 EXAMPLES = "/usr/share/doc/bootswap/examples"
 
-# How long one command may take, in seconds.
-LIMIT = 120
+# How long one command may take, in seconds. The tests of the crate take the longest.
+LIMIT = 600
 
 
 class NoSystem(Exception):
