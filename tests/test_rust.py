@@ -36,7 +36,8 @@ BARE_TARGETS = {
 CLANG = {"CC": "clang", "AR": "llvm-ar"}
 
 # The helpers of a C compiler that Rust's compiler_builtins has too.
-HELPERS = "__aeabi_(u?idiv(mod)?|u?ldivmod|lmul|llsl|llsr|lasr|mem(cpy|move|set|clr)[48]?)|__(ashl|ashr|lshr|mul|u?div|u?mod)[ds]i3|__c[lt]z[ds]i2"
+HELPERS = "__aeabi_(u?idiv(mod)?|u?ldivmod|lmul|llsl|llsr|lasr|mem(cpy|move|set|clr)[48]?)"
+HELPERS += "|__(ashl|ashr|lshr|mul|u?div|u?mod)[ds]i3|__c[lt]z[ds]i2"
 
 needs_cargo = unittest.skipUnless(shutil.which("cargo") and shutil.which("rustc"), "there is no cargo")
 
@@ -231,8 +232,9 @@ class LayoutTest(CaseTest):
         """The numbers that driver.h adds are those of `Error::number`."""
         driver, values = (read(f"{ROOT}/bindings/{it}").decode() for it in ("c/driver.h", "rust/src/values.rs"))
         wanted = dict(re.findall(r"^    BOOTSWAP_(\w+) = (\d+)", driver, re.MULTILINE))
+        names = {"Flash": "DRIVER_FAILED", "JournalTooSmall": "JOURNAL_TOO_SMALL"}
         arms = re.findall(r"^            Self::(\w+).* => (\d+),$", values, re.MULTILINE)
-        found = {{"Flash": "DRIVER_FAILED", "JournalTooSmall": "JOURNAL_TOO_SMALL"}.get(name, name): number for name, number in arms}
+        found = {names.get(name, name): number for name, number in arms}
         self.case("driver.h", [f"{found}, and not {wanted}"] * (found != wanted))
 
     @staticmethod
