@@ -137,7 +137,9 @@ class CleanSystem:
             checks = checks_of(place, version())
             self.call(f"chown --recursive {NOBODY}:{NOBODY} projects", 0)
             for check in checks:
-                self.prints(check.name, f"cd projects && {check.command}", check.printed)
+                # Each check needs those before it.
+                if not self.prints(check.name, f"cd projects && {check.command}", check.printed):
+                    break
             shutil.rmtree(place)
 
     def use(self):
