@@ -7,8 +7,8 @@
 //!   `out/c` of the clone that this crate is in.
 //! - `BOOTSWAP_LIB`: only with `prebuilt`, the folder of `libbootswap.a`. By default `out` of the
 //!   clone.
-//! - `CC`: the C compiler, gcc or clang. By default `cc`, or gcc for the bare targets below. There
-//!   is none for other targets of another architecture than this machine's.
+//! - `CC`: the C compiler, gcc or clang. By default gcc for the bare targets below, and `cc` for
+//!   those of this machine's architecture. For others it has to be named.
 //! - `CFLAGS`: more arguments for it, separated by spaces. They follow those of this file.
 //! - `AR`: the archiver. By default `ar`, or that of the compiler.
 
