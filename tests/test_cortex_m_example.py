@@ -47,7 +47,8 @@ class CortexMExampleTest(ProgramTest):
         *before, run = self.commands()
         for command in (*before, re.sub("( --target)? run$", "", run)):
             faults, output = ran(["bash", "-c", command], cwd=self.empty)
-            self.case(command, faults or [short(output)] * (b"arning" in output or b"dropped" in output))
+            is_warned = re.search(b"warning:|CMake Warning|dropped", output) is not None
+            self.case(command, faults or [short(output)] * is_warned)
         self.words = ["bash", "-c", run]
         for name, number in (("old", "1.0.0"), ("new", "2.0.0")):
             made, words = f"{self.empty}/by_program.img", ["--version", number, "--header-size", "512"]

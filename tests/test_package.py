@@ -305,7 +305,8 @@ class PackageTest(PackedTest):
             # What it runs is an endless machine, which tests/test_cortex_m_example.py runs.
             command = re.sub("( --target)? run$", "", command)
             faults, output = ran(["bash", "-c", command], cwd=f"{top}/examples/cortex_m")
-            self.case(f"the example: {command}", faults or [short(output)] * (b"arning" in output))
+            is_warned = re.search(b"warning:|CMake Warning", output) is not None
+            self.case(f"the example: {command}", faults or [short(output)] * is_warned)
 
     @unittest.skipUnless(CRATE and shutil.which("rustc"), "there is no cargo")
     def test_crate(self):
