@@ -1,5 +1,6 @@
 """What the board is made of: the bootloader, the images, the manifest of the upgrade, the flash."""
 
+import contextlib
 import hashlib
 import json
 import os
@@ -19,7 +20,7 @@ class Missing(Exception):
 
 
 def call(words, folder):
-    """Runs a command of the compiler."""
+    """Runs a command of the compiler, or of CMake."""
     both = {"stdout": subprocess.PIPE, "stderr": subprocess.STDOUT, "text": True}
     done = subprocess.run(words, cwd=folder, **both)
     if done.returncode:
@@ -51,8 +52,6 @@ def library_object(platform, folder, library):
 
 def build_bootloader(platform, folder, library):
     """Compiles the bootloader over the library, and returns the file that QEMU loads."""
-    if not os.path.exists(library):
-        raise Missing(f"there is no {library}: {platform.builder} makes it")
     folder, sources = os.path.realpath(folder), platform.sources()
     places = (f"{ROOT}/include", f"{ROOT}/bindings/c", BOARD, f"{BOARD}/{platform.folder}")
     included = [f"-I{it}" for it in places]
@@ -64,33 +63,22 @@ def build_bootloader(platform, folder, library):
     return platform.finish(call, linked)
 
 
-def program(platform, folder, text, address):
-    """Returns the bytes of the tiny program that writes a text, linked for an address."""
+def program(platform, folder, text):
+    """Returns the bytes of the tiny program that writes a text."""
     source = f"{BOARD}/{platform.folder}/image.S"
     call([*platform.compiler(), f'-DTEXT="{text}"', "-c", source, "-o", "image.o"], folder)
-    linker = [f"{platform.prefix}ld", *platform.linker_flags, f"-Ttext={address:#x}"]
+    linker = [f"{platform.prefix}ld", *platform.linker_flags, f"-Ttext={platform.body_at:#x}"]
     call([*linker, "-e", "image", "-o", "image.elf", "image.o"], folder)
     copier = [f"{platform.prefix}objcopy", "-O", "binary", "-j", ".text"]
     call([*copier, "image.elf", "image.bin"], folder)
     return read(f"{folder}/image.bin")
 
 
-def slots():
-    """Returns where the primary slots begin in the flash."""
-    device, places, at = json.loads(read(DEVICE)), [], 0
-    for length in device["sectors"]:
-        places.append(at)
-        at += device["sector"] * (length + 1)
-    return places
-
-
 def make_image(platform, folder, name, number, major):
     """Makes a file of an image. Version 2 needs version 2 of the other one."""
     needs = [(1 - number, version(major, 0))] if major == 2 else []
-    address = platform.body_at(number, slots()[number])
-    body = program(platform, folder, f"image {number} version {major}.0.0", address)
-    made = image(version(major, 0), needs=needs, body=body, header_size=platform.header_size)
-    write(f"{folder}/{name}{number}.img", made)
+    body = program(platform, folder, f"image {number} version {major}.0.0")
+    write(f"{folder}/{name}{number}.img", image(version(major, 0), needs=needs, body=body))
 
 
 def make_images(platform, folder):
@@ -98,6 +86,20 @@ def make_images(platform, folder):
     for number in (0, 1):
         make_image(platform, folder, "old", number, 1)
         make_image(platform, folder, "new", number, 2)
+
+
+def build_by_cmake(platform, folder, library):
+    """Builds the bootloader and the images by the machine's CMakeLists.txt, over the folder of the
+    library, and returns the file that QEMU loads."""
+    folder, source = os.path.realpath(folder), f"{BOARD}/{platform.folder}"
+    words = [f"-DBOOTSWAP={os.path.dirname(os.path.realpath(library))}"]
+    words.append(f"-DCMAKE_TOOLCHAIN_FILE={platform.toolchain}")
+    # CMake refuses a folder that it configured for a clone which was moved since.
+    with contextlib.suppress(FileNotFoundError):
+        os.remove(f"{folder}/CMakeCache.txt")
+    call(["cmake", "-S", source, "-B", folder, *words], folder)
+    call(["cmake", "--build", folder], folder)
+    return f"{folder}/bootloader.elf"
 
 
 def component(number, file):
@@ -117,6 +119,15 @@ def make_manifest(folder):
     write(f"{folder}/new.json", json.dumps(fields, indent=1).encode())
 
 
+def slots():
+    """Returns where the primary slots begin in the flash."""
+    device, places, at = json.loads(read(DEVICE)), [], 0
+    for length in device["sectors"]:
+        places.append(at)
+        at += device["sector"] * (length + 1)
+    return places
+
+
 def make_flash(platform, folder, flash):
     """Makes the file of a flash as a factory programs it: erased, but for the old images."""
     device = json.loads(read(DEVICE))
@@ -133,7 +144,13 @@ def build(platform, folder, library):
     missing = platform.missing()
     if missing:
         raise Missing(f"there is no {', and no '.join(missing)}")
+    if not os.path.exists(library):
+        raise Missing(f"there is no {library}: {platform.builder} makes it")
     os.makedirs(folder, exist_ok=True)
-    make_images(platform, folder)
+    if platform.toolchain:
+        bootloader = build_by_cmake(platform, folder, library)
+    else:
+        make_images(platform, folder)
+        bootloader = build_bootloader(platform, folder, library)
     make_manifest(folder)
-    return build_bootloader(platform, folder, library)
+    return bootloader

@@ -13,7 +13,7 @@ STRICT = ["-std=c11", "-Wall", "-Wextra", "-Werror"]
 BARE = ["-ffreestanding", "-fno-stack-protector", "-fno-pie"]
 BARE += ["-fno-tree-loop-distribute-patterns"]
 
-# For processors of 32 bits: only what is called is linked, and the code is small.
+# For a processor of 32 bits: only what is called is linked, and the code is small.
 SMALL = ["-Os", "-ffunction-sections", "-fdata-sections", f"-I{BOARD}/bare"]
 
 # The files that all machines have.
@@ -57,17 +57,23 @@ class Platform:
     # The library, and what makes it.
     library, builder = f"{ROOT}/out/c/bootswap.c", "bindings/build --c"
 
-    # The header of its images, in bytes.
-    header_size = 32
+    # For which address the body of an image is linked.
+    body_at = 0
+
+    # CMake's toolchain file, if CMake builds it. Otherwise our own calls of gcc do.
+    toolchain = None
 
     def files(self):
         """Returns what the machine needs besides programs: names, and whether they are there."""
         return []
 
+    def programs(self):
+        """Returns the programs that it needs."""
+        return [f"{self.prefix}gcc", f"{self.prefix}ld", self.emulator]
+
     def missing(self):
         """Returns what the system lacks."""
-        programs = (f"{self.prefix}gcc", f"{self.prefix}ld", self.emulator)
-        found = [f"`{it}`" for it in programs if not shutil.which(it)]
+        found = [f"`{it}`" for it in self.programs() if not shutil.which(it)]
         return found + [name for name, is_there in self.files() if not is_there]
 
     def out(self):
@@ -91,10 +97,6 @@ class Platform:
         script = f"{BOARD}/{self.folder}/board.ld"
         words = [*self.compiler(), "-nostdlib", "-static", "-Wl,--gc-sections", "-T", script]
         return [*words, "-o", made, *objects, "-lgcc"]
-
-    def body_at(self, number, slot):
-        """Returns for which address the body of an image is linked. Its slot begins at `slot`."""
-        return 0
 
     def finish(self, call, linked):
         """Makes what QEMU loads of the linked bootloader, and returns its file."""
@@ -151,12 +153,11 @@ class Rv32(Platform):
     linker_flags = ["-melf32lriscv"]
     shared = ["uart_16550"]
 
+    # To where jump.c copies it.
+    body_at = 0x80040000
+
     # The length of each of the two flashes, and that of a sector.
     LENGTH, PART_SECTOR, SECTOR = 32 << 20, 256 << 10, 4096
-
-    def body_at(self, number, slot):
-        # To where jump.c copies it.
-        return 0x80040000
 
     def finish(self, call, linked):
         rom = f"{os.path.dirname(linked)}/bootloader.rom"
@@ -188,17 +189,16 @@ class Rv32(Platform):
 
 class CortexM(Platform):
     """A Cortex-M4 (`mps2-an386`). The bootloader reads and writes the file of its flash by
-    semihosting. The images run in place, so each is linked for its slot."""
+    semihosting. The images run in place, so each is linked for its slot. CMake builds it."""
 
     name, folder = "cortex-m", "cortex_m"
-    emulator, prefix = "qemu-system-arm", "arm-none-eabi-"
-    flags = [*BARE, *SMALL, "-mcpu=cortex-m4", "-mthumb"]
+    emulator = "qemu-system-arm"
+    toolchain = f"{ROOT}/examples/cortex_m/cortex_m4.cmake"
 
-    # A vector table is aligned to 128 bytes at least.
-    header_size = 512
-
-    def body_at(self, number, slot):
-        return 0x200000 + slot + self.header_size
+    def programs(self):
+        # Unless it is told otherwise, CMake builds by make.
+        makes = [] if os.environ.get("CMAKE_GENERATOR") else ["make"]
+        return ["arm-none-eabi-gcc", "cmake", *makes, self.emulator]
 
     def words(self, bootloader, flash):
         files = f"enable=on,target=native,arg={option(os.path.realpath(flash))}"

@@ -9,7 +9,7 @@ import tempfile
 import unittest
 
 from support.files import ROOT, read
-from support.libraries import TARGET, archive_for, c_folder
+from support.libraries import TARGET, archive_for, c_folder, ran
 from support.program import ProgramTest, short
 from support.stories import STAYED
 from support.worked import NO_SESSION, NO_TRIAL, NOTHING_REQUESTED, NOT_UP, PLAIN, TRIED, numbered
@@ -74,6 +74,8 @@ UNREADABLE += ["boot reset", "boot provision", "finish confirm 0", "accept piece
 UNREADABLE += [f"piece 1 {8193 * '5a'}", 40000 * "z", "accept 1"]
 UNREADABLE += [f"accept 4294967296 0 test 3 {DIGEST} -", f"accept 1 0 test 3 {DIGEST}"]
 UNREADABLE += [f"accept 1 0 test 3 {DIGEST}5a -", f"accept 1{9 * f' 0 test 3 {DIGEST} -'}"]
+
+SECTION = re.MULTILINE | re.DOTALL
 
 BAD_SCRIPTS = ["cut 1 keep\nboot\n", "boot\nfinish\n", "boot\npiece 0 absent.img\n", "finish 0\n"]
 
@@ -186,8 +188,7 @@ class Board:
         """The commands of the board say what is missing."""
         absent, empty = f"{self.folder}/absent.a", {"PATH": self.folder}
         library = f"board: there is no {absent}: {self.platform.builder} makes it\n"
-        prefix, emulator = self.platform.prefix, self.platform.emulator
-        system = f"board: there is no `{prefix}gcc`, and no `{prefix}ld`, and no `{emulator}`\n"
+        system = f"board: there is no {', and no '.join(f'`{it}`' for it in self.programs)}\n"
         for name, argument in (("run", "-"), ("kill", "1")):
             got = self.run_board(name, argument, "--library", absent)
             self.case(f"{name} without a library", [short(got)] * (got != (125, "", library)))
@@ -197,6 +198,7 @@ class Board:
 
 class PcTest(Board, ProgramTest):
     name, kills = "pc", 20
+    programs = ("gcc", "ld", "qemu-system-x86_64")
 
     @classmethod
     def library_in(cls, folder):
@@ -205,7 +207,47 @@ class PcTest(Board, ProgramTest):
 
 class Rv32Test(Board, ProgramTest):
     name, kills = "rv32", 6
+    programs = ("riscv64-unknown-elf-gcc", "riscv64-unknown-elf-ld", "qemu-system-riscv32")
 
 
 class CortexMTest(Board, ProgramTest):
     name, kills = "cortex-m", 6
+    programs = ("arm-none-eabi-gcc", "cmake", "make", "qemu-system-arm")
+
+    def test_without_cmake(self):
+        """If CMake alone is missing, one line says so."""
+        for it in set(self.programs) - {"cmake"}:
+            os.symlink(shutil.which(it), f"{self.folder}/{it}")
+        got, wanted = self.run_board("run", "-", PATH=self.folder), (125, "", "board: there is no `cmake`\n")
+        self.case("run without CMake", [short(got)] * (got != wanted))
+
+    def copy_clone(self):
+        """Makes a clone that has what the board needs, and returns its folder."""
+        clone = f"{self.folder}/clone"
+        for name in ("board", "examples"):
+            shutil.copytree(f"{ROOT}/{name}", f"{clone}/{name}", ignore=shutil.ignore_patterns("__pycache__"))
+        os.mkdir(f"{clone}/out")
+        os.symlink(os.path.dirname(self.library), f"{clone}/out/c")
+        return clone
+
+    def test_moved(self):
+        """A folder that another clone built is built anew, and what didn't change isn't."""
+        folder, clone = f"{self.folder}/out", self.copy_clone()
+        parts.build(self.platform, folder, self.library)
+        library = f"{folder}/bootswap/CMakeFiles/bootswap.dir/bootswap.c.obj"
+        first = os.stat(library).st_mtime_ns
+        parts.build(self.platform, folder, self.library)
+        self.case("the library isn't compiled again", ["it is"] * (os.stat(library).st_mtime_ns != first))
+        words = [sys.executable, "-B", f"{clone}/board/run", "--machine", "cortex-m"]
+        faults, _ = ran([*words, "--out", folder, f"{self.folder}/{self.file('script', b'boot')}"])
+        self.case("another clone builds in the same folder", faults)
+
+    def test_by_hand(self):
+        """The commands of the README build the same."""
+        clone = self.copy_clone()
+        shown = re.search(r"^## The build\n.*?^```sh\n(.*?)^```$", read(f"{clone}/board/cortex_m/README.md").decode(), SECTION)[1]
+        self.case("they build", ran(["bash", "-e", "-c", shown], cwd=clone)[0])
+        parts.build(self.platform, self.made, self.library)
+        for name in ("bootloader.elf", "old0.img", "old1.img", "new0.img", "new1.img"):
+            same = read(f"{clone}/build/{name}") == read(f"{self.made}/{name}")
+            self.case(name, ["it differs"] * (not same))

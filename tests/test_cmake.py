@@ -12,20 +12,13 @@ from support.files import EXAMPLES, ROOT, read
 from support.libraries import c_folder, ran
 from support.program import CaseTest, short
 
+import empty_projects
 from installing import major, version
 
-IMAGES = [f"{EXAMPLES}/images/{it}.img" for it in ("one", "patched")]
+IMAGES = [f"{EXAMPLES}/images/{it}" for it in empty_projects.IMAGES]
 
-# What tests/in_memory.c prints with these images: their versions are 1.0.0 and 1.1.0. Without uploads or texts it boots once.
-LIVES = b"plain\nrun 0 1.0.0+0\npermanent\ntake 0 1.1.0+0\n"
-BOOTS = b"runs 1.0.0+0\n"
-
-PROJECT = """cmake_minimum_required(VERSION 3.16)
-project(in_memory LANGUAGES C)
-{found}
-add_executable(in_memory {source})
-target_link_libraries(in_memory PRIVATE bootswap::bootswap)
-"""
+# What the program of the empty project prints with these images.
+LIVES, BOOTS = empty_projects.LIVES.encode(), empty_projects.BOOTS.encode()
 
 # The warnings that our own builds ask for.
 STRICT = "-DCMAKE_C_FLAGS=-Wall -Wextra -Wpedantic -Werror"
@@ -55,8 +48,7 @@ class CMakeTest(CaseTest):
 
     def project(self, found):
         """Makes a project in an empty folder. `found` is how it takes the library."""
-        with open(f"{self.folder}/CMakeLists.txt", "w", encoding="utf-8") as it:
-            it.write(PROJECT.format(found=found, source=f"{ROOT}/tests/in_memory.c"))
+        empty_projects.write_cmake(self.folder, found)
         return self.folder
 
     def configured(self, folder, *words):
@@ -84,7 +76,7 @@ class CMakeTest(CaseTest):
 
     def test_subdirectory(self):
         """A project that has the folder as a part of it boots a device. Installed, it installs nothing of the library."""
-        self.build("a part", self.project(f'add_subdirectory("{self.library}" bootswap)'))
+        self.build("a part", self.project(empty_projects.part(self.library)))
         self.boots("a part: it boots", LIVES)
         faults, _ = ran(["cmake", "--install", f"{self.folder}/build", "--prefix", f"{self.folder}/prefix"])
         self.case("a part: it installs nothing", faults + [it for it in os.listdir(self.folder) if it == "prefix"])
@@ -93,14 +85,31 @@ class CMakeTest(CaseTest):
         """A project that finds the installed library boots a device. It finds this major version, and up to this version."""
         prefix = self.installed()
         where = f"-DCMAKE_PREFIX_PATH={prefix}"
-        self.build("installed", self.project(f"find_package(bootswap {version()} CONFIG REQUIRED)"), where)
+        self.build("installed", self.project(empty_projects.package(version())), where)
         self.boots("installed: it boots", LIVES)
         later = re.sub(r"\d+$", lambda it: str(int(it[0]) + 1), version())
         for asked, is_found in ((f"{major()}.0", True), (version(), True), (later, False), (int(major()) + 1, False)):
             shutil.rmtree(f"{self.folder}/build")
-            faults, output = self.configured(self.project(f"find_package(bootswap {asked} CONFIG REQUIRED)"), where)
+            faults, output = self.configured(self.project(empty_projects.package(asked)), where)
             told = [short(output)] * (bool(faults) == is_found)
             self.case(f"find_package(bootswap {asked}) {'finds it' if is_found else 'finds none'}", told)
+
+    def test_readme(self):
+        """What bindings/c_file/README.md shows builds: a project with the folder in it, and one that finds it installed."""
+        page = read(f"{ROOT}/bindings/c_file/README.md").decode()
+        shown = re.search(r"^```cmake\n(.*?)^```$", page, re.MULTILINE | re.DOTALL)[1]
+        shutil.copytree(self.library, f"{self.folder}/bootswap")
+        self.build("a part", self.project(f"add_executable(loader in_memory.c)\n{shown}"))
+        faults, output = ran([f"{self.folder}/build/loader", *IMAGES])
+        self.case("a part: its loader boots", faults or [short(output)] * (output != LIVES))
+        self.setUp()
+        os.makedirs(f"{self.folder}/clone/out")
+        os.symlink(self.library, f"{self.folder}/clone/out/c")
+        commands = re.search(r"^```sh\n(cmake -S out/c .*?)^```$", page, re.MULTILINE | re.DOTALL)[1]
+        self.case("it is installed", ran(["bash", "-e", "-c", commands], cwd=f"{self.folder}/clone")[0])
+        found = re.search(r"`(find_package\(bootswap .*?\))`", page)[1]
+        self.build("installed", self.project(found), f"-DCMAKE_PREFIX_PATH={self.folder}/clone/prefix")
+        self.boots("installed: it boots", LIVES)
 
     def test_installed_files(self):
         prefix, found = self.installed(), []
@@ -126,7 +135,7 @@ class CMakeTest(CaseTest):
 
     def symbols(self, name, *words):
         """Builds a project, and returns the functions in its library."""
-        found = f'add_subdirectory("{self.library}" bootswap)'
+        found = empty_projects.part(self.library)
         parts = [re.match(r"-DBOOTSWAP_(\w+)=OFF", it)[1] for it in words]
         found += "".join(f"\nadd_definitions(-DBOOTSWAP_WITHOUT_{it})" for it in parts)
         self.build(name, self.project(found), "-DCMAKE_BUILD_TYPE=MinSizeRel", *words)
@@ -145,11 +154,8 @@ class CMakeTest(CaseTest):
 class CMakeCortexMTest(example.CortexMExampleTest):
     """The example of docs/PORTING.md, built by CMake with a toolchain file."""
 
-    def build_example(self):
-        """Builds the example, and returns the command that runs the machine."""
-        words = ["-B", "build", f"-DBOOTSWAP={self.clone}", "-DCMAKE_TOOLCHAIN_FILE=cortex_m4.cmake"]
-        for it in (words, ["--build", "build"]):
-            faults, output = ran(["cmake", *it], cwd=self.empty)
-            self.case(f"it is made: cmake {it[0]}", faults or [short(output)] * (b"arning" in output or b"dropped" in output))
-        self.made = f"{self.empty}/build"
-        return ["cmake", "--build", "build", "--target", "run"]
+    build_folder = "/build"
+
+    def commands(self):
+        copy, *_ = super().commands()
+        return [copy, *example.block_of_porting("sh", "cmake -B build")]

@@ -15,6 +15,8 @@ from support.libraries import TARGET, archive_for, c_folder, ran
 from support.processors import HERE
 from support.program import CaseTest, short
 
+import empty_projects
+
 CRATE = f"{ROOT}/bindings/rust"
 
 # Targets without an operating system, and the prefix of the compiler that build.rs takes.
@@ -30,22 +32,15 @@ BARE_TARGETS = {
     "riscv32imc-unknown-none-elf": "riscv64-unknown-elf-",
 }
 
+# What has build.rs compile by clang.
+CLANG = {"CC": "clang", "AR": "llvm-ar"}
+
 # The helpers of a C compiler that Rust's compiler_builtins has too.
-HELPERS = "__aeabi_(u?idiv(mod)?|u?ldivmod|lmul|llsl|llsr|lasr)|__(ashl|ashr|lshr|mul|u?div|u?mod)[ds]i3|__c[lt]z[ds]i2"
+HELPERS = "__aeabi_(u?idiv(mod)?|u?ldivmod|lmul|llsl|llsr|lasr|mem(cpy|move|set|clr)[48]?)"
+HELPERS += "|__(ashl|ashr|lshr|mul|u?div|u?mod)[ds]i3|__c[lt]z[ds]i2"
 
 needs_cargo = unittest.skipUnless(shutil.which("cargo") and shutil.which("rustc"), "there is no cargo")
 
-# A project that takes the crate, and boots a device in memory.
-MANIFEST = """[package]
-name = "empty"
-version = "0.1.0"
-edition = "2021"
-
-[dependencies]
-bootswap = {{ path = "{crate}"{features} }}
-
-[workspace]
-"""
 # What the example upgrade.rs prints: version 1 takes an upload of version 2.
 PLAYS = b"".join(b"vectors 512, version %d, resets %s\n" % it for it in ((1, b"true"), (2, b"false"), (2, b"false")))
 
@@ -80,24 +75,6 @@ fn main() {
     println!("it adapts");
 }
 """
-
-MAIN = """use bootswap::{Decision, Device, Memory, MemoryFlash, Setup};
-
-const SETUP: Setup = Setup::new(512, &[2], 1);
-
-fn main() {
-    let file = std::fs::read(std::env::args().nth(1).unwrap()).unwrap();
-    let (mut flash, mut journal) = ([0xff; SETUP.map_length()], [0; SETUP.boot_journal_length()]);
-    flash[..file.len()].copy_from_slice(&file);
-    let part = MemoryFlash::<512>(&mut flash);
-    let mut device = Device::open(SETUP, part, Memory::mapped(), &mut journal).unwrap();
-    device.provision().unwrap();
-    let boot = device.boot().unwrap();
-    assert_eq!(boot.decision(), Decision::Plain);
-    println!("runs {}", boot.versions()[0]);
-}
-"""
-
 
 def copied(folder):
     """Copies the crate, and the library as one file of C, to the folders `crate` and `c` of a folder. Returns the environment in
@@ -147,9 +124,9 @@ class RustTest(CaseTest):
         os.makedirs(archives)
         shutil.copy(archive_for(TARGET), f"{archives}/libbootswap.a")
         for name, features in (("one file of C", ""), ("prebuilt", ', features = ["prebuilt"]')):
-            image = f"{EXAMPLES}/images/one.img"
-            faults, output = self.run_project(name, features, MAIN, image, BOOTSWAP_LIB=archives)
-            self.case(name, faults or [short(output)] * (output != b"runs 1.0.0+0\n"))
+            image = f"{EXAMPLES}/images/{empty_projects.IMAGES[0]}"
+            faults, output = self.run_project(name, features, None, image, BOOTSWAP_LIB=archives)
+            self.case(name, faults or [short(output)] * (output != empty_projects.BOOTS.encode()))
 
     def test_upgrade(self):
         """The loader and the application of examples/upgrade.rs upgrade a device."""
@@ -165,10 +142,7 @@ class RustTest(CaseTest):
     def run_project(self, name, features, main, *words, **variables):
         """Makes an empty project that takes the crate, and runs its program."""
         project = f"{self.folder}/{name}"
-        os.makedirs(f"{project}/src")
-        for file, text in (("Cargo.toml", MANIFEST.format(crate=self.crate, features=features)), ("src/main.rs", main)):
-            with open(f"{project}/{file}", "w", encoding="utf-8") as it:
-                it.write(text)
+        empty_projects.write_cargo(project, self.crate, features, main)
         return self.cargo("run", "--quiet", "--", *words, cwd=project, **variables)
 
     def test_without_library(self):
@@ -178,24 +152,37 @@ class RustTest(CaseTest):
         self.case("it is named", [short(output)] * (said not in output))
 
     def test_bare_targets(self):
-        """build.rs compiles the file of C for processors without an operating system. It calls nothing but functions of memory
-        and helpers of arithmetic."""
+        """build.rs compiles the file of C for processors without an operating system, by gcc and by clang. It calls nothing but
+        functions of memory and helpers of arithmetic. Of another processor it asks for a compiler."""
         program = f"{self.folder}/build"
         self.case("build.rs compiles", ran(["rustc", "--edition=2021", f"{self.crate}/build.rs", "-o", program])[0])
         for target, prefix in BARE_TARGETS.items():
-            with self.subTest(target):
-                if not shutil.which(f"{prefix}gcc"):
-                    self.skipTest(f"not installed: {prefix}gcc")
-                out = f"{self.folder}/{target}"
-                os.mkdir(out)
-                variables = {"OUT_DIR": out, "TARGET": target, "OPT_LEVEL": "s", "CARGO_CFG_TARGET_OS": "none"}
-                faults, output = ran([program], env={**self.environment, **variables, "CARGO_MANIFEST_DIR": self.crate})
-                self.assertEqual(faults, [])
-                self.assertNotIn(b"warning", output)
-                names = ran([f"{prefix}nm", "--format=posix", f"{out}/libbootswap.a"])[1].decode().splitlines()
-                called = {it.split()[0] for it in names if it.split()[1:2] == ["U"]}
-                others = {it for it in called - {"memcpy", "memmove", "memset"} if not re.fullmatch(HELPERS, it)}
-                self.assertEqual(others, set())
+            for name, archiver, variables in ((f"{prefix}gcc", f"{prefix}ar", {}), ("clang", "llvm-ar", CLANG)):
+                with self.subTest(f"{target} by {name}"):
+                    missing = [it for it in (name, archiver, f"{prefix}nm") if not shutil.which(it)]
+                    if missing:
+                        self.skipTest(f"not installed: {' and '.join(missing)}")
+                    faults, output = self.run_build(program, target, f"{self.folder}/{target}-{name}", "none", **variables)
+                    self.assertEqual(faults, [])
+                    self.assertNotIn(b"warning", output)
+                    self.assertEqual(self.called_by(f"{self.folder}/{target}-{name}/libbootswap.a", prefix), set())
+        target = "sparc64-unknown-linux-gnu"
+        _, output = self.run_build(program, target, f"{self.folder}/{target}", "linux")
+        said = f"bootswap: no C compiler is known for {target}: name one in CC_sparc64_unknown_linux_gnu\n".encode()
+        self.case("without a compiler", [short(output)] * (said not in output))
+
+    def run_build(self, program, target, out, system, **variables):
+        """Runs build.rs for a target."""
+        os.mkdir(out)
+        variables.update(OUT_DIR=out, TARGET=target, HOST=TARGET, OPT_LEVEL="s", CARGO_CFG_TARGET_OS=system)
+        return ran([program], env={**self.environment, **variables, "CARGO_MANIFEST_DIR": self.crate})
+
+    @staticmethod
+    def called_by(archive, prefix):
+        """Returns the functions that an archive calls, but for those of memory and of arithmetic."""
+        names = ran([f"{prefix}nm", "--format=posix", archive])[1].decode().splitlines()
+        called = {it.split()[0] for it in names if it.split()[1:2] == ["U"]}
+        return {it for it in called - {"memcpy", "memmove", "memset"} if not re.fullmatch(HELPERS, it)}
 
 
 @needs_compiler
@@ -221,6 +208,15 @@ class LayoutTest(CaseTest):
         self.case("the calls", sorted({*found} ^ {*wanted}))
         for name, call in wanted.items():
             self.case(name, [f"{found.get(name)}, and not {call}"] * (found.get(name) != call))
+
+    def test_device_statuses(self):
+        """The numbers that driver.h adds are those of `Error::number`."""
+        driver, values = (read(f"{ROOT}/bindings/{it}").decode() for it in ("c/driver.h", "rust/src/values.rs"))
+        wanted = dict(re.findall(r"^    BOOTSWAP_(\w+) = (\d+)", driver, re.MULTILINE))
+        names = {"Flash": "DRIVER_FAILED", "JournalTooSmall": "JOURNAL_TOO_SMALL"}
+        arms = re.findall(r"^            Self::(\w+).* => (\d+),$", values, re.MULTILINE)
+        found = {names.get(name, name): number for name, number in arms}
+        self.case("driver.h", [f"{found}, and not {wanted}"] * (found != wanted))
 
     @staticmethod
     def kinds(words):

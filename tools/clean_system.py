@@ -10,12 +10,15 @@ import time
 
 from builder import ROOT, text_of
 from commits import version_in
-from results import Counts, report
+from empty_projects import IMAGES, c_archive, checks_of_c, checks_of_crate, crate
+from installing import version
+from results import Counts, report, skip
 from tutorial import commands_of
 
-# Debian 12, and what one needs there beside the packages: a C compiler, Python, `man`, and completion.
+# Debian 12, and what one needs there beside the packages: a C compiler, Python, `man`, and completion; for the archives of makers
+# of firmware what unpacks them, CMake and cargo.
 SUITE = "bookworm"
-NEEDED = ("gcc", "libc6-dev", "pkg-config", "python3", "man-db", "bash-completion")
+NEEDED = ("gcc", "libc6-dev", "pkg-config", "python3", "man-db", "bash-completion", "xz-utils", "cmake", "make", "cargo")
 
 # Where the packages are used, by a user who isn't root.
 PLACE = "/tmp/tried"
@@ -33,8 +36,8 @@ PYTHON_PRINTS = "take 0 1.1.0+0\n"
 COMPILE = "cc /usr/share/doc/libbootswap-dev/examples/c/life.c $(pkg-config --cflags --libs bootswap) -o life"
 EXAMPLES = "/usr/share/doc/bootswap/examples"
 
-# How long one command may take, in seconds.
-LIMIT = 120
+# How long one command may take, in seconds. The tests of the crate take the longest.
+LIMIT = 600
 
 
 class NoSystem(Exception):
@@ -52,11 +55,17 @@ def make_system(root):
         raise NoSystem(f"debootstrap failed: {done.stdout[-500:]}{done.stderr[-500:]}")
 
 
-class CleanSystem:
-    """A system in a folder, and the packages to try there."""
+def lacking(root):
+    """Returns what a clean system in a folder lacks of what is needed."""
+    known = (text_of(f"{root}/var/lib/dpkg/status") or "").splitlines()
+    return [it for it in NEEDED if f"Package: {it}" not in known]
 
-    def __init__(self, root, packages):
-        self.root, self.packages, self.counts = root, packages, Counts()
+
+class CleanSystem:
+    """A system in a folder, and the packages and archives to try there."""
+
+    def __init__(self, root, packages, archives):
+        self.root, self.packages, self.archives, self.counts = root, packages, archives, Counts()
 
     def call(self, command, user=NOBODY):
         """Runs a command of the shell in the folder where packages are used, and returns its status and what it prints."""
@@ -104,6 +113,7 @@ class CleanSystem:
             for it in self.packages:
                 shutil.copy(it, f"{place}/packages")
             before = self.state()
+            self.build_projects()
             if self.done("the packages are installed", "dpkg --install packages/*.deb"):
                 self.use()
             names = " ".join(os.path.basename(it).partition("_")[0] for it in self.packages)
@@ -112,6 +122,25 @@ class CleanSystem:
         finally:
             shutil.rmtree(place)
         return self.counts
+
+    def build_projects(self):
+        """Takes the archives into empty projects of CMake and of cargo, before the packages are there."""
+        place = f"{self.root}{PLACE}/projects"
+        for name, checks_of in ((c_archive(version()), checks_of_c), (crate(version()), checks_of_crate)):
+            archive = next((it for it in self.archives if os.path.basename(it) == name), None)
+            if not archive:
+                self.counts = self.counts.and_then(skip(name, "`tools/package` left it out"))
+                continue
+            os.makedirs(place, exist_ok=True)
+            for it in (archive, *(f"{ROOT}/examples/images/{it}" for it in IMAGES)):
+                shutil.copy(it, place)
+            checks = checks_of(place, version())
+            self.call(f"chown --recursive {NOBODY}:{NOBODY} projects", 0)
+            for check in checks:
+                # Each check needs those before it.
+                if not self.prints(check.name, f"cd projects && {check.command}", check.printed):
+                    break
+            shutil.rmtree(place)
 
     def use(self):
         """Uses the packages as their documents say."""

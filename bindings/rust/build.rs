@@ -7,7 +7,8 @@
 //!   `out/c` of the clone that this crate is in.
 //! - `BOOTSWAP_LIB`: only with `prebuilt`, the folder of `libbootswap.a`. By default `out` of the
 //!   clone.
-//! - `CC`: the C compiler, gcc or clang. By default `cc`, or gcc for the bare targets below.
+//! - `CC`: the C compiler, gcc or clang. By default gcc for the bare targets below, and `cc` for
+//!   those of this machine's architecture. For others it has to be named.
 //! - `CFLAGS`: more arguments for it, separated by spaces. They follow those of this file.
 //! - `AR`: the archiver. By default `ar`, or that of the compiler.
 
@@ -98,15 +99,38 @@ fn compile(folder: &Path, out: &Path) {
     let prefix = bare.map_or("", |it| it.1);
     let compiler = of_target("CC").unwrap_or_else(|| match bare {
         Some(_) => format!("{}gcc", prefix),
-        None => String::from("cc"),
+        None => compiler_here(&target),
     });
     let (file, object) = (folder.join("bootswap.c"), out.join("bootswap.o"));
-    let mut command = Command::new(compiler);
+    let mut command = Command::new(&compiler);
     command.args(arguments(out)).args(bare.map_or("", |it| it.2).split_whitespace());
+    if bare.is_some() && compiler.contains("clang") {
+        command.arg(format!("--target={}", target_of_clang(&target)));
+    }
     command.args(of_target("CFLAGS").unwrap_or_default().split_whitespace());
     run(command.arg("-c").arg(file).arg("-o").arg(&object));
     let archiver = of_target("AR").unwrap_or_else(|| format!("{}ar", prefix));
     run(Command::new(archiver).arg("crs").arg(out.join("libbootswap.a")).arg(&object));
+}
+
+/// Returns the compiler of this machine, if it compiles for the architecture of the target.
+fn compiler_here(target: &str) -> String {
+    let architecture = |it: &str| it.split('-').next().map(String::from);
+    if architecture(target) != architecture(&required("HOST")) {
+        let name = target.replace(['-', '.'], "_");
+        stop(&format!("no C compiler is known for {}: name one in CC_{}", target, name));
+    }
+    String::from("cc")
+}
+
+/// Returns a bare target as clang names it, which gets the extensions of RISC-V by `-march`.
+fn target_of_clang(target: &str) -> String {
+    match target.split_once('-') {
+        Some((architecture, rest)) if architecture.starts_with("riscv32") => {
+            format!("riscv32-{}", rest)
+        }
+        _ => String::from(target),
+    }
 }
 
 /// Returns the arguments of the compiler for all targets, and for those without an operating

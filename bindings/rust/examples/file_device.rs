@@ -141,7 +141,7 @@ fn upload(device: &mut FileDevice, names: &[String]) {
 
 fn confirm(device: &mut FileDevice) {
     for image in Images::from_bits(3).iter() {
-        must("confirm", device.confirm(image as u8));
+        must("confirm", device.confirm(image));
     }
 }
 

@@ -5,6 +5,8 @@
 //! an error of any type, and may panic, which must not unwind through C. And the slice of a mapped
 //! flash ends before a write begins, as Rust asks. `driver.c` holds a pointer to it all the time.
 
+use core::fmt;
+
 use crate::flash::{Memory, NorFlash};
 use crate::image::{Description, Side, SlotError};
 use crate::journal::{self, Write};
@@ -103,6 +105,24 @@ impl<'a, F: NorFlash> Device<'a, F> {
     ///
     /// # Errors
     /// As [`open`](Self::open).
+    ///
+    /// ```
+    /// use bootswap::{Device, Error, MappedFlash, Memory, Phase, Setup};
+    ///
+    /// // The setup is that of the loader.
+    /// const SETUP: Setup = Setup::new(4096, &[32, 16], 3);
+    ///
+    /// /// Confirms the images on trial, if there are any: the application works.
+    /// fn confirm<F: MappedFlash>(flash: F) -> Result<(), Error<F::Error>> {
+    ///     let mut journal = [0; SETUP.boot_journal_length()];
+    ///     let mut device = Device::resume(SETUP, flash, Memory::mapped(), &mut journal)?;
+    ///     let state = device.state()?;
+    ///     if state.phase == Phase::Trial {
+    ///         state.set.iter().try_for_each(|image| device.confirm(image))?;
+    ///     }
+    ///     Ok(())
+    /// }
+    /// ```
     pub fn resume(
         setup: Setup,
         flash: F,
@@ -229,6 +249,23 @@ impl<'a, F: NorFlash> Device<'a, F> {
     ///
     /// # Errors
     /// As [`boot`](Self::boot).
+    ///
+    /// ```
+    /// use bootswap::{make_image, Device, ImageParts, Memory, MemoryFlash, Setup};
+    /// use bootswap::{MAX_REPORT_LENGTH, MAX_TABLE_LENGTH};
+    ///
+    /// const SETUP: Setup = Setup::new(512, &[2], 1);
+    /// let mut flash = [0xff; SETUP.map_length()];
+    /// make_image(&ImageParts::default(), b"a body", &mut flash).unwrap();
+    /// let (part, mut journal) = (MemoryFlash::<512>(&mut flash), [0; 1024]);
+    /// let mut device = Device::open(SETUP, part, Memory::mapped(), &mut journal)?;
+    /// device.provision()?;
+    /// let (mut table, mut report) = ([0; MAX_TABLE_LENGTH], [0; MAX_REPORT_LENGTH]);
+    /// let (boot, texts) = device.boot_with_texts(&mut table, &mut report)?;
+    /// assert_eq!(boot.versions().len(), 1);
+    /// assert_eq!(texts.report, "run 0 0.0.0+0\n");
+    /// # Ok::<(), bootswap::Error<bootswap::MemoryFault>>(())
+    /// ```
     pub fn boot_with_texts<'t>(
         &mut self,
         table: &'t mut [u8],
@@ -516,6 +553,16 @@ impl<'a, F: NorFlash> Device<'a, F> {
         }
         attempts.left = attempts.left.saturating_sub(u64::from(is_cut));
         Ok(!is_cut)
+    }
+}
+
+impl<F: NorFlash> fmt::Debug for Device<'_, F> {
+    fn fmt(&self, to: &mut fmt::Formatter<'_>) -> fmt::Result {
+        to.debug_struct("Device")
+            .field("setup", &self.setup)
+            .field("memory", &self.memory)
+            .field("is_booted", &self.is_booted())
+            .finish_non_exhaustive()
     }
 }
 

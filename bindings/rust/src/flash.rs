@@ -1,5 +1,7 @@
 //! What a flash has to do, and how the library reads it.
 
+use core::fmt;
+
 /// A NOR flash. Addresses are in bytes from the first byte of the map on.
 ///
 /// The methods and constants are those of the trait of the same name in the crate
@@ -12,6 +14,40 @@
 /// - Each unit of 8 bytes that reads erased (0xFF) can be programmed. No others are.
 /// - If a function fails, it returns an error. The device isn't booted then, and has to be opened
 ///   again.
+///
+/// For example, the map begins at some sector of a flash:
+///
+/// ```
+/// use bootswap::{MemoryFlash, NorFlash};
+///
+/// /// The rest of a flash from an address on.
+/// struct Rest<F, const FROM: u32>(F);
+///
+/// impl<F: NorFlash, const FROM: u32> NorFlash for Rest<F, FROM> {
+///     type Error = F::Error;
+///     const READ_SIZE: usize = F::READ_SIZE;
+///     const WRITE_SIZE: usize = F::WRITE_SIZE;
+///     const ERASE_SIZE: usize = F::ERASE_SIZE;
+///     fn read(&mut self, offset: u32, bytes: &mut [u8]) -> Result<(), F::Error> {
+///         self.0.read(FROM + offset, bytes)
+///     }
+///     fn capacity(&self) -> usize {
+///         self.0.capacity() - FROM as usize
+///     }
+///     fn erase(&mut self, from: u32, to: u32) -> Result<(), F::Error> {
+///         self.0.erase(FROM + from, FROM + to)
+///     }
+///     fn write(&mut self, offset: u32, bytes: &[u8]) -> Result<(), F::Error> {
+///         self.0.write(FROM + offset, bytes)
+///     }
+/// }
+///
+/// let mut memory = [0xff; 2048];
+/// let mut flash = Rest::<_, 512>(MemoryFlash::<512>(&mut memory));
+/// flash.write(8, &[1; 8]).unwrap();
+/// assert_eq!(flash.capacity(), 1536);
+/// assert_eq!(memory[520..528], [1; 8]);
+/// ```
 pub trait NorFlash {
     /// What a function returns if it fails.
     type Error;
@@ -26,20 +62,59 @@ pub trait NorFlash {
     const ERASE_SIZE: usize;
 
     /// Reads bytes from an address on.
+    ///
+    /// # Errors
+    /// If the part reports one.
     fn read(&mut self, offset: u32, bytes: &mut [u8]) -> Result<(), Self::Error>;
 
     /// Returns the length of the flash in bytes.
     fn capacity(&self) -> usize;
 
     /// Erases the bytes from an address on, up to the address `to`, which isn't included, to 0xFF.
+    ///
+    /// # Errors
+    /// If the part reports one, or the bytes may not be erased.
     fn erase(&mut self, from: u32, to: u32) -> Result<(), Self::Error>;
 
     /// Programs erased bytes from an address on. The address and the length are multiples of 8. The
-    /// bytes are aligned to 4 if the journal of the device is.
+    /// bytes are aligned to 4 if the journal of the device is, which a `#[repr(align(4))]` struct
+    /// around it ensures.
+    ///
+    /// # Errors
+    /// If the part reports one, or the bytes may not be programmed.
     fn write(&mut self, offset: u32, bytes: &[u8]) -> Result<(), Self::Error>;
 }
 
 /// A flash that the processor reads as memory. A device over it needs no copy.
+///
+/// ```
+/// use bootswap::MappedFlash;
+/// # use bootswap::NorFlash;
+///
+/// /// The flash of a microcontroller.
+/// struct Part;
+/// # impl NorFlash for Part {
+/// #     type Error = ();
+/// #     const READ_SIZE: usize = 1;
+/// #     const WRITE_SIZE: usize = 8;
+/// #     const ERASE_SIZE: usize = 4096;
+/// #     fn read(&mut self, _: u32, _: &mut [u8]) -> Result<(), ()> { Ok(()) }
+/// #     fn capacity(&self) -> usize { 416 * 1024 }
+/// #     fn erase(&mut self, _: u32, _: u32) -> Result<(), ()> { Ok(()) }
+/// #     fn write(&mut self, _: u32, _: &[u8]) -> Result<(), ()> { Ok(()) }
+/// # }
+///
+/// /// Where the processor reads the first byte of the map.
+/// const MAP: *const u8 = 0x0800_4000 as *const u8;
+///
+/// impl MappedFlash for Part {
+///     fn contents(&self) -> &[u8] {
+///         // SAFETY: the part has these bytes there, and only its methods with `&mut self`
+///         // change them.
+///         unsafe { core::slice::from_raw_parts(MAP, 416 * 1024) }
+///     }
+/// }
+/// ```
 pub trait MappedFlash: NorFlash {
     /// Returns the contents of the flash, from the first byte of the map on. After a write they are
     /// the new ones.
@@ -81,6 +156,15 @@ impl<F: MappedFlash> MappedFlash for &mut F {
 
 /// How the library reads the flash of a device.
 pub struct Memory<'a, F>(Kind<'a, F>);
+
+impl<F> fmt::Debug for Memory<'_, F> {
+    fn fmt(&self, to: &mut fmt::Formatter<'_>) -> fmt::Result {
+        match &self.0 {
+            Kind::Mapped(_) => to.write_str("Mapped"),
+            Kind::Copy(memory) => write!(to, "Copy of {} bytes", memory.len()),
+        }
+    }
+}
 
 enum Kind<'a, F> {
     Mapped(fn(&F) -> &[u8]),
@@ -131,6 +215,7 @@ impl<'a, F: NorFlash> Memory<'a, F> {
 /// assert!(flash.write(8, &[0; 8]).is_err(), "these bytes aren't erased");
 /// assert!(flash.erase(0, 512).is_ok());
 /// ```
+#[derive(Debug)]
 pub struct MemoryFlash<'a, const SECTOR: usize>(
     /// The bytes of the flash.
     pub &'a mut [u8],
@@ -143,6 +228,15 @@ pub enum MemoryFault {
     OutOfRange,
     /// A program of bytes that aren't erased.
     NotErased,
+}
+
+impl fmt::Display for MemoryFault {
+    fn fmt(&self, to: &mut fmt::Formatter<'_>) -> fmt::Result {
+        to.write_str(match self {
+            Self::OutOfRange => "the range isn't of whole units within the flash",
+            Self::NotErased => "the bytes aren't erased",
+        })
+    }
 }
 
 impl<const SECTOR: usize> MemoryFlash<'_, SECTOR> {

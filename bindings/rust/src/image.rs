@@ -1,5 +1,7 @@
 //! Images: what is read of one, and how one is made.
 
+use core::fmt;
+
 use crate::numbers::{ImageFault, Status};
 use crate::sys;
 use crate::values::first;
@@ -53,7 +55,10 @@ impl Description {
     }
 }
 
-/// Describes the image that the bytes are, or returns the first check that fails.
+/// Describes the image that the bytes are.
+///
+/// # Errors
+/// The first check that fails.
 ///
 /// ```
 /// use bootswap::{describe, make_image, ImageFault, ImageParts, Version};
@@ -89,6 +94,16 @@ pub enum SlotError {
     NotMade(Status),
     /// The library returned a number that this crate doesn't know: it is of another version.
     Unknown(u32),
+}
+
+impl fmt::Display for SlotError {
+    fn fmt(&self, to: &mut fmt::Formatter<'_>) -> fmt::Result {
+        match self {
+            Self::Image(fault) => write!(to, "no intact image: {}", fault),
+            Self::NotMade(status) => write!(to, "no call was made: {}", status),
+            Self::Unknown(number) => write!(to, "an unknown number: {}", number),
+        }
+    }
 }
 
 /// One of the two slots of an image.
@@ -144,11 +159,37 @@ pub enum NotMade {
     TooSmall(u64),
 }
 
+impl fmt::Display for NotMade {
+    fn fmt(&self, to: &mut fmt::Formatter<'_>) -> fmt::Result {
+        match self {
+            Self::BadImage => to.write_str("no image has these values"),
+            Self::TooSmall(length) => write!(to, "the image has {} bytes", length),
+        }
+    }
+}
+
 /// Makes an image of a body at the front of a buffer, and returns its length in bytes, with the
 /// bytes that `bootswap make-image` writes. The bytes after it stay as they were.
 ///
 /// An image has 40 bytes more than its header and body, and at most 476 more if it has a security
 /// counter, dependencies or groups.
+///
+/// # Errors
+/// [`NotMade`]: the buffer is unchanged.
+///
+/// ```
+/// use bootswap::{describe, make_image, Dependency, ImageParts, NotMade, Version};
+///
+/// // Version 2.0.0, which needs that version of image 1.
+/// let needs = [Dependency { image: 1, minimum: Version::new(2, 0, 0) }];
+/// let version = Version::new(2, 0, 0);
+/// let parts = ImageParts { version, dependencies: &needs, ..ImageParts::default() };
+/// let mut buffer = [0; 200];
+/// let length = make_image(&parts, b"a body", &mut buffer)?;
+/// assert_eq!(describe(&buffer[..length]).unwrap().dependencies(), needs);
+/// assert_eq!(make_image(&parts, b"a body", &mut [0; 8]), Err(NotMade::TooSmall(length as u64)));
+/// # Ok::<(), NotMade>(())
+/// ```
 pub fn make_image(parts: &ImageParts<'_>, body: &[u8], image: &mut [u8]) -> Result<usize, NotMade> {
     crate::library::make_image(&parts.to_sys().ok_or(NotMade::BadImage)?, body, image)
 }

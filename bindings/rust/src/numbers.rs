@@ -200,7 +200,7 @@ pub enum Fault {
     /// 4: The flash has no log of a device.
     NotProvisioned,
     /// 5: The running image of this number is damaged.
-    RunningDamaged(u32),
+    RunningDamaged(u8),
     /// 6: The running images don't fit each other.
     RunningInvalid,
     /// 9: The manifest is refused.
@@ -217,7 +217,7 @@ impl Fault {
             2 => Self::OnTrial,
             3 => Self::NotOnTrial,
             4 => Self::NotProvisioned,
-            5 => Self::RunningDamaged(detail),
+            5 => Self::RunningDamaged(u8::try_from(detail).ok()?),
             6 => Self::RunningInvalid,
             9 => Self::Manifest(ManifestFault::from_number(detail)?),
             10 => Self::Upload(UploadFault::from_numbers(detail, check)?),
@@ -243,7 +243,7 @@ impl Fault {
     /// field `detail` in C. It is 0 for the others.
     pub const fn detail(self) -> u32 {
         match self {
-            Self::RunningDamaged(image) => image,
+            Self::RunningDamaged(image) => image as u32,
             Self::Manifest(fault) => fault.number(),
             Self::Upload(fault) => fault.number(),
             _ => 0,

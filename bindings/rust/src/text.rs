@@ -1,5 +1,7 @@
 //! Tables and reports as texts. `docs/FORMATS.md` of the repository describes both.
 
+use core::fmt;
+
 use crate::library;
 use crate::numbers::Status;
 use crate::sys;
@@ -42,8 +44,24 @@ impl TextError {
     }
 }
 
+impl fmt::Display for TextError {
+    fn fmt(&self, to: &mut fmt::Formatter<'_>) -> fmt::Result {
+        match self {
+            Self::NoTable(line) => write!(to, "no table: line {}", line),
+            Self::NoReport(line) => write!(to, "no report: line {}", line),
+            Self::InvalidSet => to.write_str("the running images don't fit each other"),
+            Self::Wrong => to.write_str("the report isn't right for the table"),
+            Self::TooSmall => to.write_str("the buffer is too small for the report"),
+            Self::Unknown(number) => write!(to, "an unknown number: {}", number),
+        }
+    }
+}
+
 /// Chooses among the requests of a table, and returns the report, which is written to the front of
 /// a buffer. One of [`MAX_REPORT_LENGTH`] bytes is always large enough.
+///
+/// # Errors
+/// [`TextError::NoTable`], [`TextError::InvalidSet`] and [`TextError::TooSmall`].
 ///
 /// ```
 /// // A test of version 2.0.0 of image 0 is requested, which needs that version of image 1.
@@ -68,7 +86,11 @@ pub fn choose<'r>(table: &str, report: &'r mut [u8]) -> Result<&'r str, TextErro
 
 /// Checks whether a report is right for a table: no other set of its requests may be taken.
 ///
-/// The checker shares no code with [`choose`].
+/// The checker shares no code with [`choose`], which has an example of both.
+///
+/// # Errors
+/// [`TextError::NoTable`], [`TextError::NoReport`] and [`TextError::InvalidSet`], and
+/// [`TextError::Wrong`] if the report isn't right.
 pub fn check(table: &str, report: &str) -> Result<(), TextError> {
     library::check(table.as_bytes(), report.as_bytes())
 }
@@ -84,6 +106,12 @@ impl Workspace {
     }
 }
 
+impl fmt::Debug for Workspace {
+    fn fmt(&self, to: &mut fmt::Formatter<'_>) -> fmt::Result {
+        to.debug_struct("Workspace").finish_non_exhaustive()
+    }
+}
+
 impl Default for Workspace {
     fn default() -> Self {
         Self::new()
@@ -91,6 +119,9 @@ impl Default for Workspace {
 }
 
 /// Chooses as [`choose`] does, with the table in a workspace: it takes less than 2 kB of stack.
+///
+/// # Errors
+/// As [`choose`].
 ///
 /// ```
 /// let mut workspace = bootswap::Workspace::new();
@@ -111,6 +142,9 @@ pub fn choose_in<'r>(
 }
 
 /// Checks as [`check`] does, with the table in a workspace: it takes less than 2 kB of stack.
+///
+/// # Errors
+/// As [`check`].
 pub fn check_in(workspace: &mut Workspace, table: &str, report: &str) -> Result<(), TextError> {
     library::check_in(&mut workspace.0, table.as_bytes(), report.as_bytes())
 }

@@ -89,12 +89,12 @@ impl Images {
     }
 
     /// Returns whether the set has an image.
-    pub const fn contains(self, image: u32) -> bool {
+    pub const fn contains(self, image: u8) -> bool {
         image < 32 && self.0 >> image & 1 == 1
     }
 
     /// Returns the numbers of the images, the lowest first.
-    pub fn iter(self) -> impl Iterator<Item = u32> {
+    pub fn iter(self) -> impl Iterator<Item = u8> {
         (0..32).filter(move |image| self.contains(*image))
     }
 }
@@ -124,8 +124,8 @@ impl fmt::Display for Version {
 
 impl sys::Refusal {
     /// Returns the image whose request is refused.
-    pub const fn image(&self) -> u32 {
-        self.image
+    pub const fn image(&self) -> u8 {
+        self.image as u8
     }
 
     /// Returns why. It is `None` only of a library of another version.
