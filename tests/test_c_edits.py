@@ -123,10 +123,16 @@ EDITS = [
          r"if without|narrow or wide"),
     Edit("emit.py", "            self.local_get(it)\n\n", "            self.stack.append(constant(0, 64))\n\n", r"local.tee"),
     # Frames.
-    Edit("frames.py", "{self.size + offset}u)", "{self.size + offset + 8}u)", r"^frames of|a frame"),
+    Edit("frames.py", "{abs(start)}u)", "{abs(start) + 8}u)", r"^frames of|a frame"),
     Edit("frames.py", '== "+" else -signed(', '== "-" else -signed(', r"^a frame$|passed on", step="translate"),
     Edit("frames.py", "({one.text} + {other.text})", "({one.text} - {other.text})", r"a place in a frame by a number"),
     Edit("frames.py", '">" if kinds[0] else "<"', '"<" if kinds[0] else ">"', r"^a frame$|check of the stack"),
+    # Places outside of a frame.
+    Edit("frames.py", "'-' if start < 0 else '+'", "'+'", r"a place before a frame|begins before a frame"),
+    Edit("frames.py", "self.at(one.fact.offset + (", "self.at(min(one.fact.offset, 0) + (", r"outside of a frame"),
+    Edit("frames.py", "-self.size <= offset <= -length", "-self.size <= offset < -length", r"^a frame$", step="translate"),
+    Edit("widths.py", "if any(it.is_place and it != new for it in (old, fact)):", "if False:", r"moves from a frame",
+         step="translate"),
     # Data.
     Edit("data.py", "symbol.offset + relocation.addend", "symbol.offset", r"addend"),
     Edit("data.py", "symbol.offset + relocation.addend", "relocation.addend", r"within its segment"),

@@ -123,7 +123,8 @@ BODIES = {
     "local.get 0; global.set": "the ends of the frame",
     "global.get; i64.const -16; i64.and; local.tee 1; global.set": "the ends of the frame",
     "global.get; i64.const 32; i64.sub; global.set; global.get; i64.const 48; i64.sub; global.set": "an unusual prologue",
-    "global.get; i64.const 32; i64.sub; local.tee 1; i64.const 33; i64.add; drop": "an address 1 bytes from the end",
+    "global.get; i64.const 32; i64.sub; i64.const 0x7fffffff; i64.add; i64.const 64; i64.add; drop":
+        "an address 2147483679 bytes",
     "global.get; i64.const 70000; i64.lt_s; drop": "a comparison of the frame with 70000",
     "global.get; local.tee 1; i64.load 8 0; drop": "a function that has no frame",
     "global.get; i64.const 32; i64.sub; local.tee 1; local.get 0; i64.or; drop": "`|` of an address",
@@ -136,6 +137,39 @@ BODIES = {
     "i32.const 5; i32.load 4 0; drop": "an address of 32 bits",
     "block": "has no end",
     "end; nop": "goes on",
+}
+
+
+# An address 8 bytes before a frame of 32 bytes, and what uses it in a way that is refused.
+OUTSIDE = "global.get; i64.const 32; i64.sub; local.tee 1; i64.const -8; i64.add"
+USES_OUTSIDE = {
+    "i64.load 8 0; drop": "an access of 8 bytes, -40 bytes from the end of a frame of 32 bytes",
+    "i32.load16_u 1 7; drop": "an access of 2 bytes, -33 bytes",
+    "i64.load 8 32; drop": None,
+    "i64.load 8 33; drop": "an access of 8 bytes, -7 bytes",
+    "i64.load32_u 4 36; drop": None,
+    "i64.load32_u 4 37; drop": "an access of 4 bytes, -3 bytes",
+    "i64.const 0; i64.store 8 0": "an access of 8 bytes, -40 bytes",
+    "i32.const 0; i64.const 3; memory.fill": "an access of 3 bytes, -40 bytes",
+    "local.get 1; i64.const 8; memory.copy": "an access of 8 bytes, -40 bytes",
+    "local.get 0; i64.const 1; memory.copy": "an access of 1 bytes, -40 bytes",
+    "local.tee 1; local.get 0; i64.eq; drop": "more than 32 bits",
+    "local.get 1; i64.lt_u; drop": "more than 32 bits",
+    "i64.eqz; drop": "more than 32 bits",
+    "i64.const 3; i64.shr_u; drop": "more than 32 bits",
+    "i64.const 3; i64.div_u; drop": "more than 32 bits",
+    "i64.clz; drop": "more than 32 bits",
+    "i32.wrap_i64; drop": "more than 32 bits",
+    "local.get 1; i32.const 1; select; drop": "more than 32 bits",
+    "call bootswap_0": "more than 32 bits",
+    "local.set 1; local.get 0; local.get 1; i64.store 8 0": "more than 32 bits",
+    "local.set 1; local.get 1; local.get 0; i64.add; local.set 1; local.get 0; local.get 1; i64.store 8 0": "more than 32 bits",
+    "i64.const 3; i64.mul; drop": "`*` of an address outside",
+    "i64.const 16; i64.and; drop": "`&` of an address outside",
+    "i64.const 4; i64.or; drop": "`|` of an address outside",
+    "local.get 1; i64.sub; drop": "`-` of an address outside",
+    "local.set 1; i64.const 5; local.get 1; i64.sub; drop": "`-` of an address outside",
+    "global.set": "the ends of the frame",
 }
 
 
@@ -159,6 +193,23 @@ class RefusedTest(CaseTest):
             self.refused(body, wanted, Function("bootswap_0", [64], None, body, [64]))
             if "opcode" in wanted:
                 self.refused(f"{body}: the function", "bootswap_0", Function("bootswap_0", [64], None, body, [64]))
+
+    def test_outside(self):
+        for use, wanted in USES_OUTSIDE.items():
+            function = Function("bootswap_0", [64], None, f"{OUTSIDE}; {use}", [64])
+            if wanted:
+                self.refused(use, wanted, function)
+            else:
+                translation(Assembler([function]).object(), [("cases.h", "void bootswap_0(uint64_t a);\n")], [])
+        function = Function("bootswap_0", [64], 64, OUTSIDE, [64])
+        self.refused("a result", "more than 32 bits", function, header="uint64_t bootswap_0(uint64_t a);\n")
+        for number, is_taken in ((-1, False), (0, True), (16, True), (17, False)):
+            function = Function("bootswap_0", [64], None, f"i64.const @it+{number}; local.get 0; i64.eq; drop", [64])
+            inner = {"data": [Data("it", bytes(16))], "header": "void bootswap_0(uint64_t a);\n"}
+            if is_taken:
+                translation(Assembler([function], inner["data"]).object(), [("cases.h", inner["header"])], [])
+            else:
+                self.refused(f"data at {number}", "more than 32 bits", function, **inner)
 
     def test_imports(self):
         for kind, more in (("a table", b"\x01\x70\0\x01"), ("a global", b"\x03\x7f\0"), ("a function", None)):

@@ -10,7 +10,7 @@ right then: it is below 2^32, or an address.
 
 from c_file.errors import NotTranslated
 from c_file.values import SIGNED, UNSIGNED, Value, constant, known, number_below, wide, word
-from c_file.widths import ADDRESS, APART, NUMBER, SMALL, UNSEEN, WIDE, joined
+from c_file.widths import ADDRESS, APART, NUMBER, OUTSIDE, SMALL, UNSEEN, WIDE, Kind, joined
 
 
 def binary(operator, width, one, other):
@@ -36,9 +36,11 @@ def known_of_binary(operator, one, other):
     """
     if UNSEEN in (one.fact, other.fact):
         return UNSEEN
-    addresses = one.fact.is_address + other.fact.is_address
     if operator in "+-":
         return known_of_sum(operator, one.fact, other.fact)
+    if Kind.OUTSIDE in (one.fact.kind, other.fact.kind):
+        raise NotTranslated(f"`{operator}` of an address outside of its frame or data")
+    addresses = one.fact.is_address + other.fact.is_address
     if operator == "&" and (one.is_narrow or other.is_narrow):
         is_rounded = addresses == 1 and any(it.number is not None and not it.is_narrow for it in (one, other))
         return ADDRESS if is_rounded else NUMBER
@@ -48,12 +50,18 @@ def known_of_binary(operator, one, other):
 
 
 def known_of_sum(operator, one, other):
-    """What is known of a sum or a difference: an address plus or minus a number is an address."""
+    """What is known of a sum or a difference: an address plus or minus a number is an address, of an OUTSIDE another one. The
+    distance of two addresses is exact, so none of them may be an OUTSIDE."""
     is_apart = APART in (one, other)
     if is_apart and (one.is_address or other.is_address):
         raise NotTranslated(f"`{operator}` of an address, and a number that was made of the distance of two addresses")
+    is_outside = Kind.OUTSIDE in (one.kind, other.kind)
     if is_apart or other.is_address and (operator == "-" or one.is_address):
+        if is_outside:
+            raise NotTranslated(f"`{operator}` of an address outside of its frame or data, and another address")
         return APART
+    if is_outside:
+        return OUTSIDE
     return ADDRESS if one.is_address or other.is_address else WIDE
 
 

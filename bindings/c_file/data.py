@@ -31,6 +31,11 @@ class Data:
             raise NotTranslated(f"an address of {symbol.name or 'a section'}, which is no data of the object")
         return symbol.index, symbol.offset + relocation.addend
 
+    def holds(self, relocation):
+        """Returns whether a relocation leads into the data that it names, or to its end."""
+        segment, offset = self.place_of(relocation)
+        return 0 <= offset <= len(self.object.segments[segment].contents)
+
     def addresses_in(self, number):
         """Returns the relocations in a segment by their offsets."""
         it = self.object.segments[number]
@@ -51,10 +56,9 @@ class Data:
         if not it.name.startswith(CONSTANT):
             raise NotTranslated(f"the data {it.name}: it isn't constant")
         for at, relocation in self.addresses_in(number).items():
-            target, offset = self.place_of(relocation)
             if relocation.kind != DATA_ADDRESS or at + ADDRESS_LENGTH > len(it.contents):
                 raise NotTranslated(f"the data {it.name}: a relocation of kind {relocation.kind} at its byte {at}")
-            if not 0 <= offset <= len(self.object.segments[target].contents):
+            if not self.holds(relocation):
                 raise NotTranslated(f"the data {it.name}: an address outside of the data that it names, at its byte {at}")
 
     def parts_of(self, number):

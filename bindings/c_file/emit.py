@@ -17,9 +17,9 @@ from typing import Optional
 
 from c_file import arithmetic, frames
 from c_file.errors import NotTranslated
-from c_file.frames import Frame, as_variable
+from c_file.frames import Frame
 from c_file.values import LONGEST, NARROW, UNSIGNED, Value, constant, known, number_below, wide, word
-from c_file.widths import SMALL, Kind
+from c_file.widths import ADDRESS, OUTSIDE, SMALL, Kind, without_place
 
 # The functions of the toolchain around each export. `__rattle_enter` returns 0 unless an earlier call trapped or still runs,
 # which never happens in the proved library: no call traps, and none makes another one. So nothing has to be kept in C.
@@ -107,14 +107,23 @@ class Lines:
     def push(self, value):
         self.stack.append(self.keep(value) if len(value.text) > LONGEST else value)
 
-    def pop(self):
+    def pop(self, may_be_outside=False):
+        """Takes a value off the stack. An address outside of its object is refused unless only its lowest 32 bits count: it may
+        be the operand of a sum or a difference, be kept in a variable, and be the address of an access."""
         if len(self.stack) <= self.blocks[-1].height:
             raise NotTranslated(f"{self.code.name}: an instruction without its operands")
-        return self.stack.pop()
+        value = self.stack.pop()
+        if not may_be_outside:
+            self.check_inside(value)
+        return value
 
-    def pop_two(self):
-        other = self.pop()
-        return self.pop(), other
+    def pop_two(self, may_be_outside=False):
+        other = self.pop(may_be_outside)
+        return self.pop(may_be_outside), other
+
+    def check_inside(self, value):
+        if value.fact is not None and value.fact.kind is Kind.OUTSIDE:
+            raise NotTranslated(f"{self.code.name}: an address outside of its frame or data, of which more than 32 bits count")
 
 
 class Control(Lines):
@@ -188,7 +197,7 @@ class Control(Lines):
         if len(self.stack) <= self.blocks[-1].height:
             raise NotTranslated(f"{self.code.name}: a result without a value")
         it = self.stack[-1]
-        return Value(it.text, it.width, as_variable(it.fact), it.reads, it.number)
+        return Value(it.text, it.width, it.fact and without_place(it.fact), it.reads, it.number)
 
     def branch(self, depth):
         """Writes a branch out of a number of blocks."""
@@ -209,6 +218,7 @@ class Control(Lines):
             self.line("return;")
             return
         value = self.top()
+        self.check_inside(value)
         if value.width == 64:
             self.facts.note(self.index, "result", value.fact)
         self.line(f"return {value.as_kept(self.fact_of('result'))};", value)
@@ -265,7 +275,8 @@ class Writer(Control):
 
     def __init__(self, program, code, facts):
         super().__init__(code, facts)
-        self.program, self.frame, self.calls, self.segments = program, Frame(code.name, code.frame_size), set(), set()
+        self.program, self.calls, self.segments = program, set(), set()
+        self.frame = Frame(code.name, code.frame_size, facts.has_outside)
 
     def text(self):
         """Returns the function as C."""
@@ -315,34 +326,34 @@ class Writer(Control):
             raise NotTranslated(f"{self.code.name}: a local at {it.at} of the code that isn't there")
         name, width = f"l{it.value}", self.code.variables.widths[it.value]
         fact = self.fact_of(it.value) if width == 64 else None
-        if fact is not None and fact.kind is Kind.FRAME:
+        if fact is not None and fact.is_place:
             self.push(self.frame.at(fact.offset))
         else:
             self.push(Value(name, width, fact, frozenset([name])))
 
     def local_set(self, it):
         """A variable that is always the same place in the frame isn't needed: each use is that place."""
-        value, name = self.pop(), f"l{it.value}"
+        value, name = self.pop(True), f"l{it.value}"
         if it.value is None:
             return
         self.flush(name)
         if value.width == 64:
             self.facts.note(self.index, it.value, value.fact)
-        if self.fact_of(it.value).kind is not Kind.FRAME:
+        if not self.fact_of(it.value).is_place:
             self.set(name, it.value, value)
 
     def local_tee(self, it):
         if it.value is not None:
             self.stack.append(self.stack[-1])
             self.local_set(it)
-            self.pop()
+            self.pop(True)
             self.local_get(it)
 
     def global_get(self, it):
         self.push(self.frame.at(0))
 
     def global_set(self, it):
-        self.frame.set(self.pop())
+        self.frame.set(self.pop(True))
 
     def call(self, it):
         kind = self.program.type_of(it.value)
@@ -354,7 +365,7 @@ class Writer(Control):
         words = []
         for i, value in enumerate(given):
             if value.width == 64:
-                self.facts.note(it.value, i, as_variable(value.fact))
+                self.facts.note(it.value, i, without_place(value.fact))
             words.append(value.as_kept(self.facts.of(it.value, i)))
         text = f"{self.program.c_name_of(it.value)}({', '.join(words)})"
         if kind.result is None:
@@ -374,7 +385,7 @@ class Writer(Control):
             raise NotTranslated(f"{self.code.name}: a call of the imported function {name}")
 
     def drop(self, it):
-        self.pop()
+        self.pop(True)
 
     def select(self, it):
         condition = self.pop()
@@ -384,12 +395,14 @@ class Writer(Control):
     # Memory.
 
     def place(self, base, it):
-        """Returns the expression of the address of an access. The sum doesn't wrap, in the module as in C: it is the address of
-        bytes of an object."""
+        """Returns the expression of the address of an access. In the module the sum doesn't wrap: it is the address of bytes of
+        an object. In C it may, if the base is an OUTSIDE that did, and is the address of the same bytes again."""
         text = base.low() if base.width == 64 else None
         if text is None:
             raise NotTranslated(f"{self.code.name}: an address of 32 bits at {it.at} of the code")
+        self.frame.check(base, it.value, it.meaning.detail.size)
         if it.relocation is not None:
+            self.check_inside(base)
             return f"{text} + {self.address(it.relocation)}"
         return f"{text} + {it.value}u" if it.value else text
 
@@ -407,7 +420,7 @@ class Writer(Control):
         return f"{'aligned' if it.alignment >= size else 'unaligned'}_{sign}{8 * size}"
 
     def load(self, it):
-        base, width, size = self.pop(), it.meaning.width, it.meaning.detail.size
+        base, width, size = self.pop(True), it.meaning.width, it.meaning.detail.size
         address = self.place(base, it)
         if it.meaning.detail.is_signed:
             text = f"({UNSIGNED[width]})(int{width}_t)W_LOAD({self.access(it, 's')}, {address})"
@@ -421,19 +434,20 @@ class Writer(Control):
         self.stack.append(self.keep(made))
 
     def store(self, it):
-        base, value = self.pop_two()
-        size = it.meaning.detail.size
+        value, base, size = self.pop(), self.pop(True), it.meaning.detail.size
         given = value.wide() if size == 8 else f"({UNSIGNED[8 * size]}){value.text}"
         self.line(f"W_STORE({self.access(it, 'u')}, {self.place(base, it)}, {given});", base, value)
 
     def memory_copy(self, it):
-        start, length = self.pop_two()
-        to, name = self.pop(), "W_MOVE" if length.number else "w_copy"
+        length, start, to = self.pop(), self.pop(True), self.pop(True)
+        for base in (start, to):
+            self.frame.check(base, 0, length.number or 0)
+        name = "W_MOVE" if length.number else "w_copy"
         self.line(f"{name}({to.low()}, {start.low()}, {length.low()});", to, start, length)
 
     def memory_fill(self, it):
-        byte, length = self.pop_two()
-        to = self.pop()
+        length, byte, to = self.pop(), self.pop(), self.pop(True)
+        self.frame.check(to, 0, length.number or 0)
         self.line(f"w_fill({to.low()}, {byte.text}, {length.low()});", to, byte, length)
 
     # Numbers: see arithmetic.py.
@@ -442,10 +456,11 @@ class Writer(Control):
         if it.relocation is None:
             self.push(constant(it.value, it.meaning.width))
         else:
-            self.push(known(self.address(it.relocation), frames.ADDRESS))
+            fact = ADDRESS if self.program.data.holds(it.relocation) else OUTSIDE
+            self.push(known(self.address(it.relocation), fact))
 
     def binary(self, it):
-        one, other = self.pop_two()
+        one, other = self.pop_two(True)
         made = self.frame.sum(it.meaning.detail, one, other) if it.meaning.width == 64 else None
         self.push(made or arithmetic.binary(it.meaning.detail, it.meaning.width, one, other))
 

@@ -5,8 +5,13 @@ again before it returns. In C each frame is an array of bytes of its function, s
 
 This keeps the meaning: a frame is memory that no other object has while the function runs, and its first contents are any. Both
 kinds of frames are that, if a stack is large enough. So addresses in frames are followed as what they are, the end of the frame
-minus a number (a FRAME of widths.py), and whatever can't be followed is refused: a frame whose size isn't constant, an address
+minus a number (a FRAME of widths.py), and whatever can't be followed is refused: a frame whose size isn't constant, an access
 outside of it, and another number in the global.
+
+LLVM may compute an address as a place outside of the frame and a number that leads back into it. No pointer of C may be there,
+but a `uintptr_t` may hold any sum (an OUTSIDE of widths.py). If the place of an access is known, it is checked here: all of its
+bytes are in the frame. Otherwise a number that isn't constant is in its address. The module is proved to access its own objects
+only, and LLVM knows of no frame but the function's own. So that number leads into the frame, as from a place in the frame.
 
 A frame of the module is aligned to 16 bytes, and one in C to 8, as the stack of 32-bit ARM is: that takes less code and less
 stack. No access of the subset needs more. But LLVM may add a number by `|` where it knows that the address has none of its bits.
@@ -33,6 +38,9 @@ ALIGNMENT, ALIGNMENT_IN_C = 16, 8
 # The lowest bytes of the module's memory, in which no frame of a large stack lies. A check compares with less than this.
 LOWEST = 65536
 
+# The address of no place this far from a frame is computed: a distance is a constant of 32 bits in C.
+FARTHEST = 2**31
+
 # The name of the frame in C.
 NAME = "frame"
 
@@ -50,20 +58,31 @@ def size_of_frame(name, instructions):
 
 
 class Frame:
-    """The frame of a function: its size in bytes."""
+    """The frame of a function: its size in bytes, and whether a place is known to be outside of it (see `Facts`)."""
 
-    def __init__(self, name, size):
-        self.name, self.size = name, size
+    def __init__(self, name, size, has_outside):
+        self.name, self.size, self.has_outside = name, size, has_outside
 
     def refuse(self, what):
         raise NotTranslated(f"{self.name}: {what}: an unusual prologue or epilogue")
 
     def at(self, offset):
-        """Returns an address in the frame, counted from its end."""
-        if not -self.size <= offset <= 0:
-            self.refuse(f"an address {offset} bytes from the end of a frame of {self.size} bytes")
-        place = Value(NAME, 64, ADDRESS, frozenset([NAME]))
-        return known(f"((uintptr_t){NAME} + {self.size + offset}u)", Fact(Kind.FRAME, offset), place)
+        """Returns the address at a distance from the end of the frame, in it or outside."""
+        if self.has_outside and abs(offset) >= FARTHEST:
+            self.refuse(f"an address {offset} bytes from the end of a frame")
+        kind = Kind.FRAME if self.holds(offset) or not self.has_outside else Kind.OUTSIDE
+        start, place = self.size + offset, Value(NAME, 64, ADDRESS, frozenset([NAME]))
+        return known(f"((uintptr_t){NAME} {'-' if start < 0 else '+'} {abs(start)}u)", Fact(kind, offset), place)
+
+    def holds(self, offset, length=0):
+        """Returns whether the frame has this number of bytes from a place on."""
+        return -self.size <= offset <= -length
+
+    def check(self, base, offset, length):
+        """Refuses an access of a number of bytes, if it is at a known place, and not in the frame."""
+        if self.has_outside and base.fact.is_place and not self.holds(base.fact.offset + offset, length):
+            at = base.fact.offset + offset
+            self.refuse(f"an access of {length} bytes, {at} bytes from the end of a frame of {self.size} bytes")
 
     def set(self, value):
         """Checks what is written to the stack's pointer: where the frame begins, or ends. Nothing has to be done in C."""
@@ -72,10 +91,10 @@ class Frame:
 
     def sum(self, operator, one, other):
         """Returns the sum or difference of an address in the frame and a number, or None if these are something else."""
-        if other.fact.kind is Kind.FRAME and operator in "+|":
+        if other.fact.is_place and operator in "+|":
             one, other = other, one
         is_frame = one.fact.kind is Kind.FRAME
-        if is_frame and operator in "+-" and other.number is not None:
+        if one.fact.is_place and operator in "+-" and other.number is not None:
             return self.at(one.fact.offset + (signed(other.number) if operator == "+" else -signed(other.number)))
         if is_frame and operator == "|" and other.is_narrow and not other.fact.is_address:
             if other.number is None:
@@ -115,7 +134,3 @@ class Frame:
 def signed(number):
     return number - 2**64 if number >= 2**63 else number
 
-
-def as_variable(fact):
-    """What is known of a value of another function or block: an address of a frame is only known to be an address."""
-    return ADDRESS if fact is not None and fact.kind is Kind.FRAME else fact

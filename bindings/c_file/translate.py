@@ -98,14 +98,10 @@ def c_names(names):
 def translated(object_bytes, headers, about):
     """Returns the file of C. `headers` are the names and the texts of the headers that declare the exports. `about` are the
     lines at its head."""
-    program, facts = Program(read_object(object_bytes)), Facts()
+    program = Program(read_object(object_bytes))
     found = exports.prototypes([text for _, text in headers])
     exports.check(program, found)
-    exports.note_parameters(program, found, facts)
-    functions = None
-    while functions is None or facts.has_changed:
-        facts.has_changed = False
-        functions = program.written(facts)
+    facts, functions = written(program, found)
     order = sorted(functions)
     segments = program.data.reached_from(set().union(*(writer.segments for writer, _ in functions.values())))
     with open(PRELUDE, encoding="utf-8") as prelude:
@@ -116,6 +112,20 @@ def translated(object_bytes, headers, about):
     parts += [functions[it][1] for it in order]
     parts += [exports.definition(program, it, facts) for it in found]
     return "\n".join(parts)
+
+
+def written(program, found):
+    """Returns what is known of the variables in the end, and the functions that are written with it: see `Facts`."""
+    facts, functions = Facts(), None
+    for is_second in (False, True):
+        if is_second:
+            facts.begin_second_round()
+        exports.note_parameters(program, found, facts)
+        facts.has_changed = True
+        while facts.has_changed:
+            facts.has_changed = False
+            functions = program.written(facts)
+    return facts, functions
 
 
 def head(about):

@@ -135,6 +135,36 @@ def frames():
     yield Case("a check of the stack without a frame", ["word"], 32, check, lambda a: a, [(8,)])
 
 
+def outside():
+    """Addresses that leave a frame, and are brought back before they are used."""
+    places = [(it,) for it in range(1, 5)]
+    body = f"""{ENTER}; local.get 1; i64.const -8; i64.add; local.set 2; local.get 2; local.get 0; i64.const 3; i64.shl; i64.add
+    i64.const 77; i64.store 8 0; local.get 1; local.get 0; i64.const 1; i64.sub; i64.const 3; i64.shl; i64.add; i64.load 8 0
+    {LEAVE}"""
+    yield Case("a place before a frame plus a number", ["number"], 64, body, lambda a: 77, places, [64, 64])
+    body = f"""{ENTER}; local.get 1; i64.const 40; i64.add; local.get 0; i64.const 3; i64.shl; i64.sub; local.tee 2
+    local.get 0; i64.store 8 0; local.get 1; local.get 2; i64.const 8; memory.copy; local.get 1; i64.load 8 0; {LEAVE}"""
+    yield Case("a place after a frame minus a number", ["number"], 64, body, lambda a: a, [(it,) for it in range(2, 6)], [64, 64])
+    body = f"""{ENTER}; local.get 1; i64.const 48; i64.add; local.tee 2; i64.const -24; i64.add; local.get 0; i64.store 8 0
+    local.get 1; i64.load 8 24; local.get 2; i64.const 64; i64.sub; i64.load 8 40; i64.xor; local.get 0; i64.add; {LEAVE}"""
+    yield Case("a place outside of a frame plus a constant", ["wide"], 64, body, lambda a: a, [(3,), (2**63,)], [64, 64])
+    body = f"""{ENTER}; local.get 1; i64.const -1; i64.add; local.set 2; loop; local.get 2; i64.const 1; i64.add; local.tee 2
+    local.get 3; i64.store8 1 0; local.get 3; i64.const 1; i64.add; local.tee 3; i64.const 32; i64.lt_u; br_if 0; end
+    local.get 1; local.get 0; i64.add; i64.load8_u 1 0; {LEAVE}"""
+    yield Case("an address that begins before a frame", ["number"], 64, body, lambda a: a, [(0,), (9,), (31,)], [64, 64, 64])
+    body = f"""{ENTER}; local.get 1; i64.const -16; i64.add; local.get 0; i64.add; i32.const 200; i64.const 16; memory.fill
+    local.get 1; i64.load8_u 1 0; {LEAVE}"""
+    yield Case("memory.fill of a place before a frame plus a number", ["number"], 64, body, lambda a: 200, [(16,)], [64])
+    # The local is a frame's address, and then an object's. The sum leaves the frame, and is used when it is in the object.
+    word = Function("word_at", [64], 64, "local.get 0; i64.load 8 0", is_exported=False)
+    body = """global.get; i64.const 32; i64.sub; local.tee 5; global.set; local.get 5; local.set 1; loop; local.get 1
+    i64.const 40; i64.add; local.set 2; local.get 3; i64.eqz; i32.eqz; if; local.get 2; call word_at; local.set 4; end
+    local.get 0; local.set 1; local.get 3; i64.const 1; i64.add; local.tee 3; i64.const 2; i64.lt_u; br_if 0; end
+    local.get 5; i64.const 32; i64.add; global.set; local.get 4"""
+    yield Case("an address that moves from a frame to an object", ["memory"], 64, body,
+               lambda memory: int.from_bytes(memory[40:48], "little"), [()], [64] * 5, [word])
+
+
 def data():
     yield Case("an address of data with an addend", [], 32, "i64.const @numbers+3; i32.load8_u 1 4", lambda: 107, [()])
     yield Case("a symbol within its segment", [], 32, "i64.const @inner+1; i32.load8_u 1 0", lambda: 209, [()])
@@ -156,4 +186,4 @@ def data():
 
 
 def control_cases():
-    return [*blocks(), *locals_(), *calls(), *frames(), *data()]
+    return [*blocks(), *locals_(), *calls(), *frames(), *outside(), *data()]
