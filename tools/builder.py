@@ -18,6 +18,7 @@ import sys
 import time
 from concurrent.futures import FIRST_COMPLETED, ThreadPoolExecutor, wait
 
+import small_code
 from commits import ROOT, commit_here, write_commit
 from schedule import SECONDS, Schedule, expected
 
@@ -89,7 +90,7 @@ class Crate:
     @functools.lru_cache(maxsize=None)
     def digest(self, toolchain):
         """Returns a digest of everything that it is made of."""
-        sum = hashlib.sha256(repr((self.name, self.of_kit, toolchain, self.target, self.files)).encode())
+        sum = hashlib.sha256(repr((self.name, self.of_kit, toolchain, *flags_of(self.target), self.files)).encode())
         for crate in self.own:
             sum.update(crate.digest(toolchain).encode())
         return sum.hexdigest()
@@ -114,7 +115,7 @@ class Crate:
             return [*words, "--toolchain", f"{kit}/toolchain", "--backend", "rattle"]
         if self.is_static:
             words += ["--crate-type", "staticlib", "--target", self.target]
-            return [*words, "--toolchain", f"{kit}/toolchain", "--backend", "llvm"]
+            return [*words, "--toolchain", toolchain_for(self.target, kit), "--backend", "llvm"]
         return [*words, "--statements"]
 
     def check_words(self, kit, functions):
@@ -132,6 +133,16 @@ class Crate:
     def aim(self, target):
         """Has a static library built for another target, beside the one for this processor."""
         self.target, self.made, self.stamp = target, f"{BUILD}/{self.name}.{target}.a", f"{BUILD}/{self.name}.{target}.stamp"
+
+
+def flags_of(target):
+    """Returns a target and the flags that its compiler gets besides the toolchain's own."""
+    return target, *(small_code.FLAGS if target == WEB_TARGET else ())
+
+
+def toolchain_for(target, kit):
+    """Returns the folder of the tools that compile for a target: for WebAssembly one whose compiler makes small code."""
+    return small_code.toolchain_for_size(f"{kit}/toolchain", f"{OUT}/toolchain") if target == WEB_TARGET else f"{kit}/toolchain"
 
 
 def files_of(folder):
