@@ -20,7 +20,7 @@ use device_texts::{flash_of, refused_text};
 use flash_model::Flash;
 use host::{Access, Answer, FlashFault, Host, Refusal, Replaced, Source, refuse_input};
 use image_reading::{ImageError, SlotError, describe_slot};
-use inputs::{read_device, read_flash};
+use inputs::{Notes, read_device, read_flash};
 use sector_map::{SectorMap, Side};
 use std::alloc::{AllocError, Global};
 use std::io::Write;
@@ -59,7 +59,8 @@ pub enum Copied {
 /// Copies the intact image that a slot begins with into a file, which is made or replaced. Writes
 /// to `out` that it is done, or why there is no image.
 ///
-/// The device file and the flash are read from `host`. All bytes are in memory of `alloc`.
+/// The device file and the flash are read from `host`. All bytes are in memory of `alloc`. The device,
+/// and the slot if it is refused, are handed to `notes`.
 ///
 /// The file can't be one of the inputs, which never change, and the flash is opened only for
 /// reading. A file that exists is replaced only if it is one intact image, is empty, or `--force` is
@@ -70,13 +71,14 @@ pub enum Copied {
 /// can't be read. `NoImage` if the device doesn't have the image. `ImageIsInput`, `ImageInUse` or
 /// `OfSource` for a file that can't be made or may not be replaced. `NoMemory` if memory runs out.
 /// `CannotWrite` if the answer can't be written.
-pub fn run_extract<H: Host, O: Write>(
+pub fn run_extract<H: Host, O: Write, N: Notes>(
     alloc: Global,
     device: Source<'_>,
     flash: Source<'_>,
     copying: Copying<'_>,
     host: &mut H,
     out: &mut O,
+    notes: &mut N,
 ) -> Result<Answer, Refusal>
     ensures answers { IfOk result (λ answer.
         AnswersCopy answer device.entry flash.entry copying.entry.image copying.entry.side
@@ -89,7 +91,7 @@ pub fn run_extract<H: Host, O: Write>(
         × KeepsSource flash.entry (H.file host.old) (H.file host.new) }
     ensures to_read { (H.opened host.new).to_write ≡ (H.opened host.old).to_write }
 {
-    let Some(of_device) = read_device(alloc, device, host, out)? else {
+    let Some(of_device) = read_device(alloc, device, host, out, notes)? else {
         return Ok(Answer::Refused);
     };
     let map = &of_device.map;
@@ -104,18 +106,19 @@ pub fn run_extract<H: Host, O: Write>(
     refuse_input(alloc, host, copying.out.name, device, Refusal::ImageIsInput)?;
     refuse_input(alloc, host, copying.out.name, flash, Refusal::ImageIsInput)?;
     let to = HeldCopy { copying, held };
-    let copied = copy::<Brand, _>(alloc, Blank::new(2), map, bytes, to, host)?;
+    let copied = copy::<Brand, _, _>(alloc, Blank::new(2), map, bytes, to, host, notes)?;
     tell_copied(alloc, copied, out)
 }
 
 /// Copies the image that a slot begins with into a file. `bytes` are those of the flash.
-fn copy<L: Ledger, H: Host>(
+fn copy<L: Ledger, H: Host, N: Notes>(
     alloc: Global,
     blank: Blank,
     map: &SectorMap,
     bytes: Vec<u8>,
     to: HeldCopy<'_>,
     host: &mut H,
+    notes: &mut N,
 ) -> Result<Copied, Refusal>
     requires blank { IsBlankOf blank L.name L.parts 2 }
     requires whole { IsFlashOf map.now bytes.items }
@@ -137,7 +140,10 @@ fn copy<L: Ledger, H: Host>(
     let mut flash = flash_of::<L>(alloc, blank, map, bytes);
     let length = match image_length(&mut flash, map, copying) {
         Ok(length) => length,
-        Err(fault) => return Ok(Copied::Refused(fault)),
+        Err(fault) => {
+            notes.damaged(map, flash.bytes(), copying.image, copying.side);
+            return Ok(Copied::Refused(fault));
+        }
     };
     let at = map.slot_start(copying.image, copying.side) as usize;
     let file = HeldFile {

@@ -64,7 +64,7 @@ fn refuse_other<H: Host>(alloc: Global, host: &H, name: &str) -> Result<(), Refu
     }
     match holds_image(alloc, host, name) {
         Ok(true) => Ok(()),
-        Ok(false) => Err(file.refused(alloc, SourceFault::NoImage)),
+        Ok(false) => Err(file.refused(alloc, SourceFault::NoOldImage)),
         Err(error) => Err(file.refusal(alloc, error)),
     }
 }

@@ -132,7 +132,7 @@ fn expect_file(alloc: Global, text: &[u8], device: &DeviceFile) -> Result<(), Re
     match DeviceFile::read(alloc, text) {
         Ok(read) if is_same(&read, device) => Ok(()),
         Err(DeviceFault::NoMemory) => Err(Refusal::NoMemory),
-        _ => Err(Refusal::DeviceFile),
+        _ => Err(Refusal::NotMade),
     }
 }
 

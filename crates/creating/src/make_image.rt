@@ -13,6 +13,7 @@ use crate::telling::tell;
 use command_line::{NewFile, NewImage};
 use device_texts::refused_text;
 use host::{Answer, Host, MOST_FILE, Refusal, Replaced, Source, refuse_input};
+use inputs::Notes;
 use std::alloc::{AllocError, Global};
 use std::io::Write;
 use tlv::{ImageSpec, MakeError, make_image};
@@ -24,7 +25,7 @@ const USUAL_HEADER_SIZE: u16 = 32;
 /// Makes the image of a body, and makes or replaces its file. Writes to `out` that it is done, or
 /// why there is no such image.
 ///
-/// The body is read from `host`. All bytes are in memory of `alloc`. The image is made before its
+/// The body is read from `host`, and handed to `notes`. All bytes are in memory of `alloc`. The image is made before its
 /// file is written. The file can't be that of the body, which never changes. A file that exists is
 /// replaced only if it is one intact image, is empty, or `--force` is given. It changes only if the
 /// answer is `Done` or can't be written.
@@ -33,13 +34,14 @@ const USUAL_HEADER_SIZE: u16 = 32;
 /// `OfSource` if the body can't be read. `ImageIsInput`, `ImageInUse` or `OfSource` for a file that
 /// can't be made or may not be replaced. `NoMemory` if memory runs out. `CannotWrite` if the answer
 /// can't be written.
-pub fn run_make_image<H: Host, O: Write>(
+pub fn run_make_image<H: Host, O: Write, N: Notes>(
     alloc: Global,
     image: NewFile<'_>,
     body: Source<'_>,
     asked: &NewImage,
     host: &mut H,
     out: &mut O,
+    notes: &mut N,
 ) -> Result<Answer, Refusal>
     ensures answers { IfOk result (λ answer. AnswersNewImage answer body.entry asked.now
         (H.input host.old) (H.file host.old) (H.file host.new image.entry.name.now)
@@ -51,6 +53,7 @@ pub fn run_make_image<H: Host, O: Write>(
 {
     let source = body;
     let body = source.read(alloc, host, MOST_FILE)?;
+    notes.body(source, &body);
     let held = host.hold_output(alloc, image.name, Replaced::PlainFile);
     refuse_input(alloc, host, image.name, source, Refusal::ImageIsInput)?;
     make(

@@ -19,7 +19,7 @@ use crate::telling::tell;
 use command_line::{NewComponent, NewManifest};
 use device_texts::{DeviceFile, refused_fault_text, refused_text};
 use host::{Answer, Host, Refusal, Source};
-use inputs::read_device;
+use inputs::{Notes, read_device};
 use machine::Fault;
 use manifest::{Identity, Manifest, ManifestError};
 use std::alloc::{AllocError, Global};
@@ -28,7 +28,8 @@ use std::io::Write;
 /// Writes to `out` the manifest for files to upload to a device, or why there is no such manifest.
 ///
 /// The device file, each file to upload, and the flash of the precursors, if one is given, are read
-/// from `host`. The manifest is made in memory of `alloc` and read back before it is written.
+/// from `host`. The manifest is made in memory of `alloc` and read back before it is written. The
+/// device, and a precursor that isn't intact, are handed to `notes`.
 ///
 /// After the manifest, notes are written to `err`: whether the device refuses the manifest or is on
 /// trial, which of the files it will not take, and whether it boots files on trial that are requested
@@ -36,15 +37,16 @@ use std::io::Write;
 ///
 /// # Errors
 /// `DeviceFile`, `FlashSize`, `FlashInUse` or `OfSource` for an input that is wrong, in use or
-/// can't be read. `Manifest` if there are more files than a manifest can have components.
+/// can't be read. `NotMade` if there are more files than a manifest can have components.
 /// `NoMemory` if memory runs out. `CannotWrite` if a write to `out` or `err` fails.
-pub fn run_make_manifest<H: Host, O: Write, E: Write>(
+pub fn run_make_manifest<H: Host, O: Write, E: Write, N: Notes>(
     alloc: Global,
     device: Source<'_>,
     asked: &NewManifest<'_>,
     host: &mut H,
     out: &mut O,
     err: &mut E,
+    notes: &mut N,
 ) -> Result<Answer, Refusal>
     ensures answers { IfOk result (λ answer. AnswersNewManifest answer device.entry asked.now
         (H.input host.old) (H.file host.old) (O.contents out.old) (O.contents out.new)) }
@@ -54,14 +56,14 @@ pub fn run_make_manifest<H: Host, O: Write, E: Write>(
     ensures files { KeepsFiles (H.file host.old) (H.file host.new) }
     ensures to_read { (H.opened host.new).to_write ≡ (H.opened host.old).to_write }
 {
-    let Some(of_device) = read_device(alloc, device, host, out)? else {
+    let Some(of_device) = read_device(alloc, device, host, out, notes)? else {
         return Ok(Answer::Refused);
     };
     if let Some(fault) = fault_in(&asked.components, of_device.map.images) {
         refuse(alloc, fault, out)?;
         return Ok(Answer::Refused);
     }
-    match read_precursors(alloc, &of_device.map, asked, host)? {
+    match read_precursors(alloc, &of_device.map, asked, host, notes)? {
         Precursors::Are(running) => {
             let is_quiet = write_manifest(alloc, &of_device, asked, running, host, out, err)?;
             if asked.is_strict && !is_quiet {
@@ -180,7 +182,7 @@ fn expect_manifest(
     match Manifest::read(alloc, text, identity) {
         Ok(read) if read == *manifest => Ok(()),
         Err(ManifestError::NoMemory) => Err(Refusal::NoMemory),
-        _ => Err(Refusal::Manifest),
+        _ => Err(Refusal::NotMade),
     }
 }
 

@@ -43,7 +43,7 @@ pub fn read_components<H: Host>(
         let (asked, precursor) = (&asked[place], precursors[place]);
         let component = read_component(alloc, map, asked, precursor, host, table, notes)?;
         if components.is_full() {
-            return Err(Refusal::Manifest);
+            return Err(Refusal::NotMade);
         }
         components.push(component);
     }
@@ -103,7 +103,7 @@ fn write_notes(
 {
     let (source, image) = (Source::named(asked.file), asked.image);
     match described {
-        Ok(description) => explain_own_need(notes, asked.file, image, description)?,
+        Ok(description) => explain_own_need(notes, Source::named(asked.file), image, description)?,
         Err(fault) => {
             let (code, name) = (fault.code(), fault.name());
             writeln!(notes, "note: {source} is no intact image: {code} {name}")?;

@@ -16,7 +16,7 @@ use device_texts::flash_of;
 use flash_model::Flash;
 use host::{Access, Host, Refusal, Source};
 use image_reading::describe_slot;
-use inputs::{Intake, intake_on, read_flash, table_on};
+use inputs::{Intake, Notes, intake_on, read_flash, table_on};
 use manifest::MOST_COMPONENTS;
 use sector_map::{SectorMap, Side};
 use std::alloc::Global;
@@ -45,16 +45,18 @@ pub enum Precursors {
 
 /// Reads the precursors from the flash that the arguments name, which is read from `host` into
 /// memory of `alloc`: for each file, the digest of the running image. If the arguments name no
-/// flash, nothing is read, and any image may run.
+/// flash, nothing is read, and any image may run. A running image that isn't intact is handed to
+/// `notes`.
 ///
 /// # Errors
-/// `Manifest` if there are more files than a manifest can have components, and the errors of
+/// `NotMade` if there are more files than a manifest can have components, and the errors of
 /// [`read_flash`].
-pub fn read_precursors<H: Host>(
+pub fn read_precursors<H: Host, N: Notes>(
     alloc: Global,
     map: &SectorMap,
     asked: &NewManifest<'_>,
     host: &mut H,
+    notes: &mut N,
 ) -> Result<Precursors, Refusal>
     requires there { HaveImages map.now.images asked.now.components.items }
     ensures read { IfOk result (ReadsPrecursors map.now asked.now
@@ -67,7 +69,7 @@ pub fn read_precursors<H: Host>(
         return any_precursors(components);
     };
     let bytes = read_flash(alloc, Source::named(flash), map, Access::Read, host)?;
-    precursors_in::<Brand>(alloc, Blank::new(2), map, bytes, components)
+    precursors_in::<Brand, _>(alloc, Blank::new(2), map, bytes, components, notes)
 }
 
 /// The precursors of these files if any image may run.
@@ -77,7 +79,7 @@ fn any_precursors(asked: &[NewComponent<'_>]) -> Result<Precursors, Refusal>
     let mut digests = ArrayVec::new();
     for _ in asked {
         if digests.is_full() {
-            return Err(Refusal::Manifest);
+            return Err(Refusal::NotMade);
         }
         digests.push(None);
     }
@@ -90,12 +92,13 @@ fn any_precursors(asked: &[NewComponent<'_>]) -> Result<Precursors, Refusal>
 }
 
 /// The precursors of these files on a flash of these bytes.
-fn precursors_in<L: Ledger>(
+fn precursors_in<L: Ledger, N: Notes>(
     alloc: Global,
     blank: Blank,
     map: &SectorMap,
     bytes: Vec<u8>,
     asked: &[NewComponent<'_>],
+    notes: &mut N,
 ) -> Result<Precursors, Refusal>
     requires blank { IsBlankOf blank L.name L.parts 2 }
     requires whole { IsFlashOf map.now bytes.items }
@@ -103,7 +106,11 @@ fn precursors_in<L: Ledger>(
     ensures { IfOk result (FindsPrecursors map.now (flash_of map.now bytes.items) asked.now) }
 {
     let mut flash = flash_of::<L>(alloc, blank, map, bytes);
-    precursors_on(&mut flash, map, asked)
+    let precursors = precursors_on(&mut flash, map, asked)?;
+    if let Precursors::DamagedAt(image) = &precursors {
+        notes.damaged(map, flash.bytes(), *image, Side::Primary);
+    }
+    Ok(precursors)
 }
 
 /// The precursors of these files on a flash that has power.
@@ -125,7 +132,7 @@ fn precursors_on<F: Flash>(
             return Ok(Precursors::DamagedAt(component.image));
         };
         if digests.is_full() {
-            return Err(Refusal::Manifest);
+            return Err(Refusal::NotMade);
         }
         digests.push(Some(digest));
     }

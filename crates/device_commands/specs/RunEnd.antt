@@ -5,7 +5,6 @@ use Rattle.std.specs.Io.KnownBytes.{Appends}
 use Rattle.common.specs.declared.event.Event.{Event}
 use Rattle.common.specs.Event.{event_map}
 use Rattle.flash_model.specs.declared.torn.Armed.{Armed}
-use Rattle.sector_map.specs.declared.error.MapError.{MapError}
 use Rattle.sector_map.specs.declared.layout.SectorMap.{SectorMap}
 use Rattle.upload.specs.Sessions.{AllClosed}
 use Rattle.machine.specs.Holding.{DeviceView}
@@ -20,6 +19,7 @@ use Rattle.device_texts.specs.declared.device.DeviceFile.{DeviceFile}
 use Rattle.host.specs.declared.source.Source.{Source}
 use Rattle.device_texts.specs.DeviceFile.{IsDeviceFile, setup_of}
 use Rattle.device_texts.specs.FlashOf.{IsFlashOf, armed_chip}
+use Rattle.inputs.specs.declared.device_input.BadMap.{BadMap}
 use Rattle.inputs.specs.DeviceInput.{GivesNoMap}
 use Rattle.host.specs.Input.{FileBytes}
 use Rattle.host.specs.Inputs.{GiveEach}
@@ -123,8 +123,8 @@ pub record RunsDevice (form : Form) (is_strict : Bool) (answer : Answer) (source
 abbrev pub WritesNoMap : Form → Source → Option (List ℕ) → FileBytes
     → Option (List ℕ) → Option (List ℕ) → Type 0
 WritesNoMap form source input files old new =
-    (refused : MapError) × GivesNoMap source input files refused
-    × Appends old new (map_refusal_line form refused)
+    (bad : BadMap) × GivesNoMap source input files bad
+    × Appends old new (map_refusal_line form bad.fault)
 
 -- The answer of `run`: it ran the device, or wrote why the sizes of the device file make no map. In
 -- the second case the other files don't matter.

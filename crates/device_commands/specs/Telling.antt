@@ -21,6 +21,7 @@ use Rattle.device_texts.specs.ReplyJson.{note_line, reply_line, reply_lines}
 use Rattle.device_texts.specs.declared.form.Form.{Form}
 use Rattle.inputs.specs.declared.checking.BufferedInput.{BufferedInput}
 use Rattle.inputs.specs.Loading.{LoadsAll, LoadsFirst}
+use Rattle.inputs.specs.Script.{IsScript, Known, StaysKnown}
 use Rattle.device_commands.specs.declared.run.Told.{Told}
 use Rattle.device_commands.specs.RunEnd.{IsMadeOf, Plays, answer_after, came_by, ending, is_refusal, last_answer}
 
@@ -144,6 +145,16 @@ pub record TellsFirst (form : Form) (refusal : Refusal) (device : DeviceFile) (b
   pub new : DeviceView
   pub made : IsMadeOf device.map bytes cuts old
   pub breaks : BreaksText form refusal (setup_of device) old new text buffered files before after
+
+-- A script of this text, with the files that its lines name, was run on a device of this file, whose
+-- flash had these bytes.
+pub record RunsScript (form : Form) (is_strict : Bool) (answer : Answer) (device : DeviceFile)
+    (bytes text : List ℕ) (input : Option (List ℕ)) (files : FileBytes)
+    (old new : Option (List ℕ)) : Type 0 where
+  pub cuts : List Armed
+  pub came : List (Event (List ℕ))
+  pub says : (known : Known) → StaysKnown known input files → IsScript text known cuts came
+  pub plays : Plays form is_strict answer device bytes cuts came old new
 
 -- How a run of a text ends, on a device of this file, whose flash has these bytes and is armed with
 -- these cuts: with an answer, or without one.

@@ -10,7 +10,7 @@ use crate::run::{RunFiles, RunOptions, run_device};
 use command_line::{DeviceOrder, device_request};
 use device_texts::Form;
 use host::{Access, Answer, Host, Refusal, Source, finish};
-use inputs::{NoNotes, RunNotes};
+use inputs::{NoNotes, Notes};
 use std::alloc::Global;
 use std::convert::AsStr;
 use std::io::Write;
@@ -65,11 +65,11 @@ pub fn run_core_order<H: Host, O: Write, E: Write>(
 }
 
 /// Runs a command on the files of `host`, and writes its answer to `out`: the replies of a run in
-/// this form, and everything else as a text. `notes` is called after each reply.
+/// this form, and everything else as a text. The inputs and each reply are handed to `notes`.
 ///
 /// # Errors
 /// The errors of the command.
-pub fn run_device_order<H: Host, O: Write, N: RunNotes>(
+pub fn run_device_order<H: Host, O: Write, N: Notes>(
     alloc: Global,
     order: &DeviceOrder<'_>,
     form: Form,
@@ -94,7 +94,15 @@ pub fn run_device_order<H: Host, O: Write, N: RunNotes>(
                 name: flash,
                 is_forced: forced,
             };
-            run_provision(alloc, Source::named(device), flash, images, host, out)
+            run_provision(
+                alloc,
+                Source::named(device),
+                flash,
+                images,
+                host,
+                out,
+                notes,
+            )
         }
         DeviceOrder::Run {
             device,

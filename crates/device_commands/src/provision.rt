@@ -14,7 +14,7 @@ ghost use Rattle.device_commands.specs.ProvisionEnd.{AnswersMade, AnswersProvisi
 
 use device_texts::{flash_of, refused_fault_text, write_all};
 use host::{Answer, FlashFault, Host, MOST_FILE, Refusal, Replaced, Source, WrongLength};
-use inputs::read_device;
+use inputs::{Notes, read_device};
 use machine::Fault;
 use sector_map::{SectorMap, Side};
 use std::alloc::{AllocError, Global};
@@ -44,7 +44,8 @@ pub struct NewFlash<'a> {
 /// Makes the flash of a device with an image at the front of each primary slot, provisions it, and
 /// makes or replaces its file. Writes to `out` that it is done, or why it is refused.
 ///
-/// The device file and the images are read from `host`. All bytes are in memory of `alloc`.
+/// The device file and the images are read from `host`, and handed to `notes`. All bytes are in
+/// memory of `alloc`.
 ///
 /// Everything is checked before the file is written. The flash file can't be one of the inputs,
 /// which never change. A file that exists is replaced only if it is empty, erased or as long as the
@@ -56,13 +57,14 @@ pub struct NewFlash<'a> {
 /// [`read_images`]. `FlashIsInput`, `FlashInUse`, `FlashSize` or `FlashFile` for a flash file that
 /// can't be made or may not be replaced. `NoMemory` if memory runs out. `CannotWrite` if the answer
 /// can't be written.
-pub fn run_provision<H: Host, O: Write>(
+pub fn run_provision<H: Host, O: Write, N: Notes>(
     alloc: Global,
     device: Source<'_>,
     flash: NewFlash<'_>,
     images: &[&str],
     host: &mut H,
     out: &mut O,
+    notes: &mut N,
 ) -> Result<Answer, Refusal>
     ensures answers { IfOk result (λ answer.
         AnswersProvision answer flash.entry device.entry (names_of images.now)
@@ -74,10 +76,10 @@ pub fn run_provision<H: Host, O: Write>(
     ensures opened { H.opened host.new ≡ H.opened host.old }
 {
     let source = device;
-    let Some(device) = read_device(alloc, source, host, out)? else {
+    let Some(device) = read_device(alloc, source, host, out, notes)? else {
         return Ok(Answer::Refused);
     };
-    let bytes = read_images(alloc, &device.map, images, host)?;
+    let bytes = read_images(alloc, &device.map, images, host, notes)?;
     let held = host.hold_output(alloc, flash.name, Replaced::FlashFile);
     refuse_inputs(host, flash.name, source, images)?;
     let (blank, file) = (Blank::new(2), HeldFlash { flash, held });
@@ -94,17 +96,18 @@ struct HeldFlash<'a> {
 }
 
 /// Reads images, and returns the bytes of a flash with each at the front of its primary slot. All
-/// other bytes are erased.
+/// other bytes are erased. Each image is handed to `notes`.
 ///
 /// # Errors
 /// `ImageCount` if the device has another number of images. `ImageTooBig` with the number of an
 /// image that is longer than its slot. `OfSource` if an image can't be read. `NoMemory` if memory
 /// runs out. No file changes.
-pub fn read_images<H: Host>(
+pub fn read_images<H: Host, N: Notes>(
     alloc: Global,
     map: &SectorMap,
     images: &[&str],
     host: &mut H,
+    notes: &mut N,
 ) -> Result<Vec<u8>, Refusal>
     ensures read { IfOk result (λ bytes. ReadsImages map.now (names_of images.now)
         (H.input host.old) (H.file host.old) bytes.items) }
@@ -125,6 +128,7 @@ pub fn read_images<H: Host>(
         if file.len() > most as usize {
             return Err(Refusal::ImageTooBig { image, most });
         }
+        notes.image(source, &file);
         put(&mut bytes, map.slot_start(image, Side::Primary), &file);
     }
     Ok(bytes)

@@ -1,12 +1,12 @@
 //! `bootswap run`: runs the events of a script on a device, and writes its replies.
 ghost use Rattle.host.specs.Doings.{IsOpenedFor};
-ghost use Rattle.std.specs.Prelude.{◌≡◌, ◌||◌, IfErr, IfOk, IsTrue, Some, is_some, length, true};
+ghost use Rattle.std.specs.Prelude.{◌≡◌, ◌||◌, IfErr, IfOk, IsTrue, OnOk, Some, is_some, length, true};
 ghost use Rattle.flash_model.specs.Blanks.{IsBlankOf};
 ghost use Rattle.device_texts.specs.DeviceFile.{IsOfFile};
 ghost use Rattle.device_texts.specs.FlashOf.{IsFlashOf, armed_in};
 ghost use Rattle.inputs.specs.Loading.{came_of};
 ghost use Rattle.device_commands.specs.RunEnd.{AnswersRun, answer_after, ending, is_refusal};
-ghost use Rattle.device_commands.specs.Telling.{BreaksEvent, BreaksText, PlaysRun, TellsEvent, TellsText};
+ghost use Rattle.device_commands.specs.Telling.{BreaksEvent, BreaksText, PlaysRun, RunsScript, TellsEvent, TellsText};
 ghost use Rattle.host.specs.declared.source.Source.TheVariants as source;
 
 use crate::host_file::HostFile;
@@ -17,7 +17,7 @@ use device_texts::{CutWrite, DeviceFile, Form, Line, arm_all, flash_of};
 use flash_model::Flash;
 use host::{Access, Answer, Host, Refusal, Source};
 use inputs::{
-    CheckedScript, FileFlash, FlashFile, Lines, RunNotes, Sources, check_script, device_or_fault,
+    CheckedScript, FileFlash, FlashFile, Lines, Notes, Sources, check_script, device_or_fault,
     read_flash, read_script,
 };
 use machine::Reply;
@@ -75,8 +75,8 @@ struct Told {
 
 /// Runs the events of a script on a device, and writes each reply to `out` when its event is done.
 /// The device file, the flash and the script are read from `host`. Each change of the flash is
-/// written to its file immediately. `notes` is called after each reply. If the form is
-/// [`Form::Json`], an object of the notes that it returns follows the object of the reply.
+/// written to its file immediately. The device, the flash and each reply are handed to `notes`. If
+/// the form is [`Form::Json`], an object of the notes on a reply follows the object of the reply.
 ///
 /// The answer is that of the last reply. With `is_strict` it is `Refused` if any reply is a refusal,
 /// or the report of a boot that refuses a request, unless the last reply is that the power failed.
@@ -88,7 +88,7 @@ struct Told {
 /// The file of the flash is synced however the run ends, and a failed sync is the result of the
 /// run. So `Done` means that all writes are on the medium. With [`Access::WriteDurably`] the file
 /// and its name are on the medium before the first event.
-pub fn run_device<H: Host, O: Write, N: RunNotes>(
+pub fn run_device<H: Host, O: Write, N: Notes>(
     alloc: Global,
     files: RunFiles<'_>,
     options: RunOptions,
@@ -106,14 +106,67 @@ pub fn run_device<H: Host, O: Write, N: RunNotes>(
     let is_input_read = files.device.is_standard_input() || files.script.is_standard_input();
     let device = match device_or_fault(alloc, files.device, host)? {
         Ok(device) => device,
-        Err(fault) => return write_no_map(alloc, options.form, fault, out),
+        Err(bad) => {
+            notes.bad_map(&bad);
+            return write_no_map(alloc, options.form, bad.fault, out);
+        }
     };
     let flash = Source::File(files.flash);
     let bytes = read_flash(alloc, flash, &device.map, files.access, host)?;
     let text = read_script(alloc, files.script, host)?;
+    let start = Start {
+        device: &device,
+        bytes,
+        text: &text,
+        is_input_read,
+    };
+    match run_script(alloc, files, options, start, host, out, notes) {
+        Ok(answer) => Ok(answer),
+        Err(refusal) => Err(refusal.in_script(text)),
+    }
+}
+
+/// What a run starts with.
+#[derive(Drop)]
+struct Start<'d, 't> {
+    /// The device.
+    device: &'d DeviceFile,
+    /// The bytes of its flash, as its file holds them.
+    bytes: Vec<u8>,
+    /// The text of the script.
+    text: &'t [u8],
+    /// Whether standard input was read.
+    is_input_read: bool,
+}
+
+/// Checks a script with the files that its lines name, runs its events on a device, and writes each
+/// reply to `out`. Then syncs the file of the flash.
+fn run_script<H: Host, O: Write, N: Notes>(
+    alloc: Global,
+    files: RunFiles<'_>,
+    options: RunOptions,
+    start: Start<'_, '_>,
+    host: &mut H,
+    out: &mut O,
+    notes: &mut N,
+) -> Result<Answer, Refusal>
+    requires device { IsOfFile start.device.now }
+    requires whole { IsFlashOf start.device.now.map start.bytes.items }
+    ensures runs { IfOk result (λ answer. RunsScript options.form options.is_strict answer
+        start.entry.device.now start.entry.bytes.items start.entry.text.now
+        (H.input host.old) (H.file host.old) (O.contents out.old) (O.contents out.new)) }
+    ensures synced { OnOk result (IsTrue (H.synced host.new)) }
+    ensures opened { H.opened host.new ≡ H.opened host.old }
+{
+    let Start {
+        device,
+        bytes,
+        text,
+        is_input_read,
+    } = start;
     let CheckedScript { cuts, buffered, .. } = check_script(
         alloc,
-        &text,
+        text,
         Some(files.flash),
         is_input_read,
         host,
@@ -123,12 +176,12 @@ pub fn run_device<H: Host, O: Write, N: RunNotes>(
         host: &*host,
         buffered: &buffered,
     };
-    notes.begin(&device, bytes.as_slice());
+    notes.begin(device, bytes.as_slice());
     let run = Run {
-        device: &device,
+        device,
         bytes,
         cuts,
-        text: &text,
+        text,
         options,
     };
     let (blank, memory_blank) = (Blank::new(2), Blank::new(2));
@@ -142,7 +195,7 @@ pub fn run_device<H: Host, O: Write, N: RunNotes>(
 
 /// Runs the events of a script on a device, and writes each reply to `out` when its event is done.
 /// Each change of the flash is written to its file.
-fn play<L: Ledger, M: Ledger, H: Host, O: Write, N: RunNotes>(
+fn play<L: Ledger, M: Ledger, H: Host, O: Write, N: Notes>(
     blank: Blank,
     memory_blank: Blank,
     run: Run<'_, '_>,
@@ -184,7 +237,7 @@ fn play<L: Ledger, M: Ledger, H: Host, O: Write, N: RunNotes>(
 ///
 /// If a reply can't be written, or the file of a line can't be read, no event is run after it. If
 /// the file of the flash failed, all events are run, and the result is `FlashFile`.
-fn run_events<L: Ledger, M: Ledger, F: FlashFile + Drop, H: Host, O: Write, N: RunNotes>(
+fn run_events<L: Ledger, M: Ledger, F: FlashFile + Drop, H: Host, O: Write, N: Notes>(
     alloc: Global,
     device: &mut Device<FileFlash<F, L, M>>,
     text: &[u8],
@@ -249,7 +302,7 @@ fn ending(is_strict: bool, has_refused: bool, last: Answer) -> Answer
 }
 
 /// Runs an event on a device, and writes the reply and the notes on it to `out`.
-fn run_event<F: Flash, O: Write, N: RunNotes>(
+fn run_event<F: Flash, O: Write, N: Notes>(
     alloc: Global,
     device: &mut Device<F>,
     form: Form,

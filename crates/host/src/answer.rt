@@ -3,7 +3,7 @@ ghost use Rattle.std.specs.Prelude.{◌≡◌, ◌⊎◌, Ok, is_ok, if◌then�
 ghost use Rattle.std.specs.Io.KnownBytes.{Keeps};
 ghost use Rattle.host.specs.Status.{Ends, status_of_answer, status_of_refusal};
 
-use crate::error::Refusal;
+use crate::error::{Refusal, ScriptFault, ScriptLine, SourceRefusal};
 use std::io;
 use std::io::Write;
 
@@ -51,6 +51,41 @@ impl Refusal {
         match self {
             Refusal::FlashFile(_) => FLASH_FILE_FAILED,
             _ => REFUSED,
+        }
+    }
+
+    /// Returns the refusal of the line of this number of a script, from 1, for this reason.
+    pub fn of_line(line: usize, fault: ScriptFault) -> Self
+        ensures { status_of_refusal result ≡ 1 }
+    {
+        Refusal::ScriptLine(ScriptLine {
+            line,
+            fault,
+            script: None,
+        })
+    }
+
+    /// Adds the text of the script that was run to a refusal of one of its lines, or of a file.
+    pub fn in_script(self, text: Vec<u8>) -> Self
+        ensures { status_of_refusal result ≡ status_of_refusal self }
+    {
+        let script = Some(text);
+        match self {
+            Refusal::ScriptLine(ScriptLine { line, fault, .. }) => Refusal::ScriptLine(
+                ScriptLine {
+                    line,
+                    fault,
+                    script,
+                },
+            ),
+            Refusal::OfSource(SourceRefusal { name, fault, .. }) => {
+                Refusal::OfSource(SourceRefusal {
+                    name,
+                    fault,
+                    script,
+                })
+            }
+            other => other,
         }
     }
 }

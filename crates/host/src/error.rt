@@ -7,23 +7,21 @@ use thiserror::Error;
 /// Why a command refuses. The text is printed after `error: ` on standard error.
 #[derive(Debug, Drop, Error)]
 pub enum Refusal {
-    /// The text is no table. The number is that of the first line, from 1, with which no table
-    /// continues.
-    TableLine(usize),
-    /// The text is no report. The number is that of the first line, from 1, with which no report
-    /// continues.
-    ReportLine(usize),
+    /// The text is no table. Its wrong line is the first with which no table continues.
+    TableLine(BadText),
+    /// The text is no report. Its wrong line is the first with which no report continues.
+    ReportLine(BadText),
     /// A fleet doesn't begin with a line `device NAME`.
     FleetLine,
     /// The arguments of `plan` request two files as the image of this number.
     RequestedTwice(u8),
-    /// The running images of a table don't fit each other.
-    NotValid,
+    /// The running images of the table with this text don't fit each other.
+    NotValid(Vec<u8>),
     /// The text is no device file.
-    DeviceFile,
-    /// The arguments describe no manifest for the device. This text is never printed, because the
-    /// fault is reported before.
-    Manifest,
+    DeviceFile(NamedText),
+    /// Nothing can be made of the arguments. This text is never printed, because each fault is
+    /// reported before.
+    NotMade,
     /// The length of the flash file isn't that of the device's map.
     FlashSize(WrongLength),
     /// Another program uses the flash file.
@@ -38,12 +36,12 @@ pub enum Refusal {
     ImageInUse,
     /// The number of image files isn't this one, that of the images in the device's map.
     ImageCount(u8),
-    /// There is no image of the number `image`. There are `images`, from 0 on.
+    /// There is no image of the number `image`. The device has `images` images.
     NoImage { image: u8, images: u8 },
     /// The file for the image of the number `image` is longer than its slot, which has `most` bytes.
     ImageTooBig { image: u8, most: u32 },
-    /// The line of this number of a script, from 1, isn't an event that can be run, for this reason.
-    ScriptLine(usize, ScriptFault),
+    /// A line of a script isn't an event that can be run.
+    ScriptLine(ScriptLine),
     /// A fault of a file or of standard input.
     OfSource(SourceRefusal),
     /// The program is the core of `bootswap`, and the arguments ask for a command that it doesn't
@@ -61,13 +59,13 @@ pub enum Refusal {
 impl fmt::Display for Refusal {
     fn fmt<W: fmt::Write>(&self, f: &mut fmt::Formatter<W>) -> fmt::Result {
         let text = match self {
-            Refusal::TableLine(line) => return write!(f, "table line {line}"),
-            Refusal::ReportLine(line) => return write!(f, "report line {line}"),
+            Refusal::TableLine(bad) => return write!(f, "table line {}", bad.line),
+            Refusal::ReportLine(bad) => return write!(f, "report line {}", bad.line),
             Refusal::FleetLine => "fleet line 1",
             Refusal::RequestedTwice(image) => return write!(f, "image {image} requested twice"),
-            Refusal::NotValid => "running set not valid",
-            Refusal::DeviceFile => "device file",
-            Refusal::Manifest => "manifest",
+            Refusal::NotValid(_) => "running set not valid",
+            Refusal::DeviceFile(_) => "device file",
+            Refusal::NotMade => "not made",
             Refusal::FlashSize(_) => "flash size",
             Refusal::FlashInUse => "flash in use",
             Refusal::FlashIsInput => "flash is an input",
@@ -77,7 +75,7 @@ impl fmt::Display for Refusal {
             Refusal::ImageCount(_) => "image count",
             Refusal::NoImage { image, .. } => return write!(f, "no image {image}"),
             Refusal::ImageTooBig { image, .. } => return write!(f, "image {image} too big"),
-            Refusal::ScriptLine(line, _) => return write!(f, "script line {line}"),
+            Refusal::ScriptLine(bad) => return write!(f, "script line {}", bad.line),
             Refusal::OfSource(refusal) => return write!(f, "{refusal}"),
             Refusal::NotOfCore => "not in the core of bootswap",
             Refusal::NoMemory => "memory",
@@ -86,6 +84,35 @@ impl fmt::Display for Refusal {
         };
         f.write_str(text)
     }
+}
+
+/// A text with a wrong line.
+#[derive(Debug, Drop)]
+pub struct BadText {
+    /// The text, or its start if it is too long.
+    pub text: Vec<u8>,
+    /// The number of its first wrong line, from 1. If the text lacks a line, that of the lacking one.
+    pub line: usize,
+}
+
+/// A text that was read.
+#[derive(Debug, Drop)]
+pub struct NamedText {
+    /// The word by which the arguments name its source.
+    pub name: String,
+    /// The text, or its start if it is too long.
+    pub text: Vec<u8>,
+}
+
+/// A line of a script that isn't an event that can be run.
+#[derive(Debug, Drop)]
+pub struct ScriptLine {
+    /// The number of the line, from 1.
+    pub line: usize,
+    /// Why it can't be run.
+    pub fault: ScriptFault,
+    /// The text of the script. The command that has read it adds it.
+    pub script: Option<Vec<u8>>,
 }
 
 /// Why a line of a script isn't an event that can be run.
@@ -121,10 +148,12 @@ pub struct WrongLength {
 /// A fault of a file or of standard input, and the name of that source.
 #[derive(Debug, Drop)]
 pub struct SourceRefusal {
-    /// The word by which the arguments name it.
+    /// The word by which the arguments, or a line of a script, name it.
     pub name: String,
     /// The fault.
     pub fault: SourceFault,
+    /// The text of the script that was run, if one was. The command that has read it adds it.
+    pub script: Option<Vec<u8>>,
 }
 
 impl SourceRefusal {
@@ -135,7 +164,7 @@ impl SourceRefusal {
 }
 
 /// The faults of a file or of standard input.
-#[derive(Clone, Copy, Debug)]
+#[derive(Debug, Drop)]
 pub enum SourceFault {
     /// The system could not read it to its end, for this reason.
     CannotRead(io::Error),
@@ -144,25 +173,30 @@ pub enum SourceFault {
     /// It is no flash, and it could not be made or replaced, for this reason of the system. `None` if
     /// another program uses it, or if it isn't a plain file.
     CannotReplace(Option<io::Error>),
-    /// It was to hold an image and holds none. It is unchanged.
-    NoImage,
+    /// It was to hold an intact image and holds these bytes.
+    NoImage(Vec<u8>),
+    /// It was to be replaced by an image and holds something else. It is unchanged.
+    NoOldImage,
     /// It was to be replaced by a picture and holds something else. It is unchanged.
     NoPicture,
-    /// It holds no summary, or no output of a sweep, that can be merged with those before it. The
-    /// number is that of the first line, from 1, that can't be.
-    CannotMerge(usize),
+    /// It holds no summary, or no output of a sweep, that can be merged with those before it. Its
+    /// wrong line is the first that can't be.
+    CannotMerge(BadText),
 }
 
 impl fmt::Display for SourceRefusal {
     fn fmt<W: fmt::Write>(&self, f: &mut fmt::Formatter<W>) -> fmt::Result {
         let source = self.source();
-        match self.fault {
+        match &self.fault {
             SourceFault::CannotRead(_) => write!(f, "cannot read {source}"),
             SourceFault::TooLong(most) => write!(f, "{source} is longer than {most} bytes"),
             SourceFault::CannotReplace(_) => write!(f, "cannot write {source}"),
-            SourceFault::NoImage => write!(f, "{source} is no image"),
+            SourceFault::NoImage(_) | SourceFault::NoOldImage => write!(f, "{source} is no image"),
             SourceFault::NoPicture => write!(f, "{source} is no picture"),
-            SourceFault::CannotMerge(line) => write!(f, "cannot merge {source} line {line}"),
+            SourceFault::CannotMerge(bad) => {
+                let line = bad.line;
+                write!(f, "cannot merge {source} line {line}")
+            }
         }
     }
 }

@@ -20,7 +20,9 @@ mod source;
 mod stream;
 
 pub use answer::{Answer, finish, refuse, refuse_after, status_after};
-pub use error::{Refusal, ScriptFault, SourceFault, SourceRefusal, WrongLength};
+pub use error::{
+    BadText, NamedText, Refusal, ScriptFault, ScriptLine, SourceFault, SourceRefusal, WrongLength,
+};
 pub use host::{Access, FilePart, FlashFault, Host, Replaced};
 pub use limits::{MOST_FILE, MOST_JSON, MOST_SCRIPT, MOST_TABLE};
 pub use source::{Source, refuse_input};

@@ -4,7 +4,7 @@ ghost use Rattle.host.specs.Doings.{IsApartFrom};
 ghost use Rattle.host.specs.Input.{Gives, IsNamed, KeepsFiles, KeepsOthers};
 ghost use Rattle.host.specs.Status.{status_of_refusal};
 
-use crate::error::{Refusal, SourceFault, SourceRefusal};
+use crate::error::{NamedText, Refusal, SourceFault, SourceRefusal};
 use crate::host::Host;
 use crate::limits::MOST_FILE;
 use common::texts::{Escaped, STANDARD_INPUT};
@@ -106,7 +106,22 @@ impl<'a> Source<'a> {
         ensures { status_of_refusal result ≡ 1 }
     {
         match String::from_str(alloc, self.name()) {
-            Ok(name) => Refusal::OfSource(SourceRefusal { name, fault }),
+            Ok(name) => Refusal::OfSource(SourceRefusal {
+                name,
+                fault,
+                script: None,
+            }),
+            Err(_) => Refusal::NoMemory,
+        }
+    }
+
+    /// Returns the refusal of a text of this source that is no device file. The source's name is copied
+    /// into memory of `alloc`. If memory runs out, the refusal says so instead.
+    pub fn no_device_file(self, alloc: Global, text: Vec<u8>) -> Refusal
+        ensures { status_of_refusal result ≡ 1 }
+    {
+        match String::from_str(alloc, self.name()) {
+            Ok(name) => Refusal::DeviceFile(NamedText { name, text }),
             Err(_) => Refusal::NoMemory,
         }
     }

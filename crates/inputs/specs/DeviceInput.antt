@@ -5,6 +5,7 @@ use Rattle.sector_map.specs.declared.error.MapError.{MapError}
 use Rattle.device_texts.specs.declared.device.DeviceFault.TheVariants as fault
 use Rattle.device_texts.specs.declared.device.DeviceFile.{DeviceFile}
 use Rattle.host.specs.declared.source.Source.{Source}
+use Rattle.inputs.specs.declared.device_input.BadMap.{BadMap}
 use Rattle.device_texts.specs.AnswerText.{map_refusal_text}
 use Rattle.device_texts.specs.DeviceFile.{IsDeviceFault, IsDeviceFile}
 use Rattle.host.specs.declared.host.Access.{Access}
@@ -17,16 +18,16 @@ abbrev pub GivesDevice : Source → Option (List ℕ) → FileBytes → DeviceFi
 GivesDevice source input files device =
     (bytes : List ℕ) × Gives source input files bytes × IsDeviceFile bytes device
 
--- The source contains a device file whose sizes make no map, for this reason.
-abbrev pub GivesNoMap : Source → Option (List ℕ) → FileBytes → MapError → Type 0
-GivesNoMap source input files refused =
-    (bytes : List ℕ) × Gives source input files bytes × IsDeviceFault bytes (fault.Map refused)
+-- The source contains a device file with this text, whose sizes make no map for this reason.
+abbrev pub GivesNoMap : Source → Option (List ℕ) → FileBytes → BadMap → Type 0
+GivesNoMap source input files bad =
+    Gives source input files bad.text.items × IsDeviceFault bad.text.items (fault.Map bad.fault)
 
 -- The result of reading a device file: a device, or why the sizes in the file make no map.
-abbrev pub GivesDeviceOrFault : Result DeviceFile MapError → Source → Option (List ℕ)
+abbrev pub GivesDeviceOrFault : Result DeviceFile BadMap → Source → Option (List ℕ)
     → FileBytes → Type 0
 GivesDeviceOrFault (Ok device) source input files = GivesDevice source input files device
-GivesDeviceOrFault (Err refused) source input files = GivesNoMap source input files refused
+GivesDeviceOrFault (Err bad) source input files = GivesNoMap source input files bad
 
 -- The source contains a device file whose sizes make no map, and the reason was appended to the
 -- output.

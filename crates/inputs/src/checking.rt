@@ -198,7 +198,7 @@ fn input_part<H: Host>(
     ensures opened { H.opened host.new ≡ H.opened host.old }
 {
     if *is_read {
-        return Err(Refusal::ScriptLine(number, ScriptFault::InputRead));
+        return Err(Refusal::of_line(number, ScriptFault::InputRead));
     }
     *is_read = true;
     let bytes = Source::StandardInput.read(alloc, host, MOST_FILE)?;

@@ -7,6 +7,7 @@ ghost use Rattle.inputs.specs.DeviceInput.{GivesDeviceOrFault, OpensFlash, Reads
 ghost use Rattle.host.specs.Doings.{IsOpenedFor};
 ghost use Rattle.host.specs.Input.{Gives, IsKnownAs, KeepsFiles, KeepsOthers};
 
+use crate::notes::Notes;
 use device_texts::{DeviceFault, DeviceFile, map_refusal_text, write_all};
 use host::{Access, FlashFault, Host, MOST_JSON, Refusal, Source, SourceFault, WrongLength};
 use sector_map::{MapError, SectorMap};
@@ -16,16 +17,18 @@ use std::io::Write;
 /// Reads a device file from `host` and returns its device. The bytes and their JSON value are in
 /// memory of `alloc`.
 ///
-/// Returns `None` if the sizes in the file make no map, after writing the reason to `out`.
+/// Returns `None` if the sizes in the file make no map, after writing the reason to `out`. Hands the
+/// file to `notes`.
 ///
 /// # Errors
 /// Nothing was written to `out`, except for `CannotWrite`, if the reason could not be written. The
 /// others are those of [`device_or_fault`].
-pub fn read_device<H: Host, O: Write>(
+pub fn read_device<H: Host, O: Write, N: Notes>(
     alloc: Global,
     device: Source<'_>,
     host: &mut H,
     out: &mut O,
+    notes: &mut N,
 ) -> Result<Option<DeviceFile>, Refusal>
     ensures read { IfOk result (λ read. ReadsDevice read device.entry
         (H.input host.old) (H.file host.old) (O.contents out.old) (O.contents out.new)) }
@@ -35,26 +38,39 @@ pub fn read_device<H: Host, O: Write>(
     ensures opened { H.opened host.new ≡ H.opened host.old }
 {
     match device_or_fault(alloc, device, host)? {
-        Ok(device) => Ok(Some(device)),
-        Err(fault) => {
-            tell_map(alloc, fault, out)?;
+        Ok(device) => {
+            notes.device(&device);
+            Ok(Some(device))
+        }
+        Err(bad) => {
+            notes.bad_map(&bad);
+            tell_map(alloc, bad.fault, out)?;
             Ok(None)
         }
     }
+}
+
+/// A device file whose sizes make no map.
+#[derive(Drop)]
+pub struct BadMap {
+    /// The text of the file.
+    pub text: Vec<u8>,
+    /// Why its sizes make no map.
+    pub fault: MapError,
 }
 
 /// Reads a device file from `host` and returns its device, or why the sizes in the file make no map.
 /// The bytes and their JSON value are in memory of `alloc`.
 ///
 /// # Errors
-/// - `DeviceFile` if the bytes are no device file, or more than [`MOST_JSON`];
+/// - `DeviceFile`, with the text, if the bytes are no device file, or more than [`MOST_JSON`];
 /// - `OfSource` if the source can't be read;
 /// - `NoMemory` if memory ran out.
 pub fn device_or_fault<H: Host>(
     alloc: Global,
     device: Source<'_>,
     host: &mut H,
-) -> Result<Result<DeviceFile, MapError>, Refusal>
+) -> Result<Result<DeviceFile, BadMap>, Refusal>
     ensures read { IfOk result (λ read.
         GivesDeviceOrFault read device.entry (H.input host.old) (H.file host.old)) }
     ensures others { KeepsOthers device.entry (H.input host.old) (H.file host.old)
@@ -64,13 +80,13 @@ pub fn device_or_fault<H: Host>(
 {
     let bytes = device.read_start(alloc, host, MOST_JSON)?;
     if bytes.len() > MOST_JSON as usize {
-        return Err(Refusal::DeviceFile);
+        return Err(device.no_device_file(alloc, bytes));
     }
     match DeviceFile::read(alloc, &bytes) {
         Ok(device) => Ok(Ok(device)),
-        Err(DeviceFault::Malformed) => Err(Refusal::DeviceFile),
+        Err(DeviceFault::Malformed) => Err(device.no_device_file(alloc, bytes)),
         Err(DeviceFault::NoMemory) => Err(Refusal::NoMemory),
-        Err(DeviceFault::Map(fault)) => Ok(Err(fault)),
+        Err(DeviceFault::Map(fault)) => Ok(Err(BadMap { text: bytes, fault })),
     }
 }
 

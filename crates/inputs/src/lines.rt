@@ -47,10 +47,10 @@ impl<'a> Lines<'a> {
         self.rest = rest;
         self.number = self.number.saturating_add(1);
         let Some(line) = line_of(line) else {
-            return Err(Refusal::ScriptLine(self.number, ScriptFault::Spelling));
+            return Err(Refusal::of_line(self.number, ScriptFault::Spelling));
         };
         if !self.order.takes(&line) {
-            return Err(Refusal::ScriptLine(self.number, ScriptFault::Order));
+            return Err(Refusal::of_line(self.number, ScriptFault::Order));
         }
         Ok(line)
     }

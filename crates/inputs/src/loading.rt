@@ -38,7 +38,7 @@ pub fn read_script<H: Host>(
         .take(MOST_SCRIPT as usize)
         .filter(|byte| **byte == b'\n')
         .count();
-    Err(Refusal::ScriptLine(ended.saturating_add(1), ScriptFault::TooLong))
+    Err(Refusal::of_line(ended.saturating_add(1), ScriptFault::TooLong))
 }
 
 /// Returns the events of a script that has no `cut` lines, from its text, with the bytes of the
@@ -62,7 +62,7 @@ pub fn load<H: Host>(
     let checked = check_script(alloc, text, None, is_input_read, host)?;
     if !checked.cuts.as_slice().is_empty() {
         // The `cut` lines come first in a script.
-        return Err(Refusal::ScriptLine(1, ScriptFault::Cut));
+        return Err(Refusal::of_line(1, ScriptFault::Cut));
     }
     let sources = Sources {
         alloc,

@@ -140,7 +140,7 @@ pub fn piece_of<H: Host>(
     ensures refused { IfErr result (λ refusal. status_of_refusal refusal ≡ 1) }
 {
     match (Source::named(file.name), file.part) {
-        (Source::StandardInput, _) => { Err(Refusal::ScriptLine(number, ScriptFault::InputRead)) }
+        (Source::StandardInput, _) => { Err(Refusal::of_line(number, ScriptFault::InputRead)) }
         (Source::File(name), Some(part)) => file_part(alloc, host, number, name, part),
         (Source::File(name), None) => whole_file(alloc, host, name),
     }
@@ -180,11 +180,11 @@ fn file_part<H: Host>(
 {
     let Some((from, count)) = part.numbers() else {
         part_at(alloc, host, name, 0, 0)?;
-        return Err(Refusal::ScriptLine(number, ScriptFault::PartNumbers));
+        return Err(Refusal::of_line(number, ScriptFault::PartNumbers));
     };
     let Some(piece) = part_at(alloc, host, name, from, count)? else {
         let fault = ScriptFault::NoPart(host.length_of(name).ok());
-        return Err(Refusal::ScriptLine(number, fault));
+        return Err(Refusal::of_line(number, fault));
     };
     Ok(piece)
 }
@@ -228,7 +228,7 @@ pub fn part_of(
         return Ok(bytes);
     };
     let Some(range) = part.of(&bytes) else {
-        return Err(Refusal::ScriptLine(number, part_fault(part, bytes.len())));
+        return Err(Refusal::of_line(number, part_fault(part, bytes.len())));
     };
     match Vec::from_slice(alloc, range) {
         Ok(part) => Ok(part),

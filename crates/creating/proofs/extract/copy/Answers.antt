@@ -35,13 +35,13 @@ pub overflow_add-at : goal.overflow_add-at
 overflow_add-at g c =
     let end = inside c.args.map.now _ _ c.args.to.copying.image c.args.to.copying.side _ c.in-Ok.length _
     c.flash_of-flash.ensures.laid_out c.requires.there c.in-Ok.ensures.fits c.in-Ok.ensures.same
-    c.slot_start-at.ensures c.bytes.ensures in
-    omega (arith, end, c.bytes.type_inv.0)
+    c.slot_start-at.ensures c.bytes-2.ensures in
+    omega (arith, end, c.bytes-2.type_inv.0)
 
 pub slice_bounds-replace-end : goal.slice_bounds-replace-end
 slice_bounds-replace-end g c = inside c.args.map.now _ _ c.args.to.copying.image c.args.to.copying.side _ c.in-Ok.length _
     c.flash_of-flash.ensures.laid_out c.requires.there c.in-Ok.ensures.fits c.in-Ok.ensures.same
-    c.slot_start-at.ensures c.bytes.ensures
+    c.slot_start-at.ensures c.bytes-2.ensures
 
 -- The file holds the image that the slot begins with.
 pub returns-clause-copied : goal.returns-clause-copied
@@ -53,7 +53,7 @@ returns-clause-copied g c =
     let long = c.in-Ok.length in
     let at = c.slot_start-at.result in
     let held = g.H.Host.file c.replace.new.host c.args.to.copying.out.name.now in
-    let lent : c.bytes.result.now ≡ chip.bytes = c.bytes.ensures ∙ ap (λ one. one.bytes) c.in-Ok.ensures.same in
+    let lent : c.bytes-2.result.now ≡ chip.bytes = c.bytes-2.ensures ∙ ap (λ one. one.bytes) c.in-Ok.ensures.same in
     let same = ap (λ all. slice_range all at (at + long)) lent
     ∙ ap (λ from. slice_range chip.bytes from (from + long)) c.slot_start-at.ensures
     ∙ copy_is map chip image side long c.flash_of-flash.ensures.laid_out c.in-Ok.ensures.fits in

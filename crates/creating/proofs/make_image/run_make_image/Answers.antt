@@ -11,7 +11,7 @@ returns-clause-answers g c =
     (λ answer made. (
       c.in_ok-body.body.items,
       c.in_ok-body.ensures.bytes,
-      AnswersMade-same answer _ _ _ _ _ _ c.deref.ensures.value made,
+      AnswersMade-same answer _ _ _ _ _ _ c.deref-2.ensures.value made,
     ))
     c.make.ensures.made
 

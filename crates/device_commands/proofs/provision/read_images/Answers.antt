@@ -24,7 +24,7 @@ put-requires g c =
     let map = c.args.map.now in
     let image = c.loop-image.image in
     let room = slot_within map image map.is_map c.loop-image-test.true in
-    let long : length c.deref.result.now ≡ length c.in_ok-file.file.items = ap (λ all. length all) c.deref.ensures.value in
+    let long : length c.deref-in-loop-image.result.now ≡ length c.in_ok-file.file.items = ap (λ all. length all) c.deref-in-loop-image.ensures.value in
     omega (
       arith,
       room,
@@ -47,8 +47,8 @@ loop-image-preserved g c =
     omega (arith, c.if-len-most.false, c.len.ensures, c.slot_length-most.ensures, file.ok.0) in
     let all : length file.items ≤ c.slot_length-most.result = omega (arith, c.if-len-most.false, c.len.ensures, file.ok.0) in
     let within : image < length c.args.images.now = omega (arith, c.loop-image-test.true, c.if-images-from.false, c.from.ensures) in
-    let put = c.put.ensures ∙ ap (λ at. replaced at c.deref.result.now c.loop-image.bytes.items) c.slot_start.ensures
-    ∙ ap (λ content. replaced (start_of map (Slot image Primary)) content c.loop-image.bytes.items) c.deref.ensures.value in
+    let put = c.put.ensures ∙ ap (λ at. replaced at c.deref-in-loop-image.result.now c.loop-image.bytes.items) c.slot_start.ensures
+    ∙ ap (λ content. replaced (start_of map (Slot image Primary)) content c.loop-image.bytes.items) c.deref-in-loop-image.ensures.value in
     record {
       read = AreRead-more map c.args.images.now image _ _ _ _ _ _ _ _ c.source_at-source.result file.items
           map.is_map c.loop-image-test.true within c.source_at-source.ensures (c.in_ok-file.ensures.bytes all)

@@ -1,4 +1,4 @@
-use Rattle.device_commands.proofs.run.run_device.Given as goal
+use Rattle.device_commands.proofs.run.run_script.Given as goal
 
 -- The token of the flash over the file.
 abbrev pub ghosts-play-L-Ledger : goal.ghosts-play-L-Ledger

@@ -1,0 +1,25 @@
+use Rattle.std.proofs.Common.{subst}
+use Rattle.std.proofs.lemmas.Result.{IfOk-weaker}
+use Rattle.device_texts.specs.FlashOf.{armed_in}
+use Rattle.inputs.specs.Loading.{AreCutsOf, LoadsAll}
+use Rattle.inputs.proofs.ScriptLaws.{IsScript-loaded}
+use Rattle.device_commands.proofs.run.run_script.Goals as goal
+
+-- The script was checked, its events were run, and the replies were written.
+pub returns-in-Ok-clause-runs : goal.returns-in-Ok-clause-runs
+returns-in-Ok-clause-runs g c =
+    let input = g.H.Host.input c.args.host.now in
+    let before = g.H.Host.file c.args.host.now in
+    let files = g.H.Host.file c.check_script.new.host in
+    let text = c.args.start.text.now in
+    let buffered = c.in_ok-cuts.field-0.buffered.items in
+    let cuts = armed_in c.in_ok-cuts.field-0.cuts.items in
+    IfOk-weaker c.play-played.result _ _ (λ answer plays.
+    let loads = subst (λ buffered. LoadsAll text buffered files plays.came) c.deref.ensures.value plays.comes in
+    record {
+      cuts = cuts;
+      came = plays.came;
+      says = IsScript-loaded text cuts plays.came buffered input before files c.in_ok-cuts.ensures.cuts loads
+          c.in_ok-cuts.ensures.files c.in_ok-cuts.ensures.buffered;
+      plays = plays.plays;
+    }) c.play-played.ensures.plays
