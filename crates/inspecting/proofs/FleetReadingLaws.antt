@@ -78,7 +78,7 @@ AllByRecursion-map_devices (planned ∷ plan) all = (all.0, AllByRecursion-map_d
 -- What is written of devices, and then of more.
 pub told-append : (telling : Telling) (first second : List Planned) → told_text telling (first ++ second) ≡ told_text telling first ++ told_text telling second
 told-append (tell.Devices form) first second = flat_map-append (planned_text form) first second
-told-append tell.Summary first second = refl
+told-append (tell.Summary form) first second = refl
 
 pub told-both : (telling : Telling) (a b c : Option (List ℕ)) (first second : List Planned)
     → Appends a b (told_text telling first) → Appends b c (told_text telling second) → Appends a c (told_text telling (first ++ second))
@@ -87,7 +87,7 @@ told-both telling a b c first second one two =
 
 pub told-none : (telling : Telling) (known : Option (List ℕ)) → Appends known known (told_text telling [])
 told-none (tell.Devices form) known = Appends-nil known
-told-none tell.Summary known = Appends-nil known
+told-none (tell.Summary form) known = Appends-nil known
 
 -- A planner that reads nothing.
 pub Advances-nil : (entries : List (Option Entry)) (planner : Planner) (known : Option (List ℕ)) → Advances entries planner planner [] known known

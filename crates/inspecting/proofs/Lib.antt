@@ -5,11 +5,13 @@ mod DeviceLaws
 mod FleetReadingLaws
 mod InspectionLaws
 mod JsonWholeLaws
+mod KeysReadBack
 mod MergingLaws
 mod PlanEndLaws
 mod PlanLaws
 mod ReleaseLaws
 mod ResultLaws
+mod RowKeyLaws
 mod RowsLaws
 mod SlotLaws
 mod SourceLaws

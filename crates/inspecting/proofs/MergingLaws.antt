@@ -1,5 +1,5 @@
 -- Lemmas by which summaries are added up.
-use Rattle.std.proofs.Common.{◌≡◌, ℕ, ◌+◌, List, [], ◌∷◌, ◌++◌, length, map, Option, Some, None, BTreeMap, String, is_some, option_map, codes, ◌||◌, append_assoc, refl, sym, ap, ◌∙◌, subst}
+use Rattle.std.proofs.Common.{◌≡◌, ℕ, ◌+◌, List, [], ◌∷◌, ◌++◌, length, map, Option, Some, None, BTreeMap, String, string_bytes, is_some, option_map, codes, ◌||◌, append_assoc, refl, sym, ap, ◌∙◌, subst}
 use Rattle.std.proofs.lemmas.Cmp.{nat_list_cmp_total}
 use Rattle.std.proofs.lemmas.Grind.{flat_map-append}
 use Rattle.std.proofs.lemmas.List.{append-nil, map-append, nil_from_length}
@@ -81,7 +81,7 @@ module _ {Y : Type 0} where
 
   has_key-rows : (key : List ℕ) (rows : List Row) (tallies : BTreeMap (String Y) Tally) → AreRows rows tallies → is_some (get_by_text tallies key) ≡ has_key rows key
   has_key-rows key rows tallies are =
-      is_some-map (λ tally. tally.first.items) (get_by_text tallies key) ∙ ap is_some (sym (found-first key tallies.entries))
+      is_some-map (λ tally. string_bytes tally.first) (get_by_text tallies key) ∙ ap is_some (sym (found-first key tallies.entries))
       ∙ ap (λ rs. is_some (first_in rs key)) (sym are.are)
 
   -- The answer is that of the rows.

@@ -118,5 +118,6 @@ AnswersPlan-kept form (Merge summaries) input file old mid new answered kept = r
   rows = answered.rows;
   is = answered.is;
   answered = answered.answered;
+  notes = answered.notes;
   written = Appends-kept old mid new _ answered.written kept;
 }

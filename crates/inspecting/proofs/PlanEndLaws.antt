@@ -10,9 +10,9 @@ use Rattle.inspecting.proofs.FleetReadingLaws.{told-append, told-both}
 use Rattle.inspecting.specs.Plan.{Planned, plan_text}
 use Rattle.inspecting.specs.PlanEnd.{EndsWith, HasPlanned, IsAnswerFor, IsPlanText, Plans, WritesRest}
 use Rattle.inspecting.specs.Planning.{Advances, EndsPlan, IsTold, Stands, told_text}
-use Rattle.inspecting.specs.Row.{Row, summary_text}
-use Rattle.inspecting.specs.Summary.{IsSummary}
-use Rattle.inspecting.specs.SummaryRows.{Summarizes}
+use Rattle.inspecting.proofs.RowsLaws.{IsSumOf-tallied}
+use Rattle.inspecting.specs.SummaryJson.{summary_lines}
+use Rattle.inspecting.specs.SummaryLines.{WritesRows}
 use Rattle.inspecting.specs.declared.fleet.planner.Planner.{Planner}
 use Rattle.inspecting.specs.declared.fleet.summary.Summary.{Summary}
 use Rattle.inspecting.specs.declared.fleet.telling.Telling.{Telling}
@@ -67,16 +67,17 @@ EndsWith-done {answer = answer} {a = a} {b = b} {c = c} telling bytes plan ended
 pub WritesRest-none : (telling : Telling) (plan : List Planned) (used : Form) (known : Option (List ℕ))
     → IsTold telling (how.Written used) plan → WritesRest telling plan known known
 WritesRest-none (tell.Devices form) plan used known told = record { text = []; is_text = append-nil (plan_text form plan); written = Appends-nil known }
-WritesRest-none tell.Summary plan used known told = absurd told
+WritesRest-none (tell.Summary form) plan used known told = absurd told
 
 -- The summary is written.
-pub WritesRest-summary : (telling : Telling) (plan : List Planned) (summary : Summary) (old new : Option (List ℕ))
-    → (Summarizes plan summary → (rows : List Row) × IsSummary plan rows × Appends old new (summary_text rows))
-    → IsTold telling (how.Counted summary) plan → WritesRest telling plan old new
-WritesRest-summary (tell.Devices form) plan summary old new writes told = absurd told
-WritesRest-summary tell.Summary plan summary old new writes told =
-    let (rows, is, written) = writes told in
-    record { text = summary_text rows; is_text = (rows, is, refl); written = written }
+pub WritesRest-summary : (telling : Telling) (plan : List Planned) (used : Form) (summary : Summary) (old new : Option (List ℕ))
+    → WritesRows used summary.rows old new → IsTold telling (how.Counted used summary) plan → WritesRest telling plan old new
+WritesRest-summary (tell.Devices form) plan used summary old new writes told = absurd told
+WritesRest-summary (tell.Summary form) plan used summary old new writes told = record {
+  text = summary_lines form writes.rows writes.notes;
+  is_text = (writes.rows, IsSumOf-tallied _ writes.rows summary.rows writes.are told.1, writes.notes, refl);
+  written = subst (λ f. Appends old new (summary_lines f writes.rows writes.notes)) told.0 writes.written;
+}
 
 -- The input is at its end.
 pub Plans-ended : {entries : List (Option Entry)} {telling : Telling} {planner : Planner} {answer : Answer} {input mid rest a b c : Option (List ℕ)}

@@ -38,14 +38,14 @@ pub Tells-written : (form : Form) (planned : Planned) (before after : Option (Li
     → Appends before after (planned_text form planned) → Tells planned (how.Written form) (how.Written form) before after
 Tells-written form planned before after written (tell.Devices other) plan is =
     (is, subst (λ used. Appends before after (plan_text used (planned ∷ []))) is (rw (plan_text-one form planned) written))
-Tells-written form planned before after written tell.Summary plan is = absurd is
+Tells-written form planned before after written (tell.Summary used) plan is = absurd is
 
 -- One more device is counted.
-pub Tells-counted : (planned : Planned) (old new : Summary) (known : Option (List ℕ))
+pub Tells-counted : (form : Form) (planned : Planned) (old new : Summary) (known : Option (List ℕ))
     → ((plan : List Planned) → Summarizes plan old → Summarizes (plan ++ planned ∷ []) new)
-    → Tells planned (how.Counted old) (how.Counted new) known known
-Tells-counted planned old new known counts (tell.Devices form) plan is = absurd is
-Tells-counted planned old new known counts tell.Summary plan is = (counts plan is, Appends-nil known)
+    → Tells planned (how.Counted form old) (how.Counted form new) known known
+Tells-counted form planned old new known counts (tell.Devices used) plan is = absurd is
+Tells-counted form planned old new known counts (tell.Summary used) plan is = ((is.0, counts plan is.1), Appends-nil known)
 
 pub has_bad-more : (plan : List Planned) (planned : Planned) → has_bad (plan ++ planned ∷ []) ≡ (has_bad plan || has_bad (planned ∷ []))
 has_bad-more plan planned = list_any-append (λ (p : Planned). is_bad p.outcome) plan (planned ∷ [])

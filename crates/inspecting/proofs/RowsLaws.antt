@@ -42,10 +42,10 @@ module _ {Y : Type 0} {old new : BTreeMap (String Y) Tally} where
   pub AddsRow-set : (row : Row) (tally : Tally)
       → ((key : List ℕ) → get_by_text new key ≡ update bytes_eq (get_by_text old) row.key (Some tally) key)
       → tally.count ≡ count_at old row.key + row.count
-      → Some tally.first.items ≡ option_or (first_at old row.key) (Some row.first) → AddsRow row old new
+      → Some (string_bytes tally.first) ≡ option_or (first_at old row.key) (Some row.first) → AddsRow row old new
   AddsRow-set row tally sets count first = record {
     counts = λ key. ap (λ o. option_map_or (λ t. t.count) o 0) (sets key) ∙ counted key (bytes_eq row.key key) refl;
-    firsts = λ key. ap (λ o. option_map (λ t. t.first.items) o) (sets key) ∙ named key (bytes_eq row.key key) refl;
+    firsts = λ key. ap (λ o. option_map (λ t. string_bytes t.first) o) (sets key) ∙ named key (bytes_eq row.key key) refl;
   }
     where
       counted : (key : List ℕ) (b : Bool) → bytes_eq row.key key ≡ b
@@ -54,7 +54,7 @@ module _ {Y : Type 0} {old new : BTreeMap (String Y) Tally} where
       counted key false differs = rw (nat_list_eq_equiv.symm key row.key, differs) (omega arith)
 
       named : (key : List ℕ) (b : Bool) → bytes_eq row.key key ≡ b
-          → option_map (λ t. t.first.items) (cond (bytes_eq row.key key) (Some tally) (get_by_text old key)) ≡ option_or (first_at old key) (first_in (row ∷ []) key)
+          → option_map (λ t. string_bytes t.first) (cond (bytes_eq row.key key) (Some tally) (get_by_text old key)) ≡ option_or (first_at old key) (first_in (row ∷ []) key)
       named key true same = rw (nat_list_eq_equiv.symm key row.key, same) (first ∙ ap (λ k. option_or (first_at old k) (Some row.first)) ((bytes_decides row.key key).0 same))
       named key false differs = rw (nat_list_eq_equiv.symm key row.key, differs) (sym (option_or-none (first_at old key)))
 
@@ -83,7 +83,7 @@ module _ {Y : Type 0} where
 
   -- The tally of a key is found in its row.
   pub found-first : (key : List ℕ) (entries : List (String Y × Tally))
-      → first_in (map entry_row entries) key ≡ option_map (λ t. t.first.items) (lookup (is_at (λ k. slice_cmp nat_cmp key (string_bytes k))) entries)
+      → first_in (map entry_row entries) key ≡ option_map (λ t. string_bytes t.first) (lookup (is_at (λ k. slice_cmp nat_cmp key (string_bytes k))) entries)
   found-first key [] = refl
   found-first key (entry ∷ entries) = rw (is_eq-slice_cmp key (string_bytes entry.0)) (elim (cases_Bool (bytes_eq key (string_bytes entry.0))) [
     | inl same ↦ rw same refl

@@ -8,6 +8,7 @@ use Rattle.certificate.specs.ReportText.{IsReportText, IsSomeReport}
 use Rattle.certificate.specs.Rightness.{IsRight}
 use Rattle.host.specs.declared.error.Refusal.{Refusal}
 use Rattle.host.specs.declared.error.Refusal.TheVariants.{TableLine, ReportLine}
+use Rattle.inspecting.specs.declared.check.Verdict.{Verdict}
 use Rattle.inspecting.specs.declared.inspection.Inspection.{Inspection}
 use Rattle.inspecting.specs.declared.inspection.Inspection.TheVariants as found
 
@@ -37,23 +38,44 @@ verdict_text is_right = (if is_right then codes "yes" else codes "no") ++ 10 ∷
 abbrev pub ReadsTable : Result Table Refusal → List ℕ → Type 0
 ReadsTable (Ok table) bytes =
     IsTableText bytes table × ((other : Table) → IsTableText bytes other → table ≡ other)
-ReadsTable (Err (TableLine n)) bytes = IsFirstBadLine IsSomeTable bytes n
+ReadsTable (Err (TableLine bad)) bytes =
+    (bad.text.items ≡ bytes) × IsFirstBadLine IsSomeTable bytes bad.line
 ReadsTable (Err refusal) bytes = ⊥
 
 -- A report that the bytes spell is right for this table.
 abbrev pub IsRightFor : Table → List ℕ → Type 0
 IsRightFor table bytes = (report : Report) × IsReportText bytes report × IsRight table report
 
--- The result of checking a report: whether the report that the bytes spell is right for this table;
--- or the first bad line.
-abbrev pub ChecksReport : Result Bool Refusal → Table → List ℕ → Type 0
-ChecksReport (Ok true) table bytes = IsRightFor table bytes
-ChecksReport (Ok false) table bytes = IsSomeReport bytes × (IsRightFor table bytes → ⊥)
-ChecksReport (Err (ReportLine n)) table bytes = IsFirstBadLine IsSomeReport bytes n
+-- Whether the report that the bytes spell is right for this table.
+abbrev pub IsChecked : Bool → Table → List ℕ → Type 0
+IsChecked true table bytes = IsRightFor table bytes
+IsChecked false table bytes = IsSomeReport bytes × (IsRightFor table bytes → ⊥)
+
+-- A verdict on this table and on the report that the bytes spell.
+pub record IsVerdictOn (table : Table) (bytes : List ℕ) (verdict : Verdict) : Type 0 where
+  pub same : verdict.table ≡ table
+  pub spelled : IsReportText bytes verdict.report
+  pub checked : IsChecked verdict.is_right table bytes
+
+-- The result of checking a report: the verdict; or the first bad line.
+abbrev pub ChecksReport : Result Verdict Refusal → Table → List ℕ → Type 0
+ChecksReport (Ok verdict) table bytes = IsVerdictOn table bytes verdict
+ChecksReport (Err (ReportLine bad)) table bytes =
+    (bad.text.items ≡ bytes) × IsFirstBadLine IsSomeReport bytes bad.line
 ChecksReport (Err refusal) table bytes = ⊥
+
+-- Whether the second text is a report that is right for the table of the first.
+abbrev pub AreChecked : Bool → List ℕ → List ℕ → Type 0
+AreChecked true table report = AreRight table report
+AreChecked false table report = AreWrong table report
+
+-- The verdict on these texts. Its table and its report are those that they spell.
+pub record IsVerdictOf (table report : List ℕ) (verdict : Verdict) : Type 0 where
+  pub table_spelled : IsTableText table verdict.table
+  pub report_spelled : IsReportText report verdict.report
+  pub checked : AreChecked verdict.is_right table report
 
 -- What `check` finds in these texts.
 abbrev pub IsVerdict : List ℕ → List ℕ → Inspection → Type 0
-IsVerdict table report (found.Verdict true) = AreRight table report
-IsVerdict table report (found.Verdict false) = AreWrong table report
+IsVerdict table report (found.Verdict verdict) = IsVerdictOf table report verdict
 IsVerdict table report it = ⊥

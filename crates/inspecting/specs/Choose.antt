@@ -10,6 +10,7 @@ use Rattle.certificate.specs.Rightness.{IsRight}
 use Rattle.certificate.specs.StandardOrder.{IsInStandardOrder}
 use Rattle.certificate.specs.ReportText.{report_text, IsReportText}
 use Rattle.inspecting.specs.Written.{TakesPrefix}
+use Rattle.inspecting.specs.declared.choose.Choice.{Choice}
 use Rattle.inspecting.specs.declared.choose.ChooseEnd.{ChooseEnd}
 use Rattle.inspecting.specs.declared.choose.NoChoice.{NoChoice}
 use Rattle.inspecting.specs.declared.choose.NoChoice.TheVariants as no
@@ -35,16 +36,16 @@ IsUnfitTable bytes =
 abbrev pub IsChosen : List ℕ → Report → Type 0
 IsChosen bytes report = (table : Table) × IsChoice bytes table report
 
--- The result of the choice over these bytes: the report; or the first bad line, or that the running
--- images don't fit each other.
-abbrev pub Chooses : Result Report NoChoice → List ℕ → Type 0
-Chooses (Ok report) bytes = IsChosen bytes report
+-- The result of the choice over these bytes: the table that they spell, and the report; or the first
+-- bad line, or that the running images don't fit each other.
+abbrev pub Chooses : Result Choice NoChoice → List ℕ → Type 0
+Chooses (Ok choice) bytes = IsChoice bytes choice.table choice.report
 Chooses (Err (no.BadLine n)) bytes = IsFirstBadLine IsSomeTable bytes n
 Chooses (Err no.NotValid) bytes = IsUnfitTable bytes
 
 -- What `choose` finds.
 abbrev pub IsChoiceIn : List ℕ → Inspection → Type 0
-IsChoiceIn bytes (found.Choice report) = IsChosen bytes report
+IsChoiceIn bytes (found.Choice choice) = IsChoice bytes choice.table choice.report
 IsChoiceIn bytes it = ⊥
 
 -- A reader gave these bytes, and is at its end.

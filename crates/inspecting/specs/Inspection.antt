@@ -29,13 +29,13 @@ use Rattle.inspecting.specs.declared.inspection.Inspection.TheVariants as found
 
 -- The answer: `Refused` if something is refused, or for a no.
 abbrev pub answer_of : Inspection → Answer
-answer_of (found.Choice report) = Done
-answer_of (found.Verdict is_right) = if is_right then Done else Refused
+answer_of (found.Choice choice) = Done
+answer_of (found.Verdict verdict) = if verdict.is_right then Done else Refused
 answer_of (found.Image description) = Done
-answer_of (found.RefusedImage check) = Refused
+answer_of (found.RefusedImage refused) = Refused
 answer_of (found.Manifest manifest) = Done
-answer_of (found.RefusedManifest error) = Refused
-answer_of (found.RefusedMap error) = Refused
+answer_of (found.RefusedManifest refused) = Refused
+answer_of (found.RefusedMap refused) = Refused
 answer_of (found.State state) = Done
 answer_of found.NoState = Refused
 answer_of (found.Slots state slots) = answer_to slots.decision
@@ -43,13 +43,13 @@ answer_of found.Codes = Done
 
 -- The text.
 abbrev pub text_of : Inspection → List ℕ
-text_of (found.Choice report) = report_text report
-text_of (found.Verdict is_right) = verdict_text is_right
+text_of (found.Choice choice) = report_text choice.report
+text_of (found.Verdict verdict) = verdict_text verdict.is_right
 text_of (found.Image description) = image_text.description_text description
-text_of (found.RefusedImage check) = image_text.refusal_text check
+text_of (found.RefusedImage refused) = image_text.refusal_text refused.fault
 text_of (found.Manifest manifest) = manifest_text.manifest_text manifest
-text_of (found.RefusedManifest error) = manifest_text.refusal_text error
-text_of (found.RefusedMap error) = map_refusal_text error
+text_of (found.RefusedManifest refused) = manifest_text.refusal_text refused.fault
+text_of (found.RefusedMap refused) = map_refusal_text refused.fault
 text_of (found.State state) = state_text state
 text_of found.NoState = refused_fault_text NotProvisioned
 text_of (found.Slots state slots) = state_text state ++ found_text slots
@@ -58,15 +58,16 @@ text_of found.Codes = REFUSALS.now
 -- The members of the object. That of the list of codes is made of its text, and nothing is said of it
 -- here.
 abbrev pub members_of : Inspection → Members
-members_of (found.Choice report) = with_report report no_members
-members_of (found.Verdict is_right) = with_member (codes "right") (boolean is_right) no_members
+members_of (found.Choice choice) = with_report choice.report no_members
+members_of (found.Verdict verdict) =
+    with_member (codes "right") (boolean verdict.is_right) no_members
 members_of (found.Image description) = with_description description no_members
-members_of (found.RefusedImage check) =
-    with_refused (code_json (image.code_of check) (image.name_of check)) no_members
+members_of (found.RefusedImage refused) =
+    with_refused (code_json (image.code_of refused.fault) (image.name_of refused.fault)) no_members
 members_of (found.Manifest manifest) = with_manifest manifest no_members
-members_of (found.RefusedManifest error) =
-    with_refused (code_json (manifest.code_of error) (manifest.name_of error)) no_members
-members_of (found.RefusedMap error) = with_refused (map_json error) no_members
+members_of (found.RefusedManifest refused) = with_refused
+    (code_json (manifest.code_of refused.fault) (manifest.name_of refused.fault)) no_members
+members_of (found.RefusedMap refused) = with_refused (map_json refused.fault) no_members
 members_of (found.State state) = with_state state no_members
 members_of found.NoState = with_refused (fault_json NotProvisioned) no_members
 members_of (found.Slots state slots) = with_state state (with_slots slots no_members)

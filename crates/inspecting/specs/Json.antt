@@ -12,8 +12,6 @@ use Rattle.manifest.specs.Component.{kind_text}
 use Rattle.manifest.specs.declared.manifest.Component.{Component}
 use Rattle.manifest.specs.declared.manifest.Manifest.{Manifest}
 use Rattle.machine.specs.declared.error.Fault.TheVariants as fault
-use Rattle.machine.specs.declared.finding.Finding.{Finding}
-use Rattle.machine.specs.declared.finding.Finding.TheVariants as finding
 use Rattle.device_texts.specs.Json.{dependency_json, fault_json, group_json, number_json, set_numbers, with_code, with_image, with_member, with_refused, with_report, with_some}
 use Rattle.inspecting.specs.StateText as state
 use Rattle.inspecting.specs.SlotsText as slots
@@ -21,6 +19,8 @@ use Rattle.inspecting.specs.declared.flash_state.FlashState.{FlashState}
 use Rattle.inspecting.specs.declared.flash_state.ImageFloor.{ImageFloor}
 use Rattle.inspecting.specs.declared.flash_state.ImageSwap.{ImageSwap}
 use Rattle.inspecting.specs.declared.slots_found.ImageSlots.{ImageSlots}
+use Rattle.inspecting.specs.declared.slots_found.NextDecision.{NextDecision}
+use Rattle.inspecting.specs.declared.slots_found.NextDecision.TheVariants as next
 use Rattle.inspecting.specs.declared.slots_found.SlotContent.{SlotContent}
 use Rattle.inspecting.specs.declared.slots_found.SlotContent.TheVariants as content
 use Rattle.inspecting.specs.declared.slots_found.SlotsFound.{SlotsFound}
@@ -120,12 +120,13 @@ moved_json n None = []
 moved_json n (Some progress) = progress_json n progress ∷ []
 
 -- The members of the decision of the next boot.
-abbrev pub with_decision : Option Finding → Members → Members
+abbrev pub with_decision : Option NextDecision → Members → Members
 with_decision None members = members
-with_decision (Some (finding.Decided table report)) members = with_report report members
-with_decision (Some (finding.Damaged n)) members =
+with_decision (Some (next.Decided table report)) members = with_report report members
+with_decision (Some (next.Damaged n slot)) members =
     with_refused (fault_json (fault.RunningDamaged n)) members
-with_decision (Some finding.Invalid) members = with_refused (fault_json fault.InvalidSet) members
+with_decision (Some (next.Invalid table)) members =
+    with_refused (fault_json fault.InvalidSet) members
 
 -- The members of what the slots hold.
 abbrev pub with_slots : SlotsFound → Members → Members

@@ -10,6 +10,7 @@ pub mod ImageText
 pub mod Inspection
 pub mod Json
 pub mod Key
+pub mod KeySaid
 pub mod ManifestFile
 pub mod ManifestText
 pub mod Merging
@@ -24,12 +25,15 @@ pub mod Release
 pub mod Requested
 pub mod Requests
 pub mod Row
+pub mod RowKey
 pub mod Rows
 pub mod Slots
 pub mod SlotsFound
 pub mod SlotsText
 pub mod StateText
 pub mod Summary
+pub mod SummaryJson
+pub mod SummaryLines
 pub mod SummaryRows
 pub mod SummaryText
 pub mod Written

@@ -8,11 +8,12 @@ use Rattle.std.specs.List.{AllByRecursion, AllZip}
 use Rattle.std.specs.List.Sorted.{IsStrictlySortedBy}
 use Rattle.std.specs.Ordering.{nat_cmp}
 use Rattle.std.specs.declared.cmp.Ordering.TheVariants.{Less}
+use Rattle.device_texts.specs.declared.form.Form.{Form}
 use Rattle.host.specs.declared.answer.Answer.{Answer}
 use Rattle.inspecting.specs.PlanEnd.{IsAnswerFor}
 use Rattle.inspecting.specs.Row.{Row, first_in, row_text, summary_text}
-use Rattle.inspecting.specs.Rows.{AreRows}
 use Rattle.inspecting.specs.Summary.{IsSum}
+use Rattle.inspecting.specs.SummaryJson.{summary_lines}
 use Rattle.inspecting.specs.SummaryRows.{AddsRows}
 use Rattle.inspecting.specs.SummaryText.{FitsRow, IsSummaryText}
 use Rattle.inspecting.specs.declared.fleet.rows.Tally.{Tally}
@@ -48,21 +49,14 @@ abbrev pub has_bad_at : {Y : Type 0} → BTreeMap (String Y) Tally → Bool
 has_bad_at rows =
     is_some (get_by_text rows (codes "bad")) || is_some (get_by_text rows (codes "not-valid"))
 
--- The text of rows in memory is written.
-pub record WritesSum {Y : Type 0} (tallies : BTreeMap (String Y) Tally) (answer : Answer)
-    (old new : Option (List ℕ)) : Type 0 where
-  pub rows : List Row
-  pub are : AreRows rows tallies
-  pub answered : IsAnswerFor (has_bad_at tallies) answer
-  pub written : Appends old new (summary_text rows)
-
--- The texts are those of summaries, and a writer took the text of their sum. The answer says
--- whether a device has no report.
-pub record Merges {Y : Type 0} (texts : List (Vec ℕ Y)) (answer : Answer)
+-- The texts are those of summaries, and a writer took their sum in a form. The answer says whether
+-- a device has no report.
+pub record Merges {Y : Type 0} (texts : List (Vec ℕ Y)) (form : Form) (answer : Answer)
     (old new : Option (List ℕ)) : Type 0 where
   pub parts : List (List Row)
   pub spelled : AllZip IsSummaryText (map (λ text. text.items) texts) parts
   pub rows : List Row
   pub is : IsSum parts rows
   pub answered : IsAnswerFor (has_bad_row rows) answer
-  pub written : Appends old new (summary_text rows)
+  pub notes : List (List ℕ)
+  pub written : Appends old new (summary_lines form rows notes)

@@ -15,14 +15,14 @@ use Rattle.host.specs.Inputs.{GiveEach, names_of}
 use Rattle.inspecting.specs.Merging.{has_bad_row}
 use Rattle.inspecting.specs.PlanEnd.{IsAnswerFor, WritesPlan}
 use Rattle.inspecting.specs.Release.{IsRelease}
-use Rattle.inspecting.specs.Row.{Row, summary_text}
+use Rattle.inspecting.specs.Row.{Row}
 use Rattle.inspecting.specs.Summary.{IsSum}
+use Rattle.inspecting.specs.SummaryJson.{summary_lines}
 use Rattle.inspecting.specs.SummaryText.{IsSummaryText}
 use Rattle.inspecting.specs.declared.fleet.telling.Telling.{Telling}
 use Rattle.inspecting.specs.declared.fleet.telling.Telling.TheVariants as tell
 
--- A fleet was read, and a text of its plan was written: each device with its result, or their
--- summary.
+-- A fleet was read, and its plan was written: each device with its result, or their summary.
 pub record PlansSource (answer : Answer) (fleet : Source) (entries : List (Option Entry))
     (telling : Telling) (input : Option (List ℕ)) (file : FileBytes) (old new : Option (List ℕ))
     : Type 0 where
@@ -45,8 +45,8 @@ pub record ReadsEach (names : List (Bor (List ℕ))) (input : Option (List ℕ))
   pub named : AllZip IsNamed (names_of names) sources
   pub given : GiveEach sources input file texts
 
--- Summaries were read, and their sum was written.
-pub record AnswersMerge (answer : Answer) (names : List (Bor (List ℕ))) (input : Option (List ℕ))
+-- Summaries were read, and their sum was written in a form.
+pub record AnswersMerge (form : Form) (answer : Answer) (names : List (Bor (List ℕ))) (input : Option (List ℕ))
     (file : FileBytes) (old new : Option (List ℕ)) : Type 0 where
   pub texts : List (List ℕ)
   pub read : ReadsEach names input file texts
@@ -55,18 +55,19 @@ pub record AnswersMerge (answer : Answer) (names : List (Bor (List ℕ))) (input
   pub rows : List Row
   pub is : IsSum parts rows
   pub answered : IsAnswerFor (has_bad_row rows) answer
-  pub written : Appends old new (summary_text rows)
+  pub notes : List (List ℕ)
+  pub written : Appends old new (summary_lines form rows notes)
 
 -- How results are written in a form, with or without `--summary`.
 abbrev pub telling_of : Form → Bool → Telling
-telling_of form true = tell.Summary
+telling_of form true = tell.Summary form
 telling_of form false = tell.Devices form
 
--- The answer to an order in a form. Summaries and their sums have texts only.
+-- The answer to an order in a form.
 abbrev pub AnswersPlan : Form → Answer → PlanOrder → Option (List ℕ) → FileBytes
     → Option (List ℕ) → Option (List ℕ) → Type 0
 AnswersPlan form answer (Fleet fleet requests is_summary) input file old new =
     (source : Source) × IsNamed fleet.now source
     × AnswersFleet answer source requests.items (telling_of form is_summary) input file old new
 AnswersPlan form answer (Merge summaries) input file old new =
-    AnswersMerge answer summaries.items input file old new
+    AnswersMerge form answer summaries.items input file old new

@@ -6,8 +6,9 @@ use Rattle.host.specs.declared.answer.Answer.{Answer}
 use Rattle.host.specs.declared.answer.Answer.TheVariants.{Done, Refused, Cut}
 use Rattle.inspecting.specs.Plan.{IsPlan, Planned, has_bad, plan_text}
 use Rattle.inspecting.specs.Planning.{Stands, told_text}
-use Rattle.inspecting.specs.Row.{Row, summary_text}
+use Rattle.inspecting.specs.Row.{Row}
 use Rattle.inspecting.specs.Summary.{IsSummary}
+use Rattle.inspecting.specs.SummaryJson.{summary_lines}
 use Rattle.inspecting.specs.declared.fleet.planner.Planner.{Planner}
 use Rattle.inspecting.specs.declared.fleet.telling.Telling.{Telling}
 use Rattle.inspecting.specs.declared.fleet.telling.Telling.TheVariants as tell
@@ -18,11 +19,12 @@ IsAnswerFor bad Done = bad ≡ false
 IsAnswerFor bad Refused = bad ≡ true
 IsAnswerFor bad Cut = ⊥
 
--- A text of a plan: each device with its result in order, in a form, or the summary.
+-- A text of a plan in a form: each device with its result in order, or the summary.
 abbrev pub IsPlanText : Telling → List Planned → List ℕ → Type 0
 IsPlanText (tell.Devices form) plan text = text ≡ plan_text form plan
-IsPlanText tell.Summary plan text =
-    (rows : List Row) × IsSummary plan rows × (text ≡ summary_text rows)
+IsPlanText (tell.Summary form) plan text =
+    (rows : List Row) × IsSummary plan rows
+    × (notes : List (List ℕ)) × (text ≡ summary_lines form rows notes)
 
 -- A writer took a text of the plan of a fleet.
 pub record WritesPlan (entries : List (Option Entry)) (bytes : List ℕ) (telling : Telling)

@@ -41,14 +41,14 @@ AreLinesOf lines plan (Some current) =
 -- What is written of devices while a fleet is read.
 abbrev pub told_text : Telling → List Planned → List ℕ
 told_text (tell.Devices form) plan = plan_text form plan
-told_text tell.Summary plan = []
+told_text (tell.Summary form) plan = []
 
--- Devices are written in this form, or a summary has these.
+-- Devices are written in this form, or a summary has them, to be written in it.
 abbrev pub IsTold : Telling → Told → List Planned → Type 0
 IsTold (tell.Devices form) (how.Written used) plan = used ≡ form
-IsTold (tell.Devices form) (how.Counted summary) plan = ⊥
-IsTold tell.Summary (how.Written used) plan = ⊥
-IsTold tell.Summary (how.Counted summary) plan = Summarizes plan summary
+IsTold (tell.Devices form) (how.Counted used summary) plan = ⊥
+IsTold (tell.Summary form) (how.Written used) plan = ⊥
+IsTold (tell.Summary form) (how.Counted used summary) plan = (used ≡ form) × Summarizes plan summary
 
 -- A device with its result is written or summarized.
 abbrev pub Tells : Planned → Told → Told → Option (List ℕ) → Option (List ℕ) → Type 0

@@ -10,7 +10,7 @@ use Rattle.inspecting.specs.declared.fleet.rows.Tally.{Tally}
 
 -- The row of a key and its tally.
 abbrev pub row_at : List ℕ → Tally → Row
-row_at key tally = record { count = tally.count; first = tally.first.items; key = key }
+row_at key tally = record { count = tally.count; first = string_bytes tally.first; key = key }
 
 -- The line of a row, with its line feed.
 abbrev pub row_line : List ℕ → Tally → List ℕ
@@ -23,7 +23,7 @@ module _ {Y : Type 0} where
 
   -- The first device that has a key by these rows.
   abbrev pub first_at : BTreeMap (String Y) Tally → List ℕ → Option (List ℕ)
-  first_at rows key = option_map (λ tally. tally.first.items) (get_by_text rows key)
+  first_at rows key = option_map (λ tally. string_bytes tally.first) (get_by_text rows key)
 
   -- One more row is added.
   pub record AddsRow (row : Row) (old new : BTreeMap (String Y) Tally) : Type 0 where

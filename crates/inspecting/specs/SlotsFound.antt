@@ -18,10 +18,15 @@ use Rattle.set_log.specs.declared.state.RecordKind.{RecordKind}
 use Rattle.set_log.specs.declared.state.RecordKind.TheVariants.{Steady, Swap, Settle, Trial, Back, BackSettle}
 use Rattle.set_log.specs.declared.state.State.{State}
 use Rattle.upload.specs.View.{view}
-use Rattle.machine.specs.Reading.{IsFinding}
+use Rattle.certificate.specs.declared.table.Table.{Table}
+use Rattle.machine.specs.Reading.{IsFinding, IsReading}
 use Rattle.machine.specs.declared.finding.Finding.{Finding}
-use Rattle.decision.specs.Found.{IsFindingAt, IsReadBy}
+use Rattle.machine.specs.declared.finding.Finding.TheVariants as finding
+use Rattle.machine.specs.declared.finding.Reading.TheVariants.{Read}
+use Rattle.decision.specs.Found.{AreRowsHeld, IsFindingAt, IsReadBy}
 use Rattle.inspecting.specs.declared.slots_found.ImageSlots.{ImageSlots}
+use Rattle.inspecting.specs.declared.slots_found.NextDecision.{NextDecision}
+use Rattle.inspecting.specs.declared.slots_found.NextDecision.TheVariants as next
 use Rattle.inspecting.specs.declared.slots_found.SlotContent.{SlotContent}
 use Rattle.inspecting.specs.declared.slots_found.SlotContent.TheVariants.{Damaged, Erased, Intact}
 use Rattle.inspecting.specs.declared.slots_found.SlotsFound.{SlotsFound}
@@ -87,20 +92,42 @@ abbrev pub AreSlotsUpTo : SectorMap → Chip → State → ℕ → List ImageSlo
 AreSlotsUpTo map chip state n all =
     AllZip (AreSlotsOf map chip state) (range_with_len 0 n) all
 
+-- What a boot finds if it decides this.
+abbrev pub finding_of : NextDecision → Finding
+finding_of (next.Decided table report) = finding.Decided table report
+finding_of (next.Damaged image slot) = finding.Damaged image
+finding_of (next.Invalid table) = finding.Invalid
+
+-- The table of the state that a device at rest holds. On any flash, its rows are those of the images
+-- on the flash.
+pub record IsRestingTable (map : SectorMap) (chip : Chip) (floors : List ℕ) (table : Table)
+    : Type 0 where
+  pub of : IsReadBy IsReading map chip 0 floors (Read table)
+  pub held : AreRowsHeld (view map chip) 0 table.images.items
+
+-- Why a boot is refused: the bytes of the damaged image's slot, or the table whose running images
+-- don't fit each other.
+abbrev pub HasCause : SectorMap → Chip → List ℕ → NextDecision → Type 0
+HasCause map chip floors (next.Decided table report) = Unit {0}
+HasCause map chip floors (next.Damaged image slot) =
+    slot.items ≡ slot_bytes map chip image Primary
+HasCause map chip floors (next.Invalid table) = IsRestingTable map chip floors table
+
 -- The decision of the next boot of a device at rest. The finding is that of the state that the
 -- device holds: the decision over its table, or the lowest running image that can't be read.
-pub record IsNextDecision (map : SectorMap) (chip : Chip) (floors : List ℕ) (finding : Finding)
-    : Type 0 where
-  pub of : IsReadBy IsFinding map chip 0 floors finding
-  pub front : IsFindingAt (view map chip) 0 finding
+pub record IsNextDecision (map : SectorMap) (chip : Chip) (floors : List ℕ)
+    (decision : NextDecision) : Type 0 where
+  pub of : IsReadBy IsFinding map chip 0 floors (finding_of decision)
+  pub front : IsFindingAt (view map chip) 0 (finding_of decision)
+  pub cause : HasCause map chip floors decision
 
 -- The decision of the next boot is found exactly if the log says that the device is at rest. Else
 -- the boot continues what was begun.
-pub record IsDecisionOf (map : SectorMap) (chip : Chip) (state : State) (found : Option Finding)
-    : Type 0 where
+pub record IsDecisionOf (map : SectorMap) (chip : Chip) (state : State)
+    (found : Option NextDecision) : Type 0 where
   pub rests : state.kind ≡ Steady
-      → (finding : Finding) × (found ≡ Some finding)
-      × IsNextDecision map chip state.floors finding
+      → (decision : NextDecision) × (found ≡ Some decision)
+      × IsNextDecision map chip state.floors decision
   pub goes_on : state.kind ≢ Steady → found ≡ None
 
 -- What is found of a device whose log has this state.

@@ -8,12 +8,12 @@ use Rattle.swap_scratch.specs.declared.progress.Progress.{Progress}
 use Rattle.image_reading.specs.Codes.{code_of, name_of}
 use Rattle.certificate.specs.ReportText.{report_text}
 use Rattle.machine.specs.declared.error.Fault.TheVariants.{InvalidSet, RunningDamaged}
-use Rattle.machine.specs.declared.finding.Finding.{Finding}
-use Rattle.machine.specs.declared.finding.Finding.TheVariants as finding
 use Rattle.device_texts.specs.AnswerText.{line_text}
 use Rattle.inspecting.specs.ImageText.{description_text}
 use Rattle.device_texts.specs.ReplyText.{refused_fault_text}
 use Rattle.inspecting.specs.declared.slots_found.ImageSlots.{ImageSlots}
+use Rattle.inspecting.specs.declared.slots_found.NextDecision.{NextDecision}
+use Rattle.inspecting.specs.declared.slots_found.NextDecision.TheVariants as next
 use Rattle.inspecting.specs.declared.slots_found.SlotContent.{SlotContent}
 use Rattle.inspecting.specs.declared.slots_found.SlotContent.TheVariants.{Damaged, Erased, Intact}
 use Rattle.inspecting.specs.declared.slots_found.SlotsFound.{SlotsFound}
@@ -51,11 +51,11 @@ image_text slots =
     ++ moved_text slots.image slots.moved))))
 
 -- The text of the decision of the next boot.
-abbrev pub decision_text : Option Finding → List ℕ
+abbrev pub decision_text : Option NextDecision → List ℕ
 decision_text None = []
-decision_text (Some (finding.Decided table report)) = report_text report
-decision_text (Some (finding.Damaged image)) = refused_fault_text (RunningDamaged image)
-decision_text (Some finding.Invalid) = refused_fault_text InvalidSet
+decision_text (Some (next.Decided table report)) = report_text report
+decision_text (Some (next.Damaged image slot)) = refused_fault_text (RunningDamaged image)
+decision_text (Some (next.Invalid table)) = refused_fault_text InvalidSet
 
 -- The text of all that is found.
 abbrev pub found_text : SlotsFound → List ℕ

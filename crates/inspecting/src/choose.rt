@@ -3,15 +3,24 @@ ghost use Rattle.std.specs.Prelude.{ℕ, List, IfOk};
 ghost use Rattle.inspecting.specs.Answers.{FindsChoice};
 ghost use Rattle.inspecting.specs.Choose.{Chooses, Reads, Writes};
 
-use crate::answer::write_answer;
 use crate::inspection::Inspection;
 use crate::reading::{ReadError, read_all};
 use crate::table_input::{Text, read_text};
 use certificate::{Report, Table, is_valid, right_reports_have_a_text};
 use chooser::choose;
-use host::{Answer, Host, Refusal, Source};
+use device_texts::write_all;
+use host::{BadText, Host, Refusal, Source};
 use std::alloc::Global;
 use std::io::{Read, Write};
+
+/// A table, and the report on it.
+#[derive(Drop)]
+pub struct Choice {
+    /// The table.
+    pub table: Table,
+    /// The right report on the table.
+    pub report: Report,
+}
 
 /// Reads a table from `host` into memory of `alloc`, and returns the report on it.
 pub fn inspect_table<H: Host>(
@@ -24,9 +33,9 @@ pub fn inspect_table<H: Host>(
 {
     let bytes = read_text(alloc, Text::Table, table, host)?;
     match choice_in(&bytes) {
-        Ok(report) => Ok(Inspection::Choice(report)),
-        Err(NoChoice::BadLine(line)) => Err(Refusal::TableLine(line)),
-        Err(NoChoice::NotValid) => Err(Refusal::NotValid),
+        Ok(choice) => Ok(Inspection::Choice(choice)),
+        Err(NoChoice::BadLine(line)) => Err(Refusal::TableLine(BadText { text: bytes, line })),
+        Err(NoChoice::NotValid) => Err(Refusal::NotValid(bytes)),
     }
 }
 
@@ -63,13 +72,15 @@ pub fn choose_over<R: Read, W: Write>(alloc: Global, input: &mut R, out: &mut W)
         Err(ReadError::Failed) => return ChooseEnd::ReadFailed,
     };
     let report = match choice_in(&bytes) {
-        Ok(report) => report,
+        Ok(choice) => choice.report,
         Err(NoChoice::BadLine(line)) => return ChooseEnd::BadLine(line),
         Err(NoChoice::NotValid) => return ChooseEnd::NotValid,
     };
-    match write_answer(Answer::Done, format!(in alloc; "{report}"), out) {
-        Ok(_) => ChooseEnd::Done,
-        Err(Refusal::NoMemory) => ChooseEnd::NoMemory,
+    let Ok(text) = format!(in alloc; "{report}") else {
+        return ChooseEnd::NoMemory;
+    };
+    match write_all(out, text.as_bytes()) {
+        Ok(()) => ChooseEnd::Done,
         Err(_) => ChooseEnd::WriteFailed,
     }
 }
@@ -83,8 +94,8 @@ pub enum NoChoice {
     NotValid,
 }
 
-/// Returns the report on the table that `bytes` spell. Does not allocate.
-pub fn choice_in(bytes: &[u8]) -> Result<Report, NoChoice>
+/// Returns the table that `bytes` spell, and the report on it. Does not allocate.
+pub fn choice_in(bytes: &[u8]) -> Result<Choice, NoChoice>
     ensures { Chooses result bytes.now }
 {
     let table = match Table::parse(bytes) {
@@ -95,5 +106,6 @@ pub fn choice_in(bytes: &[u8]) -> Result<Report, NoChoice>
         return Err(NoChoice::NotValid);
     }
     right_reports_have_a_text();
-    Ok(choose(&table))
+    let report = choose(&table);
+    Ok(Choice { table, report })
 }

@@ -30,7 +30,7 @@ pub enum FlashText {
 /// Reads a device file and the bytes of the device's flash from `host` into memory of `alloc`, and
 /// returns `what` is on the flash.
 ///
-/// The device file is checked before the flash is read. If its sizes make no map, that is returned
+/// The device file is checked before the flash is read. If its sizes make no map, it is returned
 /// instead. No file changes, and the flash is opened only for reading.
 pub fn inspect_flash<H: Host>(
     alloc: Global,
@@ -52,7 +52,7 @@ pub fn inspect_flash<H: Host>(
                 Err(AllocError) => Err(Refusal::NoMemory),
             }
         }
-        Err(fault) => Ok(Inspection::RefusedMap(fault)),
+        Err(refused) => Ok(Inspection::RefusedMap(refused)),
     }
 }
 
@@ -82,7 +82,7 @@ pub fn found_on<L: Ledger>(
     Ok(match what {
         FlashText::State => Inspection::State(found),
         FlashText::Slots => {
-            let slots = find_slots(&mut flash, map, &found.state);
+            let slots = find_slots(alloc, &mut flash, map, &found.state)?;
             Inspection::Slots(found, slots)
         }
     })

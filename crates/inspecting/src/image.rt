@@ -16,8 +16,17 @@ use std::alloc::{AllocError, Global};
 use std::fmt;
 use version_order::{Dependency, Group};
 
-/// Reads an image from `host` into memory of `alloc`, and returns its description, or the first check
-/// that fails.
+/// Bytes that aren't an intact image.
+#[derive(Drop)]
+pub struct RefusedImage {
+    /// The bytes.
+    pub bytes: Vec<u8>,
+    /// The first check that they fail.
+    pub fault: ImageError,
+}
+
+/// Reads an image from `host` into memory of `alloc`, and returns its description, or the bytes and
+/// the first check that fails.
 pub fn inspect_image<H: Host>(
     alloc: Global,
     image: Source<'_>,
@@ -27,17 +36,17 @@ pub fn inspect_image<H: Host>(
         (H.input host.old) (H.file host.old) found) }
 {
     let bytes = image.read(alloc, host, MOST_FILE)?;
-    Ok(description_in(&bytes))
+    Ok(description_in(bytes))
 }
 
 /// Returns the description of the image that `bytes` are. If they aren't an intact image, returns
-/// the first check that fails. Does not allocate.
-pub fn description_in(bytes: &[u8]) -> Inspection
-    ensures { IsDescribed bytes.now result }
+/// them with the first check that fails. Does not allocate.
+pub fn description_in(bytes: Vec<u8>) -> Inspection
+    ensures { IsDescribed bytes.items result }
 {
-    match describe(bytes) {
+    match describe(&bytes) {
         Ok(description) => Inspection::Image(description),
-        Err(fault) => Inspection::RefusedImage(fault),
+        Err(fault) => Inspection::RefusedImage(RefusedImage { bytes, fault }),
     }
 }
 

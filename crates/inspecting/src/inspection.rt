@@ -6,12 +6,15 @@ ghost use Rattle.inspecting.specs.Inspection.{WritesInspection, answer_of, membe
 ghost use Rattle.device_texts.specs.declared.form.Form.TheVariants as form;
 
 use crate::answer::{write_answer, write_text};
+use crate::check::Verdict;
+use crate::choose::Choice;
 use crate::flash_state::FlashState;
+use crate::image::RefusedImage;
 use crate::json::{put_description, put_manifest, put_slots, put_state};
+use crate::manifest_file::RefusedManifest;
 use crate::slots::{answer_to, listing_text};
 use crate::slots_found::SlotsFound;
 use crate::{check, image, manifest_file, show};
-use certificate::Report;
 use command_line::REFUSALS;
 use device_texts::json::{
     Object, code_value, fault_value, map_value, put_notes, put_refused, put_report, put_value,
@@ -19,31 +22,31 @@ use device_texts::json::{
 };
 use device_texts::{Form, map_refusal_text, refused_fault_text, write_all};
 use host::{Answer, Refusal};
-use image_reading::{Desc, ImageError};
+use image_reading::Desc;
+use inputs::BadMap;
 use machine::Fault;
-use manifest::{Manifest, ManifestError};
-use sector_map::MapError;
+use manifest::Manifest;
 use serde_json::{Map, Value};
 use std::alloc::{AllocError, Global};
 use std::io::Write;
 
-/// What a read-only command finds in its inputs.
+/// What a read-only command finds in its inputs. It owns what the notes of `--explain` need.
 #[derive(Drop)]
 pub enum Inspection {
-    /// The right report on a table.
-    Choice(Report),
+    /// A table, and the right report on it.
+    Choice(Choice),
     /// Whether a report is right for a table.
-    Verdict(bool),
+    Verdict(Verdict),
     /// The description of an intact image.
     Image(Desc),
-    /// Bytes that aren't an intact image fail this check first.
-    RefusedImage(ImageError),
+    /// Bytes that aren't an intact image.
+    RefusedImage(RefusedImage),
     /// A manifest for a device.
     Manifest(Manifest),
-    /// Bytes that aren't a manifest for a device have this lowest refusal.
-    RefusedManifest(ManifestError),
-    /// The sizes in a device file make no map, for this reason.
-    RefusedMap(MapError),
+    /// A text that isn't a manifest for a device.
+    RefusedManifest(RefusedManifest),
+    /// A device file whose sizes make no map.
+    RefusedMap(BadMap),
     /// The state of a device.
     State(FlashState),
     /// The log of a flash has no state.
@@ -61,16 +64,15 @@ impl Inspection {
     {
         match self {
             Inspection::Choice(_)
-            | Inspection::Verdict(true)
             | Inspection::Image(_)
             | Inspection::Manifest(_)
             | Inspection::State(_)
             | Inspection::Codes => Answer::Done,
-            Inspection::Verdict(false)
-            | Inspection::RefusedImage(_)
+            Inspection::RefusedImage(_)
             | Inspection::RefusedManifest(_)
             | Inspection::RefusedMap(_)
             | Inspection::NoState => Answer::Refused,
+            Inspection::Verdict(verdict) => check::verdict_answer(verdict.is_right),
             Inspection::Slots(_, slots) => answer_to(&slots.decision),
         }
     }
@@ -80,16 +82,18 @@ impl Inspection {
         ensures { IfOk result (λ text. string_bytes text ≡ text_of self.now) }
     {
         match self {
-            Inspection::Choice(report) => format!(in alloc; "{report}"),
-            Inspection::Verdict(is_right) => String::from_str(
+            Inspection::Choice(Choice { report, .. }) => format!(in alloc; "{report}"),
+            Inspection::Verdict(verdict) => String::from_str(
                 alloc,
-                check::verdict_text(*is_right),
+                check::verdict_text(verdict.is_right),
             ),
             Inspection::Image(description) => image::description_text(alloc, description),
-            Inspection::RefusedImage(check) => image::refusal_text(alloc, *check),
+            Inspection::RefusedImage(refused) => image::refusal_text(alloc, refused.fault),
             Inspection::Manifest(manifest) => manifest_file::manifest_text(alloc, manifest),
-            Inspection::RefusedManifest(error) => manifest_file::refusal_text(alloc, *error),
-            Inspection::RefusedMap(error) => map_refusal_text(alloc, *error),
+            Inspection::RefusedManifest(refused) => {
+                manifest_file::refusal_text(alloc, refused.fault)
+            }
+            Inspection::RefusedMap(refused) => map_refusal_text(alloc, refused.fault),
             Inspection::State(state) => show::state_text(alloc, state),
             Inspection::NoState => refused_fault_text(alloc, Fault::NotProvisioned),
             Inspection::Slots(state, slots) => listing_text(alloc, state, slots),
@@ -112,31 +116,25 @@ impl Inspection {
         ensures { OnOk result (members_view object.new.entries ≡ members_of self.now) }
     {
         match self {
-            Inspection::Choice(report) => put_report(alloc, object, report),
-            Inspection::Verdict(is_right) => put_value(
+            Inspection::Choice(choice) => put_report(alloc, object, &choice.report),
+            Inspection::Verdict(verdict) => put_value(
                 alloc,
                 object,
                 "right",
-                Value::Bool(*is_right),
+                Value::Bool(verdict.is_right),
             ),
             Inspection::Image(description) => put_description(alloc, object, description),
-            Inspection::RefusedImage(check) => {
-                put_refused(
-                    alloc,
-                    object,
-                    code_value(alloc, check.code(), check.name())?,
-                )
+            Inspection::RefusedImage(refused) => {
+                let (code, name) = (refused.fault.code(), refused.fault.name());
+                put_refused(alloc, object, code_value(alloc, code, name)?)
             }
             Inspection::Manifest(manifest) => put_manifest(alloc, object, manifest),
-            Inspection::RefusedManifest(error) => {
-                put_refused(
-                    alloc,
-                    object,
-                    code_value(alloc, error.code(), error.name())?,
-                )
+            Inspection::RefusedManifest(refused) => {
+                let (code, name) = (refused.fault.code(), refused.fault.name());
+                put_refused(alloc, object, code_value(alloc, code, name)?)
             }
-            Inspection::RefusedMap(error) => {
-                put_refused(alloc, object, map_value(alloc, *error)?)
+            Inspection::RefusedMap(refused) => {
+                put_refused(alloc, object, map_value(alloc, refused.fault)?)
             }
             Inspection::State(state) => put_state(alloc, object, state),
             Inspection::NoState => {
@@ -174,9 +172,9 @@ pub fn write_inspection<W: Write>(
     let answer = found.answer();
     match form {
         Form::Text => match found {
-            Inspection::Verdict(is_right) => write_text(
+            Inspection::Verdict(verdict) => write_text(
                 answer,
-                check::verdict_text(*is_right),
+                check::verdict_text(verdict.is_right),
                 out,
             ),
             Inspection::Codes => write_text(answer, REFUSALS, out),

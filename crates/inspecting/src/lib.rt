@@ -33,17 +33,17 @@ mod slots_found;
 mod slots_text;
 mod table_input;
 
-pub use check::{is_right, table_in};
-pub use choose::{ChooseEnd, choice_in, choose_over};
+pub use check::{Verdict, table_in, verdict_in};
+pub use choose::{Choice, ChooseEnd, choice_in, choose_over};
 pub use flash_state::{FlashState, ImageFloor, ImageSwap};
 pub use flash_text::{FlashText, found_on};
 pub use fleet::{
-    Decision, MergeFault, MergeRefusal, NoPlanNotes, Outcome, PlanNotes, Requests, Telling,
-    merge_over, plan_over, run_plan, sums_are_summaries,
+    Decision, MergeFault, MergeRefusal, NoPlanNotes, Outcome, PlanNotes, Requests, RowKey, Rows,
+    Tally, Telling, keys_are_read_back, merge_over, plan_over, run_plan, sums_are_summaries,
 };
-pub use image::description_in;
+pub use image::{RefusedImage, description_in};
 pub use inspection::{Inspection, write_inspection};
-pub use manifest_file::manifest_in;
+pub use manifest_file::{RefusedManifest, manifest_in};
 pub use program::{inspect, run_inspection};
 pub use reading::{ReadError, read_all};
-pub use slots_found::{ImageSlots, SlotContent, SlotsFound};
+pub use slots_found::{ImageSlots, NextDecision, SlotContent, SlotsFound};

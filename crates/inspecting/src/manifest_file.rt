@@ -13,11 +13,22 @@ use inputs::device_or_fault;
 use manifest::{Component, Identity, Manifest, ManifestError};
 use std::alloc::{AllocError, Global};
 
-/// Reads a device file and a manifest from `host`. Returns the contents of the manifest, or why it
-/// isn't one for the device.
+/// A text that isn't a manifest for a device.
+#[derive(Drop)]
+pub struct RefusedManifest {
+    /// The text.
+    pub text: Vec<u8>,
+    /// The identity of the device.
+    pub identity: Identity,
+    /// The lowest refusal that applies.
+    pub fault: ManifestError,
+}
+
+/// Reads a device file and a manifest from `host`. Returns the contents of the manifest, or its text
+/// and why it isn't one for the device.
 ///
 /// Both files and their JSON values are in memory of `alloc`. The device file is checked before the
-/// manifest is read. If its sizes make no map, that is returned.
+/// manifest is read. If its sizes make no map, it is returned.
 pub fn inspect_manifest<H: Host>(
     alloc: Global,
     device: Source<'_>,
@@ -29,38 +40,43 @@ pub fn inspect_manifest<H: Host>(
 {
     match device_or_fault(alloc, device, host)? {
         Ok(of_device) => {
-            let bytes = file.read(alloc, host, MOST_JSON)?;
-            manifest_in(alloc, &bytes, &of_device.identity)
+            let text = file.read(alloc, host, MOST_JSON)?;
+            manifest_in(alloc, text, of_device.identity)
         }
-        Err(fault) => Ok(Inspection::RefusedMap(fault)),
+        Err(refused) => Ok(Inspection::RefusedMap(refused)),
     }
 }
 
-/// Returns the contents of the manifest that `bytes` are for a device of this identity. If they
-/// aren't such a manifest, returns the lowest refusal that applies. The JSON value is in memory of
+/// Returns the contents of the manifest that `text` is for a device of this identity. If it isn't
+/// such a manifest, returns it with the lowest refusal that applies. The JSON value is in memory of
 /// `alloc`.
 ///
 /// # Errors
 /// `NoMemory` if memory runs out.
-pub fn manifest_in(alloc: Global, bytes: &[u8], identity: &Identity) -> Result<Inspection, Refusal>
-    ensures read { IfOk result (λ found. IsManifestRead identity.now bytes.now found) }
+pub fn manifest_in(alloc: Global, text: Vec<u8>, identity: Identity) -> Result<Inspection, Refusal>
+    ensures read { IfOk result (λ found. IsManifestRead identity text.items found) }
     ensures no_memory { IfErr result (λ refusal. refusal ≡ Refusal.NoMemory) }
 {
-    match Manifest::read(alloc, bytes, identity) {
+    match Manifest::read(alloc, &text, &identity) {
         Ok(manifest) => Ok(Inspection::Manifest(manifest)),
-        Err(fault) => refused(fault),
+        Err(fault) => refused(RefusedManifest {
+            text,
+            identity,
+            fault,
+        }),
     }
 }
 
-/// Returns why bytes aren't a manifest. Lack of memory says nothing about them, so it is an error.
-fn refused(fault: ManifestError) -> Result<Inspection, Refusal>
-    ensures refused { IfOk result (λ found.
-        (fault ≢ ManifestError.NoMemory) × (found ≡ Inspection.RefusedManifest fault)) }
+/// Returns what was found of a text that isn't a manifest. Lack of memory says nothing about the
+/// text, so it is an error.
+fn refused(manifest: RefusedManifest) -> Result<Inspection, Refusal>
+    ensures refused { IfOk result (λ found. (manifest.fault ≢ ManifestError.NoMemory)
+        × (found ≡ Inspection.RefusedManifest manifest)) }
     ensures no_memory { IfErr result (λ refusal. refusal ≡ Refusal.NoMemory) }
 {
-    match fault {
+    match manifest.fault {
         ManifestError::NoMemory => Err(Refusal::NoMemory),
-        _ => Ok(Inspection::RefusedManifest(fault)),
+        _ => Ok(Inspection::RefusedManifest(manifest)),
     }
 }
 

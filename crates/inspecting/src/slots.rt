@@ -6,10 +6,9 @@ ghost use Rattle.inspecting.specs.StateText.{state_text};
 
 use crate::flash_state::FlashState;
 use crate::show::state_text;
-use crate::slots_found::SlotsFound;
+use crate::slots_found::{NextDecision, SlotsFound};
 use crate::slots_text::write_found;
 use host::Answer;
-use machine::Finding;
 use std::alloc::{AllocError, Global};
 
 /// The text of the state of a device, and of what its slots hold.
@@ -27,11 +26,11 @@ pub(crate) fn listing_text(
 }
 
 /// The answer if the next boot would decide this: `Refused` if the boot would be refused.
-pub(crate) fn answer_to(decision: &Option<Finding>) -> Answer
+pub(crate) fn answer_to(decision: &Option<NextDecision>) -> Answer
     ensures { result ≡ answer_to decision.now }
 {
     match decision {
-        None | Some(Finding::Decided { .. }) => Answer::Done,
-        Some(Finding::Damaged(_)) | Some(Finding::Invalid) => Answer::Refused,
+        None | Some(NextDecision::Decided { .. }) => Answer::Done,
+        Some(NextDecision::Damaged { .. }) | Some(NextDecision::Invalid { .. }) => Answer::Refused,
     }
 }

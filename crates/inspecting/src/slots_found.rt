@@ -1,20 +1,26 @@
 //! Finds what the slots of a device hold. Only `slots` calls it.
-ghost use Rattle.std.specs.Prelude.{◌<◌, ◌≡◌, ◌↔◌, IsTrue, true};
+ghost use Rattle.std.specs.Prelude.{◌<◌, ◌≡◌, ◌↔◌, IfOk, IsTrue, true};
+ghost use Rattle.decision.specs.Found.{AreReadable};
 ghost use Rattle.flash_model.specs.Chip.{Chip};
+ghost use Rattle.image_reading.specs.Slot.{slot_bytes};
 ghost use Rattle.sector_map.specs.Map.{IsLaidOut};
 ghost use Rattle.trailer.specs.Standing.{standing_of};
+ghost use Rattle.upload.specs.View.{view};
 ghost use Rattle.inspecting.specs.SlotsFound.{AreFound, AreSlotsOf, AreSlotsUpTo, CanLook, IsContent};
-ghost use Rattle.inspecting.specs.SlotsFound.{IsDecisionOf, IsErasedSlot, counting_side, moved_in};
+ghost use Rattle.inspecting.specs.SlotsFound.{IsDecisionOf, IsErasedSlot, IsRestingTable};
+ghost use Rattle.inspecting.specs.SlotsFound.{counting_side, moved_in};
 ghost use Rattle.inspecting.specs.SlotsFound.{progress_of, progress_on};
 
 use arrayvec::ArrayVec;
+use certificate::{Report, Table};
 use common::limits::MOST_IMAGES;
-use decision::find;
+use decision::{find, read_table};
 use flash_model::{Flash, is_erased};
 use image_reading::{Desc, ImageError, SlotError, describe_slot};
-use machine::Finding;
+use machine::{Finding, Reading};
 use sector_map::{SectorMap, Side, is_member};
 use set_log::{RecordKind, State};
+use std::alloc::{AllocError, Global};
 use swap_scratch::{Progress, swap_progress};
 use trailer::{Kind, standing};
 
@@ -45,25 +51,57 @@ pub struct ImageSlots {
     pub moved: Option<Progress>,
 }
 
+/// What the next boot of a device at rest decides.
+#[derive(Drop)]
+pub enum NextDecision {
+    /// The running images fit each other.
+    Decided {
+        /// The table of the device.
+        table: Table,
+        /// The right report on it.
+        report: Report,
+    },
+    /// A running image isn't intact. The boot is refused.
+    Damaged {
+        /// The number of the lowest such image.
+        image: u8,
+        /// The bytes of its primary slot.
+        slot: Vec<u8>,
+    },
+    /// The running images don't fit each other. The boot is refused.
+    Invalid {
+        /// The table of the device.
+        table: Table,
+    },
+}
+
 /// What is found of a device.
 #[derive(Drop)]
 pub struct SlotsFound {
     /// What is found of each image.
     pub images: ArrayVec<ImageSlots, MOST_IMAGES>,
     /// The decision of the next boot, if the device is at rest.
-    pub decision: Option<Finding>,
+    pub decision: Option<NextDecision>,
 }
 
 /// Finds the slots and the next decision of a device whose log has this state. The flash has power.
-pub(crate) fn find_slots<F: Flash>(flash: &mut F, map: &SectorMap, state: &State) -> SlotsFound
+///
+/// # Errors
+/// `AllocError` if memory of `alloc` runs out for the bytes of a damaged slot.
+pub(crate) fn find_slots<F: Flash>(
+    alloc: Global,
+    flash: &mut F,
+    map: &SectorMap,
+    state: &State,
+) -> Result<SlotsFound, AllocError>
     requires laid_out { IsLaidOut map.now (F.chip flash.old) }
     requires on { (F.chip flash.old).is_on ≡ true }
     ensures same { F.chip flash.new ≡ F.chip flash.old }
-    ensures found { AreFound map.now (F.chip flash.old) state.now result }
+    ensures found { IfOk result (AreFound map.now (F.chip flash.old) state.now) }
 {
     let images = find_images(flash, map, state);
-    let decision = next_decision(flash, map, state);
-    SlotsFound { images, decision }
+    let decision = next_decision(alloc, flash, map, state)?;
+    Ok(SlotsFound { images, decision })
 }
 
 /// Finds the slots of each image.
@@ -187,17 +225,63 @@ fn progress_on<F: Flash>(flash: &mut F, map: &SectorMap, image: u8, side: Side) 
 }
 
 /// The decision of the next boot, if the log says that the device is at rest.
-fn next_decision<F: Flash>(flash: &mut F, map: &SectorMap, state: &State) -> Option<Finding>
+fn next_decision<F: Flash>(
+    alloc: Global,
+    flash: &mut F,
+    map: &SectorMap,
+    state: &State,
+) -> Result<Option<NextDecision>, AllocError>
     requires laid_out { IsLaidOut map.now (F.chip flash.old) }
     requires on { (F.chip flash.old).is_on ≡ true }
     ensures same { F.chip flash.new ≡ F.chip flash.old }
-    ensures decision { IsDecisionOf map.now (F.chip flash.old) state.now result }
+    ensures decision { IfOk result (IsDecisionOf map.now (F.chip flash.old) state.now) }
 {
     if state.kind != RecordKind::Steady {
-        return None;
+        return Ok(None);
     }
     match find(flash, map, 0, &state.floors) {
-        Ok(finding) => Some(finding),
+        Ok(Finding::Decided { table, report }) => Ok(Some(NextDecision::Decided { table, report })),
+        Ok(Finding::Damaged(image)) => {
+            let slot = read_primary(alloc, flash, map, image)?;
+            Ok(Some(NextDecision::Damaged { image, slot }))
+        }
+        Ok(Finding::Invalid) => {
+            let table = resting_table(flash, map, state);
+            Ok(Some(NextDecision::Invalid { table }))
+        }
         Err(_) => unreachable!(),
+    }
+}
+
+/// Reads the bytes of the primary slot of an image.
+fn read_primary<F: Flash>(
+    alloc: Global,
+    flash: &mut F,
+    map: &SectorMap,
+    image: u8,
+) -> Result<Vec<u8>, AllocError>
+    requires { CanLook map.now image (F.chip flash.old) }
+    ensures same { F.chip flash.new ≡ F.chip flash.old }
+    ensures bytes { IfOk result (λ slot.
+        slot.items ≡ slot_bytes map.now (F.chip flash.old) image Side.Primary) }
+{
+    let mut slot = vec![in alloc; 0; map.slot_length(image) as usize]?;
+    match flash.read(map.slot_start(image, Side::Primary), slot.as_mut_slice()) {
+        Ok(()) => Ok(slot),
+        Err(_) => unreachable!(),
+    }
+}
+
+/// Reads the table of a device at rest, whose running images are intact.
+fn resting_table<F: Flash>(flash: &mut F, map: &SectorMap, state: &State) -> Table
+    requires laid_out { IsLaidOut map.now (F.chip flash.old) }
+    requires on { (F.chip flash.old).is_on ≡ true }
+    requires readable { AreReadable (view map.now (F.chip flash.old)) 0 map.now.images }
+    ensures same { F.chip flash.new ≡ F.chip flash.old }
+    ensures table { IsRestingTable map.now (F.chip flash.old) state.now.floors result }
+{
+    match read_table(flash, map, 0, &state.floors) {
+        Ok(Reading::Read(table)) => table,
+        Ok(Reading::DamagedAt(_)) | Err(_) => unreachable!(),
     }
 }

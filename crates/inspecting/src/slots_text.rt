@@ -5,9 +5,9 @@ ghost use Rattle.inspecting.specs.SlotsText.{content_text, decision_text, found_
 ghost use Rattle.inspecting.specs.SlotsText.{moved_text, request_text};
 
 use crate::image::description_text;
-use crate::slots_found::{ImageSlots, SlotContent, SlotsFound};
+use crate::slots_found::{ImageSlots, NextDecision, SlotContent, SlotsFound};
 use device_texts::refused_fault_text;
-use machine::{Fault, Finding};
+use machine::Fault;
 use std::alloc::{AllocError, Global};
 use std::fmt;
 use swap_scratch::Progress;
@@ -105,16 +105,16 @@ impl fmt::Display for Moved {
 fn write_decision(
     alloc: Global,
     text: &mut String,
-    decision: &Option<Finding>,
+    decision: &Option<NextDecision>,
 ) -> Result<(), AllocError>
     ensures { IfOk result (λ _. string_bytes text.new
         ≡ string_bytes text.old ++ decision_text decision.now) }
 {
     let fault = match decision {
         None => return Ok(()),
-        Some(Finding::Decided { table: _, report }) => return write!(text, "{report}"),
-        Some(Finding::Damaged(image)) => Fault::RunningDamaged(*image),
-        Some(Finding::Invalid) => Fault::InvalidSet,
+        Some(NextDecision::Decided { table: _, report }) => return write!(text, "{report}"),
+        Some(NextDecision::Damaged { image, slot: _ }) => Fault::RunningDamaged(*image),
+        Some(NextDecision::Invalid { table: _ }) => Fault::InvalidSet,
     };
     let line = refused_fault_text(alloc, fault)?;
     write!(text, "{line}")

@@ -3,7 +3,7 @@ ghost use Rattle.std.specs.Prelude.{IfOk};
 ghost use Rattle.host.specs.Input.{Gives, KeepsOthers};
 
 use certificate::{Report, Table};
-use host::{Host, MOST_TABLE, Refusal, Source, SourceFault};
+use host::{BadText, Host, MOST_TABLE, Refusal, Source, SourceFault};
 use std::alloc::Global;
 
 /// The kind of a text.
@@ -16,18 +16,26 @@ pub enum Text {
 }
 
 impl Text {
-    /// Why bytes aren't such a text: the first line that no such text continues from. `None` if
-    /// they are one.
-    fn fault(self, bytes: &[u8]) -> Option<Refusal> {
+    /// Returns the first line that no such text continues from, or `None` if the bytes are one.
+    fn wrong_line(self, bytes: &[u8]) -> Option<usize> {
         match self {
             Text::Table => match Table::parse(bytes) {
                 Ok(_) => None,
-                Err(bad) => Some(Refusal::TableLine(bad.0)),
+                Err(bad) => Some(bad.0),
             },
             Text::Report => match Report::parse(bytes) {
                 Ok(_) => None,
-                Err(bad) => Some(Refusal::ReportLine(bad.0)),
+                Err(bad) => Some(bad.0),
             },
+        }
+    }
+
+    /// Returns the refusal of a text with this wrong line.
+    pub fn refusal(self, text: Vec<u8>, line: usize) -> Refusal {
+        let bad = BadText { text, line };
+        match self {
+            Text::Table => Refusal::TableLine(bad),
+            Text::Report => Refusal::ReportLine(bad),
         }
     }
 }
@@ -54,8 +62,8 @@ pub fn read_text<H: Host>(
     if start.len() <= MOST_TABLE as usize {
         return Ok(start);
     }
-    match text.fault(&start) {
-        Some(fault) => Err(fault),
+    match text.wrong_line(&start) {
+        Some(line) => Err(text.refusal(start, line)),
         None => Err(source.refused(alloc, SourceFault::TooLong(MOST_TABLE))),
     }
 }

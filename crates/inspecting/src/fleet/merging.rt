@@ -1,18 +1,21 @@
 //! Adds up the summaries of parts of a fleet.
 
 ghost use Rattle.std.specs.Prelude.{◌≡◌, ◌∷◌, [], ℕ, IfOk, IfSome, List, OnOk};
-ghost use Rattle.inspecting.specs.Merging.{IsNext, Merges, WritesSum, has_bad_at};
+ghost use Rattle.inspecting.specs.Merging.{IsNext, Merges, has_bad_at};
 ghost use Rattle.inspecting.specs.PlanEnd.{IsAnswerFor};
 ghost use Rattle.inspecting.specs.Row.{Row};
+ghost use Rattle.inspecting.specs.SummaryLines.{WritesRows};
 ghost use Rattle.inspecting.specs.SummaryRows.{AddsRows};
 ghost use Rattle.inspecting.specs.SummaryText.{IsSummaryText, read_row_of};
 
+use crate::fleet::plan_notes::PlanNotes;
 use crate::fleet::row_line::{ReadRow, read_row};
-use crate::fleet::rows::{RowFault, Rows, rows_text};
+use crate::fleet::rows::{RowFault, Rows};
 use crate::fleet::summary::Summary;
+use crate::fleet::summary_lines::write_rows;
 use common::ascii::cut;
-use device_texts::write_all;
-use host::Answer;
+use device_texts::Form;
+use host::{Answer, Refusal};
 use std::alloc::Global;
 use std::cmp::Ordering;
 use std::io::Write;
@@ -33,13 +36,14 @@ pub enum MergeFault {
 pub enum MergeRefusal {
     /// This part, counted from 0, can't be added.
     Part(usize, MergeFault),
-    /// Memory ran out for the text of the sum.
+    /// Memory ran out for the text or the object of the sum.
     NoMemory,
-    /// A write failed. A prefix of the text is written.
+    /// A write failed. A prefix of the sum is written.
     CannotWrite,
 }
 
-/// Adds up the summaries whose texts are `parts`, in their order, and writes the sum to `out`.
+/// Adds up the summaries whose texts are `parts`, in their order, and writes the sum to `out` in a
+/// form, explained by `notes`.
 ///
 /// The first device of a key is that of the first part that has the key. The answer is `Refused` if
 /// a device has no report: a row `bad` or `not-valid` is there. The memory in use, of `alloc`, is
@@ -47,13 +51,15 @@ pub enum MergeRefusal {
 ///
 /// # Errors
 /// `Part` if a text is no summary, a count would be 2^64 or more, or memory runs out, and `NoMemory`
-/// if memory runs out for the text. Then nothing is written. `CannotWrite` if a write fails.
-pub fn merge_over<W: Write>(
+/// if memory runs out for the text or the object of the sum. Then nothing is written. `CannotWrite` if a write fails.
+pub fn merge_over<W: Write, N: PlanNotes>(
     alloc: Global,
     parts: &[Vec<u8>],
+    form: Form,
+    notes: &mut N,
     out: &mut W,
 ) -> Result<Answer, MergeRefusal>
-    ensures { IfOk result (λ answer. Merges parts.now answer
+    ensures { IfOk result (λ answer. Merges parts.now form answer
         (W.contents out.old) (W.contents out.new)) }
 {
     let mut summary = Summary::new(alloc);
@@ -62,21 +68,25 @@ pub fn merge_over<W: Write>(
             return Err(MergeRefusal::Part(part, fault));
         }
     }
-    write_sum(alloc, &summary.rows, out)
+    write_sum(alloc, form, &summary.rows, notes, out)
 }
 
-/// Writes the text of rows, and returns their answer.
-fn write_sum<W: Write>(alloc: Global, rows: &Rows, out: &mut W) -> Result<Answer, MergeRefusal>
-    ensures { IfOk result (λ answer. WritesSum rows.now answer
-        (W.contents out.old) (W.contents out.new)) }
+/// Writes rows with the notes on them in a form, and returns their answer.
+fn write_sum<W: Write, N: PlanNotes>(
+    alloc: Global,
+    form: Form,
+    rows: &Rows,
+    notes: &mut N,
+    out: &mut W,
+) -> Result<Answer, MergeRefusal>
+    ensures { IfOk result (λ answer. WritesRows form rows.now (W.contents out.old) (W.contents out.new)
+        × IsAnswerFor (has_bad_at rows.now) answer) }
 {
-    let Ok(text) = rows_text(alloc, rows) else {
-        return Err(MergeRefusal::NoMemory);
-    };
-    let Ok(()) = write_all(out, &text) else {
-        return Err(MergeRefusal::CannotWrite);
-    };
-    Ok(answer_of(rows))
+    match write_rows(alloc, form, rows, notes, out) {
+        Ok(()) => Ok(answer_of(rows)),
+        Err(Refusal::CannotWrite) => Err(MergeRefusal::CannotWrite),
+        Err(_) => Err(MergeRefusal::NoMemory),
+    }
 }
 
 /// Returns the answer of a sum: whether a device has no report.

@@ -117,7 +117,7 @@ impl Planner {
             spare: None,
             told: match telling {
                 Telling::Devices(form) => Told::Written(form),
-                Telling::Summary => Told::Counted(Summary::new(alloc)),
+                Telling::Summary(form) => Told::Counted(form, Summary::new(alloc)),
             },
             has_bad: false,
         }
@@ -346,7 +346,7 @@ fn tell<W: Write, N: PlanNotes>(
 {
     match told {
         Told::Written(form) => write_result(alloc, *form, device.name(), outcome, notes, out),
-        Told::Counted(summary) => summarize(summary, device, outcome),
+        Told::Counted(_, summary) => summarize(summary, device, outcome),
     }
 }
 
@@ -356,7 +356,7 @@ fn summarize(summary: &mut Summary, device: &Current, outcome: &Outcome) -> Resu
         → IsReadSoFar planned.device device.now → outcome.now ≡ planned.outcome
         → Summarizes plan summary.old → Summarizes (plan ++ planned ∷ []) summary.new) }
 {
-    let Ok(()) = summary.add(device.name_bytes(), outcome) else {
+    let Ok(()) = summary.add(device.name(), outcome) else {
         return Err(Refusal::NoMemory);
     };
     Ok(())

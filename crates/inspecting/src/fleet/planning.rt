@@ -1,20 +1,16 @@
 //! Plans a fleet that a reader gives.
 
 ghost use Rattle.std.specs.Prelude.{◌≡◌, ◌≤◌, ℕ, IfOk, List, OnOk, length};
-ghost use Rattle.std.specs.Io.KnownBytes.{Appends, ReadConsumes};
+ghost use Rattle.std.specs.Io.KnownBytes.{ReadConsumes};
 ghost use Rattle.inspecting.specs.Plan.{Planned};
 ghost use Rattle.inspecting.specs.PlanEnd.{EndsWith, IsAnswerFor, Plans, WritesRest};
 ghost use Rattle.inspecting.specs.Planning.{IsTold, Stands};
-ghost use Rattle.inspecting.specs.Row.{Row, summary_text};
-ghost use Rattle.inspecting.specs.Summary.{IsSummary};
-ghost use Rattle.inspecting.specs.SummaryRows.{Summarizes};
 
 use crate::fleet::plan_notes::PlanNotes;
 use crate::fleet::planner::Planner;
 use crate::fleet::requests::Requests;
-use crate::fleet::summary::Summary;
+use crate::fleet::summary_lines::write_rows;
 use crate::fleet::telling::{Telling, Told};
-use device_texts::write_all;
 use host::{Answer, Refusal, Source};
 use std::alloc::{AllocError, Global};
 use std::io;
@@ -25,7 +21,8 @@ const PIECE: usize = 1 << 16;
 
 /// Reads the fleet that `input` gives to its end, and decides over the table of each device with
 /// its requests replaced by those of `requests`. Writes to `out` each device with its result, or
-/// at the end their summary, as `telling` says. `notes` explains each device that is written.
+/// at the end their summary, as `telling` says. `notes` explains each device that is written, or the
+/// rows of the summary.
 ///
 /// A bad table is no error: the device gets the result `bad-line N`, `too-long` or `not-valid`, the
 /// others follow, and the answer is `Refused`. `source` names the input in an error. The memory in
@@ -59,7 +56,7 @@ pub fn plan_over<R: Read, W: Write, N: PlanNotes>(
     let mut planner = Planner::new(alloc, telling);
     for _ in 0..u64::MAX {
         match read_into(input, &mut piece) {
-            Ok(0) => return end_plan(requests, planner, notes, out),
+            Ok(0) => return end_plan(alloc, requests, planner, notes, out),
             Ok(count) => planner.read(requests, &piece[..count], notes, out)?,
             Err(error) if error.kind() == ErrorKind::Interrupted => {}
             Err(error) => return Err(source.refusal(alloc, error)),
@@ -88,6 +85,7 @@ fn buffer(alloc: Global, count: usize) -> Result<Vec<u8>, AllocError>
 
 /// Ends a plan, and returns its answer.
 fn end_plan<W: Write, N: PlanNotes>(
+    alloc: Global,
     requests: &Requests,
     planner: Planner,
     notes: &mut N,
@@ -100,35 +98,25 @@ fn end_plan<W: Write, N: PlanNotes>(
 {
     let mut planner = planner;
     planner.end(requests, notes, out)?;
-    write_rest(&planner.told, out)?;
+    write_rest(alloc, &planner.told, notes, out)?;
     Ok(answer_for(planner.has_bad))
 }
 
-/// Writes the text of a summary, if there is one.
-fn write_rest<W: Write>(told: &Told, out: &mut W) -> Result<(), Refusal>
+/// Writes the summary with the notes on it, if there is one.
+fn write_rest<W: Write, N: PlanNotes>(
+    alloc: Global,
+    told: &Told,
+    notes: &mut N,
+    out: &mut W,
+) -> Result<(), Refusal>
     ensures { OnOk result ((telling : Telling) (plan : List Planned)
         → IsTold telling told.now plan
         → WritesRest telling plan (W.contents out.old) (W.contents out.new)) }
 {
     match told {
         Told::Written(_) => Ok(()),
-        Told::Counted(summary) => write_summary(summary, out),
+        Told::Counted(form, summary) => write_rows(alloc, *form, &summary.rows, notes, out),
     }
-}
-
-/// Writes the text of a summary.
-fn write_summary<W: Write>(summary: &Summary, out: &mut W) -> Result<(), Refusal>
-    ensures { OnOk result ((plan : List Planned) → Summarizes plan summary.now
-        → (rows : List Row) × IsSummary plan rows
-        × Appends (W.contents out.old) (W.contents out.new) (summary_text rows)) }
-{
-    let Ok(text) = summary.text() else {
-        return Err(Refusal::NoMemory);
-    };
-    let Ok(()) = write_all(out, &text) else {
-        return Err(Refusal::CannotWrite);
-    };
-    Ok(())
 }
 
 /// Returns the answer of a plan: whether a device has no report.

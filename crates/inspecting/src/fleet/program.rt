@@ -12,14 +12,15 @@ use crate::fleet::telling::Telling;
 use command_line::{PlanOrder, RequestedFile};
 use device_texts::Form;
 use host::{
-    Answer, Host, MOST_FILE, Refusal, Source, SourceFault, Stream, open_stream, refuse_after,
+    Answer, BadText, Host, MOST_FILE, Refusal, Source, SourceFault, Stream, open_stream,
+    refuse_after,
 };
 use std::alloc::Global;
 use std::io::Write;
 
 /// Runs the order `plan`. Reads a fleet, or summaries, and the images that are requested from
-/// `host`, and writes the answer to `out`: devices in a form, each explained by `notes`, or a
-/// summary as a text. The memory in use, of `alloc`, doesn't grow with the number of devices.
+/// `host`, and writes the answer to `out` in a form: devices, or a summary. `notes` explains each
+/// device, or the rows. The memory in use, of `alloc`, doesn't grow with the number of devices.
 ///
 /// # Errors
 /// What was written before an error is flushed, unless a write failed.
@@ -50,7 +51,7 @@ pub fn run_plan<H: Host, N: PlanNotes, O: Write>(
             let telling = telling_of(form, *is_summary);
             plan_release(alloc, fleet, requests, telling, host, notes, out)
         }
-        PlanOrder::Merge { summaries } => merge_sources(alloc, summaries, host, out),
+        PlanOrder::Merge { summaries } => merge_sources(alloc, form, summaries, host, notes, out),
     }
 }
 
@@ -59,7 +60,7 @@ fn telling_of(form: Form, is_summary: bool) -> Telling
     ensures { result ≡ telling_of form is_summary }
 {
     if is_summary {
-        Telling::Summary
+        Telling::Summary(form)
     } else {
         Telling::Devices(form)
     }
@@ -104,20 +105,22 @@ fn plan_source<H: Host, N: PlanNotes, O: Write>(
     }
 }
 
-/// Adds the summaries in these files, and writes their sum to `out`.
-fn merge_sources<H: Host, O: Write>(
+/// Adds the summaries in these files, and writes their sum to `out` in a form.
+fn merge_sources<H: Host, N: PlanNotes, O: Write>(
     alloc: Global,
+    form: Form,
     names: &[&str],
     host: &mut H,
+    notes: &mut N,
     out: &mut O,
 ) -> Result<Answer, Refusal>
-    ensures { IfOk result (λ answer. AnswersMerge answer names.now
+    ensures { IfOk result (λ answer. AnswersMerge form answer names.now
         (H.input host.old) (H.file host.old) (O.contents out.old) (O.contents out.new)) }
 {
     let texts = read_each(alloc, names, host)?;
-    match merge_over(alloc, &texts, out) {
+    match merge_over(alloc, &texts, form, notes, out) {
         Ok(answer) => Ok(answer),
-        Err(refusal) => Err(merge_refusal(alloc, names, refusal)),
+        Err(refusal) => Err(merge_refusal(alloc, names, &texts, refusal)),
     }
 }
 
@@ -136,16 +139,33 @@ fn read_each<H: Host>(alloc: Global, names: &[&str], host: &mut H) -> Result<Vec
     Ok(texts)
 }
 
-/// Returns the refusal to add the summaries of these names.
-fn merge_refusal(alloc: Global, names: &[&str], refusal: MergeRefusal) -> Refusal {
+/// Returns the refusal to add the summaries of these names, which have these texts.
+fn merge_refusal(
+    alloc: Global,
+    names: &[&str],
+    texts: &[Vec<u8>],
+    refusal: MergeRefusal,
+) -> Refusal {
     match refusal {
         MergeRefusal::Part(part, MergeFault::BadLine(line) | MergeFault::TooMany(line)) => {
-            match names.get(part) {
-                Some(name) => Source::named(name).refused(alloc, SourceFault::CannotMerge(line)),
-                None => Refusal::NoMemory,
+            match (names.get(part), texts.get(part)) {
+                (Some(name), Some(text)) => cannot_merge(alloc, name, text, line),
+                _ => Refusal::NoMemory,
             }
         }
         MergeRefusal::CannotWrite => Refusal::CannotWrite,
         MergeRefusal::Part(_, MergeFault::NoMemory) | MergeRefusal::NoMemory => Refusal::NoMemory,
+    }
+}
+
+/// Returns the refusal of a summary of this name and text by this line. The text is copied into memory
+/// of `alloc`.
+fn cannot_merge(alloc: Global, name: &str, text: &[u8], line: usize) -> Refusal {
+    match Vec::from_slice(alloc, text) {
+        Ok(text) => {
+            let bad = BadText { text, line };
+            Source::named(name).refused(alloc, SourceFault::CannotMerge(bad))
+        }
+        Err(_) => Refusal::NoMemory,
     }
 }

@@ -48,7 +48,7 @@ fn read_entry<H: Host>(alloc: Global, name: &str, host: &mut H) -> Result<Entry,
     let bytes = source.read(alloc, host, MOST_FILE)?;
     match describe(&bytes) {
         Ok(description) => Ok(entry_of(description)),
-        Err(_) => Err(source.refused(alloc, SourceFault::NoImage)),
+        Err(_) => Err(source.refused(alloc, SourceFault::NoImage(bytes))),
     }
 }
 

@@ -88,7 +88,7 @@ fn write_object<W: Write, N: PlanNotes>(
 }
 
 /// Passes notes back, if there are any, after the text so far. Without the text there are none.
-fn pass_notes<W: Write, N: PlanNotes>(explained: Option<String>, notes: &mut N, out: &mut W)
+pub fn pass_notes<W: Write, N: PlanNotes>(explained: Option<String>, notes: &mut N, out: &mut W)
     ensures { Keeps (W.contents out.old) (W.contents out.new) }
 {
     let Some(explained) = explained else {

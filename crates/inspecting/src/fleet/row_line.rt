@@ -2,6 +2,7 @@
 
 ghost use Rattle.std.specs.List.{list_all};
 ghost use Rattle.std.specs.Prelude.{◌≡◌, ◌↔◌, IfSome, IsTrue, decimal};
+ghost use Rattle.inspecting.specs.Fleet.{IsName};
 ghost use Rattle.inspecting.specs.Row.{row_text};
 ghost use Rattle.inspecting.specs.SummaryText.{FitsRow, IsKey, is_key_byte, read_row_of};
 
@@ -15,7 +16,7 @@ pub struct ReadRow<'f, 'k> {
     /// How often the key occurs.
     pub count: u64,
     /// The first device that has it.
-    pub first: &'f [u8],
+    pub first: &'f str,
     /// The key.
     pub key: &'k str,
 }
@@ -34,8 +35,9 @@ pub fn read_row(line: &[u8]) -> Option<ReadRow<'_, '_>>
         return None;
     };
     let count = read_count(count)?;
+    let first = read_first(first)?;
     let key = read_key(key)?;
-    if count == 0 || !is_name(first) {
+    if count == 0 {
         return None;
     }
     Some(ReadRow { count, first, key })
@@ -52,6 +54,16 @@ fn read_count(text: &[u8]) -> Option<u64>
     } else {
         None
     }
+}
+
+/// Reads the name of a device.
+fn read_first(text: &[u8]) -> Option<&str>
+    ensures { IfSome result (λ first. (text.now ≡ first.now) × IsName first.now) }
+{
+    if !is_name(text) {
+        return None;
+    }
+    str::from_utf8(text).ok()
 }
 
 /// Reads a key.

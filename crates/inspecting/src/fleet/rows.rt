@@ -1,6 +1,6 @@
 //! The rows of a summary, sorted by their keys.
 
-ghost use Rattle.std.specs.Prelude.{◌≡◌, ◌+◌, ◌++◌, ◌∷◌, ℕ, IfOk, List, None, OnOk, []};
+ghost use Rattle.std.specs.Prelude.{◌≡◌, ◌+◌, ◌++◌, ◌∷◌, ℕ, IfOk, List, None, OnOk, [], string_bytes};
 ghost use Rattle.std.specs.BTreeMap.{get_by_text};
 ghost use Rattle.inspecting.specs.Rows.{AddsRow, AreRows, IsTallied, row_line};
 ghost use Rattle.inspecting.specs.Row.{Row, summary_text};
@@ -23,7 +23,7 @@ pub struct Tally {
     /// How often.
     pub count: u64,
     /// The name of the device.
-    pub first: Vec<u8>,
+    pub first: String,
 }
 
 /// For each key that occurs its tally. The keys are sorted by their bytes.
@@ -39,7 +39,7 @@ pub fn add_row(
     rows: &mut Rows,
     alloc: Global,
     count: u64,
-    first: &[u8],
+    first: &str,
     key: &str,
 ) -> Result<(), RowFault>
     ensures { OnOk result (AddsRow (record { count = count; first = first.now; key = key.now })
@@ -72,7 +72,8 @@ fn raise(tally: &mut Tally, count: u64) -> Result<(), RowFault>
 fn add_key(rows: &mut Rows, alloc: Global, key: &str, tally: Tally) -> Result<(), RowFault>
     requires { get_by_text rows.old key.now ≡ None }
     ensures { OnOk result (AddsRow
-        (record { count = tally.count; first = tally.first.items; key = key.now }) rows.old rows.new) }
+        (record { count = tally.count; first = string_bytes tally.first; key = key.now })
+        rows.old rows.new) }
 {
     let Ok(key) = String::from_str(alloc, key) else {
         return Err(RowFault::NoMemory);
@@ -84,16 +85,12 @@ fn add_key(rows: &mut Rows, alloc: Global, key: &str, tally: Tally) -> Result<()
 }
 
 /// Returns a tally in memory of `alloc`.
-fn new_tally(alloc: Global, count: u64, first: &[u8]) -> Result<Tally, AllocError>
+fn new_tally(alloc: Global, count: u64, first: &str) -> Result<Tally, AllocError>
     ensures count { IfOk result (λ tally. tally.count ≡ count) }
-    ensures first { IfOk result (λ tally. tally.first.items ≡ first.now) }
+    ensures first { IfOk result (λ tally. string_bytes tally.first ≡ first.now) }
 {
-    let mut copied = Vec::new(alloc);
-    copied.extend_from_slice(first)?;
-    Ok(Tally {
-        count,
-        first: copied,
-    })
+    let first = String::from_str(alloc, first)?;
+    Ok(Tally { count, first })
 }
 
 /// Returns the text of the rows in memory of `alloc`: a line `COUNT FIRST KEY` for each.
@@ -115,7 +112,7 @@ fn push_row(alloc: Global, text: &mut Vec<u8>, key: &str, tally: &Tally) -> Resu
     let count = tally.count;
     let count = format!(in alloc; "{count} ")?;
     text.extend_from_slice(count.as_bytes())?;
-    text.extend_from_slice(&tally.first)?;
+    text.extend_from_slice(tally.first.as_bytes())?;
     text.push(b' ')?;
     text.extend_from_slice(key.as_bytes())?;
     text.push(b'\n')?;

@@ -1,18 +1,17 @@
 //! The summary of a plan while its devices are decided.
 
-ghost use Rattle.std.specs.Prelude.{◌≡◌, ◌++◌, ◌∷◌, ℕ, IfOk, List, OnOk, [], map};
+ghost use Rattle.std.specs.Prelude.{◌≡◌, ◌++◌, ◌∷◌, List, OnOk, [], map};
 ghost use Rattle.inspecting.specs.Key.{key_text};
 ghost use Rattle.inspecting.specs.Plan.{Planned};
-ghost use Rattle.inspecting.specs.Row.{Row, summary_text};
-ghost use Rattle.inspecting.specs.Summary.{IsSummary, decision_keys, once, outcome_keys, refusal_key};
+ghost use Rattle.inspecting.specs.Summary.{decision_keys, once, outcome_keys, refusal_key};
 ghost use Rattle.inspecting.specs.SummaryRows.{AddsRows, Summarizes};
 
 use crate::fleet::key::Key;
 use crate::fleet::outcome::{Decision, Outcome};
 use crate::fleet::requested::version_at;
-use crate::fleet::rows::{RowFault, Rows, add_row, rows_text};
+use crate::fleet::rows::{RowFault, Rows, add_row};
 use certificate::Refusal;
-use std::alloc::{AllocError, Global};
+use std::alloc::Global;
 use std::collections::BTreeMap;
 
 /// What the devices of a plan do, how many do it, and which is the first.
@@ -45,7 +44,7 @@ impl Summary {
     /// # Errors
     /// `NoMemory` if memory runs out, `TooMany` if a count would be 2^64 or more. Then some of its
     /// keys are counted.
-    pub fn add(&mut self, name: &[u8], outcome: &Outcome) -> Result<(), RowFault>
+    pub fn add(&mut self, name: &str, outcome: &Outcome) -> Result<(), RowFault>
         ensures { OnOk result ((plan : List Planned) (planned : Planned)
             → name.now ≡ planned.device.name → outcome.now ≡ planned.outcome
             → Summarizes plan self.old → Summarizes (plan ++ planned ∷ []) self.new) }
@@ -58,7 +57,7 @@ impl Summary {
     ///
     /// # Errors
     /// The same as those of [`Summary::add`]. Then nothing is counted.
-    pub fn add_row(&mut self, count: u64, first: &[u8], key: &str) -> Result<(), RowFault>
+    pub fn add_row(&mut self, count: u64, first: &str, key: &str) -> Result<(), RowFault>
         ensures { OnOk result (AddsRows
             (record { count = count; first = first.now; key = key.now } ∷ [])
             self.old.rows self.new.rows) }
@@ -66,19 +65,8 @@ impl Summary {
         add_row(&mut self.rows, self.alloc, count, first, key)
     }
 
-    /// Returns the text of the summary, in memory of `alloc`.
-    ///
-    /// # Errors
-    /// Memory ran out.
-    pub fn text(&self) -> Result<Vec<u8>, AllocError>
-        ensures { IfOk result (λ text. (plan : List Planned) → Summarizes plan self.now
-            → (rows : List Row) × IsSummary plan rows × (text.items ≡ summary_text rows)) }
-    {
-        rows_text(self.alloc, &self.rows)
-    }
-
     /// Counts the keys of a result.
-    fn add_outcome(&mut self, name: &[u8], outcome: &Outcome) -> Result<(), RowFault>
+    fn add_outcome(&mut self, name: &str, outcome: &Outcome) -> Result<(), RowFault>
         ensures { OnOk result (AddsRows (map (once name.now) (outcome_keys outcome.now))
             self.old.rows self.new.rows) }
     {
@@ -90,7 +78,7 @@ impl Summary {
     }
 
     /// Counts the keys of a decision.
-    fn add_decision(&mut self, name: &[u8], decision: &Decision) -> Result<(), RowFault>
+    fn add_decision(&mut self, name: &str, decision: &Decision) -> Result<(), RowFault>
         ensures { OnOk result (AddsRows (map (once name.now) (decision_keys decision.now))
             self.old.rows self.new.rows) }
     {
@@ -104,7 +92,7 @@ impl Summary {
     /// Counts the key of a refusal.
     fn add_refusal(
         &mut self,
-        name: &[u8],
+        name: &str,
         decision: &Decision,
         refusal: &Refusal,
     ) -> Result<(), RowFault>
@@ -120,7 +108,7 @@ impl Summary {
     }
 
     /// Counts a key once.
-    fn count(&mut self, name: &[u8], key: &Key<'_>) -> Result<(), RowFault>
+    fn count(&mut self, name: &str, key: &Key<'_>) -> Result<(), RowFault>
         ensures { OnOk result (AddsRows (once name.now (key_text key.now) ∷ [])
             self.old.rows self.new.rows) }
     {

@@ -8,8 +8,8 @@ use device_texts::Form;
 pub enum Telling {
     /// Each device with its result, in this form.
     Devices(Form),
-    /// A summary: what devices do, how many do it, and which is the first. It is a text.
-    Summary,
+    /// A summary in this form: what devices do, how many do it, and which is the first.
+    Summary(Form),
 }
 
 /// Where the results go while a fleet is read.
@@ -17,6 +17,6 @@ pub enum Telling {
 pub enum Told {
     /// Each is written in this form.
     Written(Form),
-    /// They are counted.
-    Counted(Summary),
+    /// They are counted, to be written in this form.
+    Counted(Form, Summary),
 }

@@ -6,13 +6,13 @@ ghost use Rattle.inspecting.specs.Json.{moved_json, slot_json, slots_json, with_
 ghost use Rattle.inspecting.specs.Json.{progress_json, request_json};
 
 use crate::json::put_description;
-use crate::slots_found::{ImageSlots, SlotContent, SlotsFound};
+use crate::slots_found::{ImageSlots, NextDecision, SlotContent, SlotsFound};
 use crate::slots_text::request_text;
 use device_texts::json::{
     Json, Object, code_value, fault_value, put_each, put_number, put_refused, put_report, put_text,
     put_value, put_values,
 };
-use machine::{Fault, Finding};
+use machine::Fault;
 use serde_json::{Map, Value, push};
 use std::alloc::{AllocError, Global};
 use swap_scratch::Progress;
@@ -121,16 +121,18 @@ fn moved_value(alloc: Global, image: u8, progress: Progress) -> Result<Value, Al
 fn put_decision(
     alloc: Global,
     object: &mut Object,
-    decision: &Option<Finding>,
+    decision: &Option<NextDecision>,
 ) -> Result<(), AllocError>
     ensures { OnOk result (members_view object.new.entries
         ≡ with_decision decision.now (members_view object.old.entries)) }
 {
     let fault = match decision {
         None => return Ok(()),
-        Some(Finding::Decided { table: _, report }) => return put_report(alloc, object, report),
-        Some(Finding::Damaged(image)) => Fault::RunningDamaged(*image),
-        Some(Finding::Invalid) => Fault::InvalidSet,
+        Some(NextDecision::Decided { table: _, report }) => {
+            return put_report(alloc, object, report);
+        }
+        Some(NextDecision::Damaged { image, slot: _ }) => Fault::RunningDamaged(*image),
+        Some(NextDecision::Invalid { table: _ }) => Fault::InvalidSet,
     };
     let refused = fault_value(alloc, fault)?;
     put_refused(alloc, object, refused)

@@ -1,5 +1,5 @@
 use Rattle.host.proofs.InputLaws.{GiveBoth-read}
-use Rattle.inspecting.proofs.CheckLaws.{IsVerdict-checked}
+use Rattle.inspecting.proofs.CheckLaws.{IsVerdictOf-checked}
 use Rattle.inspecting.proofs.check.inspect_report.Goals as goal
 
 -- Both texts are what their sources gave, and this is the verdict on them.
@@ -8,6 +8,6 @@ returns g c = (
   c.in_ok-table.table.items,
   c.in_ok-report.report.items,
   GiveBoth-read _ _ _ _ _ _ _ _ c.in_ok-table.ensures.bytes c.in_ok-table.ensures.others c.in_ok-report.ensures.bytes,
-  IsVerdict-checked c.in_ok-is_right.field-0 _ _ c.in_ok-table-2.table
-      (rw c.deref.ensures.value at c.in_ok-table-2.ensures) (rw c.deref-2.ensures.value at c.in_ok-is_right.ensures),
+  IsVerdictOf-checked c.in_ok-verdict_in.field-0 _ _ c.in_ok-table-2.table
+      c.in_ok-table-2.ensures c.in_ok-verdict_in.ensures,
 )

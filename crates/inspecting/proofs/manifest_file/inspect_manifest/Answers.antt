@@ -6,10 +6,10 @@ use Rattle.inspecting.proofs.DeviceFileLaws.{FindsForDevice-both, IsManifestRead
 use Rattle.inspecting.proofs.manifest_file.inspect_manifest.Goals as goal
 
 -- Both inputs are what their sources gave, and the first is a device file.
-pub returns-in_ok-bytes-in-Ok : goal.returns-in_ok-bytes-in-Ok
-returns-in_ok-bytes-in-Ok g c =
+pub returns-in_ok-text-in-Ok : goal.returns-in_ok-text-in-Ok
+returns-in_ok-text-in-Ok g c =
     let read = rw c.in-Ok.is at c.in_ok-of_device.ensures.read in
-    let bytes = c.in_ok-bytes-in-Ok.bytes.items in
+    let bytes = c.in_ok-text-in-Ok.text.items in
     let device = c.in-Ok.of_device in
     IfOk-weaker c.manifest_in.result (λ found. IsManifestRead device.identity bytes found)
     (λ found. FindsManifest c.args.device c.args.file (g.H.Host.input c.args.host.now) (g.H.Host.file c.args.host.now) found)
@@ -18,8 +18,8 @@ returns-in_ok-bytes-in-Ok g c =
       read.0,
       bytes,
       device,
-      GiveBoth-read _ _ _ _ _ _ _ _ read.1 c.in_ok-of_device.ensures.others c.in_ok-bytes-in-Ok.ensures.bytes,
+      GiveBoth-read _ _ _ _ _ _ _ _ read.1 c.in_ok-of_device.ensures.others c.in_ok-text-in-Ok.ensures.bytes,
       read.2,
       is,
     ))
-    (rw c.deref.ensures.value at c.manifest_in.ensures.read)
+    c.manifest_in.ensures.read

@@ -27,8 +27,9 @@ returns g c = IfOk-then c.write_sum.result (λ answer written.
     record {
       parts = parts;
       spelled = subst (λ texts. AllZip IsSummaryText (map (λ t. t.items) texts) parts) (take_all c.loop-part.part c.args.parts.now c.loop-part-test.false) spelled;
-      rows = written.rows;
-      is = IsSumOf-tallied (flat_map (λ part. part) parts) written.rows c.loop-part.summary.rows written.are tallied;
-      answered = subst (λ bad. IsAnswerFor bad answer) (has_bad-rows written.rows c.loop-part.summary.rows written.are) written.answered;
-      written = written.written;
+      rows = written.0.rows;
+      is = IsSumOf-tallied (flat_map (λ part. part) parts) written.0.rows c.loop-part.summary.rows written.0.are tallied;
+      answered = subst (λ bad. IsAnswerFor bad answer) (has_bad-rows written.0.rows c.loop-part.summary.rows written.0.are) written.1;
+      notes = written.0.notes;
+      written = written.0.written;
     }) c.write_sum.ensures

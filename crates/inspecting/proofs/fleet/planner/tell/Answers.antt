@@ -17,6 +17,6 @@ pub returns-in-Counted : goal.returns-in-Counted
 returns-in-Counted g c = OnOk-then c.summarize.result (λ counts. (
   [],
   λ planned was is noted.
-      rw c.in-Counted.is (Tells-counted planned c.in-Counted.summary c.summarize.new.summary _
+      rw c.in-Counted.is (Tells-counted c.in-Counted.field-0 planned c.in-Counted.summary c.summarize.new.summary _
       (λ plan so_far. counts planned plan was is so_far)),
 )) c.summarize.ensures

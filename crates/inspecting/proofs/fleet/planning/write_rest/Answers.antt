@@ -6,8 +6,9 @@ use Rattle.inspecting.proofs.fleet.planning.write_rest.Goals as goal
 
 -- The summary is written.
 pub returns-in-Counted : goal.returns-in-Counted
-returns-in-Counted g c = OnOk-then c.write_summary.result (λ writes telling plan told.
-    WritesRest-summary telling plan c.in-Counted.summary _ _ (writes plan) (subst (λ t. IsTold telling t plan) c.in-Counted.is told)) c.write_summary.ensures
+returns-in-Counted g c = OnOk-then c.write_rows.result (λ writes telling plan told.
+    WritesRest-summary telling plan c.in-Counted.form c.in-Counted.summary _ _ writes (subst (λ t. IsTold telling t plan) c.in-Counted.is told))
+    c.write_rows.ensures
 
 -- There is none.
 pub returns-in-Written : goal.returns-in-Written

@@ -1,4 +1,4 @@
-use Rattle.std.proofs.Common.{Some, ap, rules}
+use Rattle.std.proofs.Common.{Some, ap, rules, string_bytes}
 use Rattle.std.proofs.lemmas.Map.Text.{btree_map_updates_text}
 use Rattle.inspecting.proofs.ResultLaws.{OnOk-then}
 use Rattle.inspecting.proofs.RowsLaws.{AddsRow-set}
@@ -11,4 +11,4 @@ returns-in-Some c = OnOk-then c.raise.result (λ raised.
     let sets = btree_map_updates_text c.args.key.now c.args.rows.now (c.get_mut.follows.lender tally) _ ((c.get_mut.follows.holds tally).3 (search rules)) in
     AddsRow-set (record { count = c.args.count; first = c.args.first.now; key = c.args.key.now }) tally sets
     (rw (← c.in-Some.ensures.value) raised)
-    (rw (← c.in-Some.ensures.value) (ap (λ first. Some first.items) c.raise.ensures.first))) c.raise.ensures.count
+    (rw (← c.in-Some.ensures.value) (ap (λ first. Some (string_bytes first)) c.raise.ensures.first))) c.raise.ensures.count

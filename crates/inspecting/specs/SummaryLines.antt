@@ -1,0 +1,25 @@
+-- What is written of the rows of a summary in memory.
+use Rattle.std.specs.Prelude.{◌≡◌, ℕ, List, Option, String}
+use Rattle.std.specs.BTreeMap.{BTreeMap}
+use Rattle.std.specs.Io.KnownBytes.{Appends}
+use Rattle.device_texts.specs.Json.{json_line}
+use Rattle.device_texts.specs.declared.form.Form.{Form}
+use Rattle.inspecting.specs.Row.{Row}
+use Rattle.inspecting.specs.Rows.{AreRows}
+use Rattle.inspecting.specs.SummaryJson.{summary_json, summary_lines}
+use Rattle.inspecting.specs.declared.fleet.rows.Tally.{Tally}
+
+-- The line of the object of the rows in memory, and of these notes.
+pub record IsSummaryLine {Y : Type 0} (notes : List (List ℕ)) (tallies : BTreeMap (String Y) Tally)
+    (line : List ℕ) : Type 0 where
+  pub rows : List Row
+  pub are : AreRows rows tallies
+  pub is : line ≡ json_line (summary_json rows notes)
+
+-- The rows in memory are written in a form. An object has notes, which may be any.
+pub record WritesRows {Y : Type 0} (form : Form) (tallies : BTreeMap (String Y) Tally)
+    (old new : Option (List ℕ)) : Type 0 where
+  pub rows : List Row
+  pub are : AreRows rows tallies
+  pub notes : List (List ℕ)
+  pub written : Appends old new (summary_lines form rows notes)
