@@ -149,7 +149,7 @@ class ExplainOutputTest(ProgramTest):
         be read from."""
         self.file("a", b"abc")
         for name, options, refusal, why in [
-            ("no such image", ["--test=2=a"], b"6 NoComponent", [b"a is for image 2, and the device has 2, from 0 on"]),
+            ("no such image", ["--test=2=a"], b"6 NoComponent", [b"a is for image 2, and the device has images 0 and 1"]),
             (
                 "an image twice",
                 ["--test=0=a", "--permanent=0=b"],
@@ -160,7 +160,7 @@ class ExplainOutputTest(ProgramTest):
                 "both",
                 ["--test=0=a", "--test=0=b", "--test=255=c"],
                 b"6 NoComponent",
-                [b"b is for image 0, as a is", b"c is for image 255, and the device has 2, from 0 on"],
+                [b"b is for image 0, as a is", b"c is for image 255, and the device has images 0 and 1"],
             ),
         ]:
             expect_notes(self, f"make-manifest: {name}", make_manifest(*options), b"refused %s\n" % refusal, why)
@@ -228,7 +228,7 @@ class ExplainDoneTest(ProgramTest):
                 expect_notes(self, f"{name}: {' '.join(images)}", given, out, notes, 0)
 
 
-NO_IMAGE = b"there is no image %d; there are 2, from 0 on"
+NO_IMAGE = b"there is no image %d; the device has images 0 and 1"
 
 NO_UPLOAD = (
     b"image %d: no upload is open: `accept` of a manifest that names it opens one, and `finish`, `boot`, `reset` and a"

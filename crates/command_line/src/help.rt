@@ -558,7 +558,7 @@ If the sizes of the device make no map of its flash, the command prints
 Example: bootswap run device.json flash.bin script.txt
 See `bootswap run --help` for the lines of a script.",
     long_after: "Exit status:
-  0  the script was run, and its last reply is none of the two below
+  0  the script was run, and its last reply is neither a refusal nor `cut`
   1  the last reply is a refusal, or with `--strict` any reply is, or any report
      refuses a request, and the last reply isn't `cut`; or the sizes of the
      device are refused; or standard error has a line `error: ..`: `device file`
@@ -611,9 +611,9 @@ a run, with the number of these runs and the first cut that leads to it, such as
 A write is torn in six ways: `keep`, `done`, `hex:ff`, `hex:00` and copies of a
 trailer's magic, as in scripts, and `half`: the first half is written.
 
-`other COUNT cut WRITE TORN` counts runs that ended in no way in which the
-script can end if power fails before or after the event, or if the event is left
-out. `refused COUNT cut WRITE TORN` counts runs in which a boot gave no answer.
+`other COUNT cut WRITE TORN` counts unexpected ends: the script can't end so if
+power fails before or after the event, or if the event is left out.
+`refused COUNT cut WRITE TORN` counts runs in which a boot gave no answer.
 
 `--twice` also cuts each write of the boot after a cut. `--sample N` tries N
 random cuts instead of all, for a long script. `--svg FILE` draws the output. It

@@ -2,6 +2,7 @@
 
 use crate::Result;
 use crate::json_notes::{Key, Object, Wanted, explain_count, explain_text};
+use crate::numbered::Images;
 use manifest::json::{array, json_of, number, uuid};
 use manifest::{Identity, MOST_COMPONENTS};
 use serde_json::Value;
@@ -130,9 +131,10 @@ fn explain_image_of(
         return Ok(());
     };
     if image >= u32::from(images) {
+        let all = Images(usize::from(images));
         writeln!(
             notes,
-            "note: {owner} is for image {image}, and the device has {images}, from 0 on"
+            "note: {owner} is for image {image}, and the device has {all}"
         )?;
     }
     if names_image(before, image) {

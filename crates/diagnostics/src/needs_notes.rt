@@ -3,7 +3,7 @@
 use crate::Result;
 use crate::versions::{NEEDS, NEEDS_ONE, Versions, is_taken};
 use certificate::{Entry, Request, Table};
-use common::texts::Escaped;
+use host::Source;
 use image_reading::Desc;
 use version_order::{Dependency, Version};
 
@@ -52,11 +52,15 @@ fn explain_entry(notes: &mut String, versions: &Versions, number: usize, entry: 
 ///
 /// # Errors
 /// `AllocError` if memory is refused. Then `notes` has a part of the text.
-pub fn explain_own_need(notes: &mut String, file: &str, number: u8, description: &Desc) -> Result {
+pub fn explain_own_need(
+    notes: &mut String,
+    file: Source<'_>,
+    number: u8,
+    description: &Desc,
+) -> Result {
     if !needs_image(description, number) {
         return Ok(());
     }
-    let file = Escaped(file);
     writeln!(
         notes,
         "note: {file} is for image {number} and needs image {number}, which is itself: it may be \

@@ -2,6 +2,7 @@
 
 use crate::Result;
 use crate::needs_notes::add_owner;
+use crate::numbered::Images;
 use crate::versions::{NEEDS, NEEDS_ONE, Versions};
 use certificate::{Entry, Image, Reason, Refusal, Report, Request, Table};
 use version_order::Dependency;
@@ -70,10 +71,10 @@ fn add_reason(
             notes,
             "is requested with the security counter {counter}, below the floor {floor}"
         ),
-        Reason::NoSuchImage(number) => writeln!(
-            notes,
-            "needs image {number}; there are {count} images, from 0 on"
-        ),
+        Reason::NoSuchImage(number) => {
+            let all = Images(count);
+            writeln!(notes, "needs image {number}; there are {all}")
+        }
         Reason::Needs(number, minimum) => {
             let need = Dependency {
                 image: *number,

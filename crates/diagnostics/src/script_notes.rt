@@ -56,7 +56,7 @@ pub fn explain_script_line(
             notes.push_str("note: standard input is read once, and was read before\n")
         }
         (ScriptFault::PartNumbers, _) => notes.push_str(
-            "note: behind a file stand two numbers, its first byte and how many: decimal, without \
+            "note: a file may be followed by two numbers, its first byte and how many: decimal, without \
              leading zeros\n",
         ),
         (ScriptFault::NoPart(length), Some(Line::Event(event))) => {
@@ -78,12 +78,12 @@ fn explain_order(notes: &mut String, before: &[u8], write: u32) -> Result {
         rest = after;
         match line_of(line) {
             Some(Line::Cut { write, torn: _ }) => last = write,
-            _ => return notes.push_str("note: cuts stand before the first event\n"),
+            _ => return notes.push_str("note: cuts come before the first event\n"),
         }
     }
     writeln!(
         notes,
-        "note: cuts stand by rising numbers, and behind write {last} write {write} is none"
+        "note: the numbers of cuts rise, and write {write} can't follow write {last}"
     )
 }
 
@@ -118,11 +118,11 @@ fn explain_spelling(notes: &mut String, line: &[u8]) -> Result {
     match fields_of(word) {
         Some(Fields::Cut) => explain_cut(notes, rest),
         Some(Fields::File) => notes.push_str(
-            "note: behind `accept` stands the name of one file, in UTF-8 and without a space\n",
+            "note: `accept` is followed by the name of one file, in UTF-8 and without a space\n",
         ),
         Some(Fields::Piece) => explain_piece(notes, rest),
         Some(Fields::Image) => explain_number(notes, rest),
-        Some(Fields::Nothing) => writeln!(notes, "note: nothing stands behind `{shown}`"),
+        Some(Fields::Nothing) => writeln!(notes, "note: nothing follows `{shown}`"),
         None => writeln!(
             notes,
             "note: `{shown}` is no word that a line begins with; those are cut, accept, piece, \
@@ -170,7 +170,7 @@ fn explain_piece(notes: &mut String, fields: &[u8]) -> Result {
         return explain_number(notes, image);
     }
     notes.push_str(
-        "note: behind `piece` stand the number of an image, the name of a file without a space, \
+        "note: `piece` is followed by the number of an image, the name of a file without a space, \
          and, for a part of it, its first byte and how many\n",
     )
 }

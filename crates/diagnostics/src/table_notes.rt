@@ -8,7 +8,7 @@ use common::limits::{MOST_DEPENDENCIES, MOST_GROUPS, MOST_IMAGES};
 /// The note on how versions and numbers are written in tables and reports.
 pub const WORDS: &str =
     "note: a VERSION is major.minor.revision+build, of which last parts may be left out; numbers are
-note: decimal, without leading zeros; one space parts two words
+note: decimal, without leading zeros; one space separates words
 ";
 
 /// The note on a table without lines.

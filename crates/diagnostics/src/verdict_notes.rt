@@ -2,6 +2,7 @@
 
 use crate::Result;
 use crate::needs_notes::explain_set;
+use crate::numbered::Images;
 use crate::versions::{Versions, is_taken, version_in};
 use certificate::{Entry, Image, Reason, Refusal, Report, Request, Table};
 use version_order::{Dependency, Version};
@@ -115,13 +116,14 @@ fn explain_times(notes: &mut String, number: usize, is_requested: bool, times: u
 /// Adds the refusals of images that the table doesn't have.
 fn explain_strangers(notes: &mut String, table: &Table, report: &Report) -> Result {
     let count = table.images.len();
+    let all = Images(count);
     for (place, refusal) in report.refusals.iter().enumerate() {
         let image = refusal.image;
         if usize::from(image) >= count {
             let line = line_of(report, place);
             writeln!(
                 notes,
-                "note: report line {line}: there is no image {image}; there are {count}, from 0 on"
+                "note: report line {line}: there is no image {image}; the table has {all}"
             )?;
         }
     }
