@@ -14,7 +14,7 @@ from support.printed import note_lines
 from support.program import ProgramTest, short
 
 VERSIONS = b"""note: a VERSION is major.minor.revision+build, of which last parts may be left out; numbers are
-note: decimal, without leading zeros; one space parts two words
+note: decimal, without leading zeros; one space separates words
 """
 
 REASONS = b"""note: a REASON is damaged, older, counter, no-such-image J, needs J VERSION, or needs-one with
@@ -66,7 +66,7 @@ WHY_REFUSED = [
     b"image 0: the bytes that are requested are no intact image",
     b"image 1: 1.9.0+0 is requested, and 2.0.0+0 runs, which is newer",
     b"image 2: 2.0.0+0 is requested with the security counter 4, below the floor 5",
-    b"image 3: 2.0.0+0 needs image 9; there are 7 images, from 0 on",
+    b"image 3: 2.0.0+0 needs image 9; there are images 0 to 6",
     b"image 4: 2.0.0+0 needs image 2 from 2.0.0+0 on, which can have 1.0.0+0 at best",
     b"image 5: 2.0.0+0 needs one of these: image 0 from 3.0.0+0 on, which can have 2.0.0+0 at best; image 9 from"
     b" 1.0.0+0 on, which isn't there",
@@ -90,7 +90,7 @@ WRONG = [
     (b"take 0 2\ntake 1 2\nrefuse 1 older\n", [b"image 1: the report decides its request 2 times"]),
     (
         b"take 0 2\ntake 1 2\nrefuse 7 older\n",
-        [b"report line 3: there is no image 7; there are 2, from 0 on"],
+        [b"report line 3: there is no image 7; the table has images 0 and 1"],
     ),
     (
         b"take 0 2\nrun 1 1\nrefuse 1 older\n",
@@ -111,30 +111,30 @@ NO_NUMBER = b"`%s` is no number of an image: 0 to 255, decimal, without leading 
 
 # Lines that no script may have, and why.
 LINES = [
-    (b"boot now", [b"nothing stands behind `boot`"]),
+    (b"boot now", [b"nothing follows `boot`"]),
     (b"fly", [b"`fly` is no word that a line begins with; those are " + WORDS]),
     (b"finish 01", [NO_NUMBER % b"01"]),
     (b"piece x one", [NO_NUMBER % b"x"]),
     (
         b"piece 0 one 1",
         [
-            b"behind `piece` stand the number of an image, the name of a file without a space, and, for a part of it,"
+            b"`piece` is followed by the number of an image, the name of a file without a space, and, for a part of it,"
             b" its first byte and how many"
         ],
     ),
     (
         b"piece 0 one 01 1",
-        [b"behind a file stand two numbers, its first byte and how many: decimal, without leading zeros"],
+        [b"a file may be followed by two numbers, its first byte and how many: decimal, without leading zeros"],
     ),
     (b"piece 0 one 2 2", [b"one has 3 bytes, and not 2 from byte 2 on, the first being byte 0"]),
     (b"piece 0 -", [b"standard input is read once, and was read before"]),
-    (b"accept a b", [b"behind `accept` stands the name of one file, in UTF-8 and without a space"]),
+    (b"accept a b", [b"`accept` is followed by the name of one file, in UTF-8 and without a space"]),
     (b"cut 0 keep", [b"`0` is no number of a write: 1 to 4294967295, decimal, without leading zeros"]),
     (
         b"cut 1 hex:abc",
         [b"`hex:abc` says nothing that a cut leaves: `keep`, `done`, or `hex:` with an even number of digits"],
     ),
-    (b"cut 1 keep", [b"cuts stand before the first event"]),
+    (b"cut 1 keep", [b"cuts come before the first event"]),
     (b"boot\r", [b"a carriage return ends it; a line ends with a line feed alone", None]),
 ]
 
@@ -226,7 +226,7 @@ class ExplainTextTest(ProgramTest):
                 is_good = (status, out, err) == (1, b"", message + note_lines(*why))
             self.case(f"explained: a script: {line!r}", [] if is_good else [repr((status, out, err))])
         message = b"error: script line 2\n" + note_lines(
-            b"script line 2 is `cut 3 done`", b"cuts stand by rising numbers, and behind write 3 write 3 is none"
+            b"script line 2 is `cut 3 done`", b"the numbers of cuts rise, and write 3 can't follow write 3"
         )
         self.expect(
             "explained: a script: a cut once more", run, 1, b"", message, given=b"cut 3 keep\ncut 3 done\nboot\n"
@@ -361,7 +361,7 @@ MANIFESTS = [
     (
         manifest(components=[component(component_id=2)]),
         b"refused 6 NoComponent\n",
-        [b"entry 0 of `components` is for image 2, and the device has 2, from 0 on"],
+        [b"entry 0 of `components` is for image 2, and the device has images 0 and 1"],
     ),
     (
         manifest(components=[component(), component()]),
@@ -596,12 +596,13 @@ class ExplainPlanTest(ProgramTest):
     """The notes on fleets and on summaries."""
 
     def expect_notes(self, name, arguments, status, items):
-        """A case: a plan prints these texts, and after each of them its notes."""
+        """A case: a plan prints these texts, and after each device, or after all rows of a summary, the notes."""
         out, err = (b"".join(it) for it in zip(*items)) if items else (b"", b"")
         self.expect(f"explained: plan: {name}", [*arguments, "--explain"], status, out, err)
         # Both outputs to one file have the notes after the lines that they are on.
         got = self.run_program([*arguments, "--explain"], stderr=subprocess.STDOUT)[1]
-        wanted = b"".join(text + notes for text, notes in items)
+        is_summary = "--summary" in arguments or "--merge" in arguments
+        wanted = out + err if is_summary else b"".join(text + notes for text, notes in items)
         self.case(f"explained: plan: {name}: in one file", [] if got == wanted else [f"{short(got)}, and not {short(wanted)}"])
 
     def test_worked_fleet(self):

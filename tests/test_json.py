@@ -569,6 +569,18 @@ class PlanTest(ProgramTest):
                 self.same(name, arguments, status, json_lines([found]), b"")
                 self.same(f"notes on {name}", [*arguments, "--explain"], status, json_lines([{**found, **notes}]), b"")
 
+    def test_other_keys(self):
+        """A key that `plan` doesn't count is added as it is. Its object has its first word as `kind`, and it has no note."""
+        text = b"1 a bar baz\n2 b device\n3 c take x y\n"
+        self.file("summary", text)
+        arguments = ["plan", "--merge", "summary"]
+        self.same("other keys as a text", arguments, 0, text, b"")
+        kinds = (1, "a", "bar"), (2, "b", "device"), (3, "c", "take")
+        found = {"rows": [{"count": count, "first": first, "kind": kind} for count, first, kind in kinds]}
+        self.same("other keys", [*arguments, "--json"], 0, json_lines([found]), b"")
+        noted = {**found, "notes": [row_note(b"2 b device")]}
+        self.same("notes on other keys", [*arguments, "--json", "--explain"], 0, json_lines([noted]), b"")
+
     def test_refused_fleets(self):
         """Without an answer nothing is printed but the error."""
         for arguments in (["plan", table("pair")], ["plan", table("pair"), "--summary"], ["plan", "--merge", table("pair")]):

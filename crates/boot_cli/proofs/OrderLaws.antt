@@ -17,33 +17,12 @@ use Rattle.device_commands.proofs.WordsLaws.{only_cut}
 use Rattle.boot_cli.specs.JsonEnd.{AnswersIn}
 use Rattle.boot_cli.specs.OrderEnd.{AnswersOrder}
 use Rattle.boot_cli.specs.WordsEnd.{EndsByCut}
-use Rattle.boot_cli.proofs.JsonLaws.{AnswersJson-kept, AnswersSwept-kept}
-use Rattle.creating.proofs.CopyLaws.{AnswersCopy-kept}
-use Rattle.creating.proofs.NewDeviceLaws.{AnswersNewDevice-kept}
-use Rattle.creating.proofs.NewImageLaws.{AnswersNewImage-kept}
-use Rattle.creating.proofs.NewManifestEnds.{AnswersNewManifest-kept}
+use Rattle.boot_cli.proofs.JsonLaws.{AnswersJson-kept, AnswersMaking-kept, AnswersSwept-kept}
 
 AnswersOrder-kept : (asked : Order) (input : Option (List ℕ)) (file then : FileBytes)
     (old mid new : Option (List ℕ))
     → AnswersOrder Done asked input file then old mid → Keeps mid new
     → AnswersOrder Done asked input file then old new
-AnswersOrder-kept (order.MakeDevice device) input file then old mid new answered kept =
-    AnswersNewDevice-kept device old mid new answered kept
-AnswersOrder-kept (order.MakeImage image body values) input file then old mid new answered kept = (
-  answered.0,
-  answered.1,
-  AnswersNewImage-kept answered.0 values input file (then image.name.now) old mid new answered.2 kept,
-  answered.3,
-)
-AnswersOrder-kept (order.MakeManifest device manifest) input file then old mid new answered kept =
-    (answered.0, answered.1, AnswersNewManifest-kept answered.0 manifest input file old mid new answered.2 kept)
-AnswersOrder-kept (order.Extract device flash image side out) input file then old mid new answered kept = (
-  answered.0,
-  answered.1,
-  answered.2,
-  AnswersCopy-kept answered.0 answered.1 image side input file (then out.name.now) old mid new answered.3 kept,
-  answered.4,
-)
 AnswersOrder-kept (order.Sweep device script images choices) input file then old mid new answered kept =
     AnswersSwept-kept form.Text Done (order.Sweep device script images choices) input file then old mid new answered kept
 AnswersOrder-kept (order.MergeSweeps outputs picture forced) input file then old mid new answered kept =
@@ -54,6 +33,8 @@ AnswersOrder-kept (order.Plan asked) input file then old mid new answered kept =
     AnswersPlan-kept form.Text asked input file old mid new answered kept
 AnswersOrder-kept (order.Read asked) input file then old mid new answered kept =
     AnswersReading-kept form.Text Done asked input file old mid new answered kept
+AnswersOrder-kept asked input file then old mid new answered kept =
+    AnswersMaking-kept asked input file then old mid new answered kept
 
 AnswersIn-kept : (is_json : Bool) (asked : Order) (input : Option (List ℕ)) (file then : FileBytes)
     (old mid new : Option (List ℕ))

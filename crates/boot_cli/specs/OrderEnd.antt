@@ -30,22 +30,27 @@ AnswersSwept form answer (order.MergeSweeps outputs picture forced) input file t
     AnswersMerge form answer old new × KeepsOutputs outputs.items picture file then
 AnswersSwept form answer asked input file then old new = ⊥
 
--- The answer to an order of this command. The files hold `then` after it.
-abbrev pub AnswersOrder : Answer → Order → Option (List ℕ) → FileBytes → FileBytes
+-- The answer to an order to make a file. The files hold `then` after it.
+abbrev pub AnswersMaking : Answer → Order → Option (List ℕ) → FileBytes → FileBytes
     → Option (List ℕ) → Option (List ℕ) → Type 0
-AnswersOrder answer (order.MakeDevice device) input file then old new =
+AnswersMaking answer (order.MakeDevice device) input file then old new =
     AnswersNewDevice answer device old new
-AnswersOrder answer (order.MakeImage image body values) input file then old new =
+AnswersMaking answer (order.MakeImage image body values) input file then old new =
     (source : Source) × IsNamed body.now source
     × AnswersNewImage answer source values input file (then image.name.now) old new
     × Replaces answer image file
-AnswersOrder answer (order.MakeManifest device manifest) input file then old new =
+AnswersMaking answer (order.MakeManifest device manifest) input file then old new =
     (source : Source) × IsNamed device.now source
     × AnswersNewManifest answer source manifest input file old new
-AnswersOrder answer (order.Extract device flash image side out) input file then old new =
+AnswersMaking answer (order.Extract device flash image side out) input file then old new =
     (one other : Source) × AreNamed device.now flash.now one other
     × AnswersCopy answer one other image side input file (then out.name.now) old new
     × Replaces answer out file
+AnswersMaking answer asked input file then old new = ⊥
+
+-- The answer to an order as a text. The files hold `then` after it.
+abbrev pub AnswersOrder : Answer → Order → Option (List ℕ) → FileBytes → FileBytes
+    → Option (List ℕ) → Option (List ℕ) → Type 0
 AnswersOrder answer (order.Sweep device script images choices) input file then old new =
     AnswersSwept form.Text answer (order.Sweep device script images choices) input file then old new
 AnswersOrder answer (order.MergeSweeps outputs picture forced) input file then old new =
@@ -56,6 +61,8 @@ AnswersOrder answer (order.Plan asked) input file then old new =
     AnswersPlan form.Text answer asked input file old new
 AnswersOrder answer (order.Read asked) input file then old new =
     AnswersReading form.Text answer asked input file old new
+AnswersOrder answer asked input file then old new =
+    AnswersMaking answer asked input file then old new
 
 -- `sweep` keeps what it reads, also with `--merge`, whatever its answer. Other orders promise
 -- nothing here.

@@ -12,6 +12,7 @@ use Rattle.host.specs.declared.answer.Answer.{Answer}
 use Rattle.host.specs.declared.answer.Answer.TheVariants.{Done, Refused}
 use Rattle.host.specs.declared.source.Source.{Source}
 use Rattle.host.specs.declared.source.Source.TheVariants.{StandardInput, File}
+use Rattle.inputs.specs.declared.device_input.BadMap.{BadMap}
 use Rattle.inputs.specs.DeviceInput.{GivesNoMap}
 use Rattle.host.specs.Doings.{IsApartFrom, KeepsApart, KeepsSource}
 use Rattle.host.specs.Input.{FileBytes, KeepsFiles}
@@ -50,7 +51,7 @@ HasDevice swept.Nothing = ⊥
 abbrev pub FindsSweep : Swept → Source → Source → Option (List ℕ) → FileBytes → Type 0
 FindsSweep (swept.Found found) device script input files = SweepsDevice device script input files
 FindsSweep (swept.RefusedMap refused) device script input files =
-    GivesNoMap device input files refused
+    (bad : BadMap) × GivesNoMap device input files bad × (refused ≡ bad.fault)
 FindsSweep (swept.RefusedDevice fault) device script input files =
     SweepsDevice device script input files
 FindsSweep swept.Nothing device script input files = ⊥

@@ -27,19 +27,20 @@ fn has_notes(refusal: &Refusal) -> bool {
         Refusal::TableLine(_)
         | Refusal::ReportLine(_)
         | Refusal::FleetLine
-        | Refusal::NotValid
-        | Refusal::DeviceFile
+        | Refusal::NotValid(_)
+        | Refusal::DeviceFile(_)
         | Refusal::FlashSize(_)
         | Refusal::FlashInUse
         | Refusal::ImageInUse
         | Refusal::ImageCount(_)
         | Refusal::NoImage { .. }
         | Refusal::ImageTooBig { .. }
-        | Refusal::ScriptLine(_, _)
+        | Refusal::ScriptLine(_)
         | Refusal::FlashFile(_) => true,
-        Refusal::OfSource(refused) => match refused.fault {
+        Refusal::OfSource(refused) => match &refused.fault {
             SourceFault::CannotRead(_)
-            | SourceFault::NoImage
+            | SourceFault::NoImage(_)
+            | SourceFault::NoOldImage
             | SourceFault::NoPicture
             | SourceFault::CannotMerge(_)
             | SourceFault::CannotReplace(Some(_)) => true,

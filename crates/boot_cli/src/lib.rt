@@ -13,11 +13,13 @@
 //! `creating`, and `provision` and `run` in `device_commands`.
 #![tactic(auto)]
 
-mod commands;
-mod explained;
-mod explained_plan;
+mod answering;
+mod code_list;
+mod codes;
+mod ending;
+mod error_members;
 mod hint;
-mod json;
+mod making;
 mod merging;
 mod program;
 mod progress;

@@ -6,7 +6,9 @@ ghost use Rattle.boot_cli.specs.SweepEnd.{AnswersMerge, KeepsOutputs};
 
 use crate::sweeping::{check_picture, hold_picture, make_picture, write_swept};
 use device_texts::Form;
-use host::{Answer, FlashFault, Host, MOST_FILE, Refusal, Source, SourceFault, refuse_input};
+use host::{
+    Answer, BadText, FlashFault, Host, MOST_FILE, Refusal, Source, SourceFault, refuse_input,
+};
 use std::alloc::Global;
 use std::io::Write;
 use sweep::{Found, Swept, add_output};
@@ -101,7 +103,10 @@ fn add_file<H: Host>(
     let text = output.read(alloc, host, MOST_FILE)?;
     match add_output(alloc, sum, &text) {
         Ok(Ok(())) => Ok(()),
-        Ok(Err(line)) => Err(output.refused(alloc, SourceFault::CannotMerge(line))),
+        Ok(Err(line)) => {
+            let bad = BadText { text, line };
+            Err(output.refused(alloc, SourceFault::CannotMerge(bad)))
+        }
         Err(_) => Err(Refusal::NoMemory),
     }
 }

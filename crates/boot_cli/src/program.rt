@@ -1,25 +1,18 @@
 //! Runs the order that the arguments give, and returns the exit status.
-ghost use Rattle.std.specs.Prelude.{◌≡◌, ◌≢◌, IfOk, map};
-ghost use Rattle.boot_cli.specs.JsonEnd.{AnswersIn, AnswersObject};
+ghost use Rattle.std.specs.Prelude.{◌≡◌, ◌≢◌, map};
+ghost use Rattle.boot_cli.specs.JsonEnd.{AnswersIn};
 ghost use Rattle.boot_cli.specs.OrderEnd.{KeepsSwept, UsesFlash};
 ghost use Rattle.boot_cli.specs.WordsEnd.{EndsByCut, EndsProgram};
 
-use crate::commands::run_command;
-use crate::explained::run_explained;
+use crate::answering::answer_request;
+use crate::ending::end;
 use crate::hint::hint_at_notes;
-use crate::json::{
-    answer_devices, answer_inspection, answer_replies, end, is_codes, lists_devices,
-    outcome_in_memory, write_object,
-};
-use crate::merging::run_merge;
-use crate::sweeping::{Named, run_sweep};
 use crate::until_failed::UntilFailed;
 use crate::words::request_in;
-use command_line::{Order, Request};
+use command_line::Request;
 use device_commands::answer_words;
-use device_texts::Form;
-use host::{Answer, Host, Refusal};
-use inspecting::NoPlanNotes;
+use explaining::CommandNotes;
+use host::{Answer, Host};
 use std::alloc::Global;
 use std::convert::AsStr;
 use std::io::Write;
@@ -44,9 +37,6 @@ pub fn cli<S: AsStr, H: Host, O: Write, E: Write>(
         (O.contents out.old) (O.contents out.new) }
 {
     match request_in(alloc, words) {
-        Ok(request) if request.is_explained => {
-            run_explained(alloc, request, host, out, err).status
-        }
         Ok(request) => run_order(alloc, request, words.len() > 1, host, out, err),
         Err(error) => answer_words(alloc, words, error, out, err),
     }
@@ -59,6 +49,11 @@ pub fn cli<S: AsStr, H: Host, O: Write, E: Write>(
 /// The answer is written to `out` and an error to `err`, as JSON if the request says so. As JSON,
 /// nothing is written to `out` if the command has no answer. If memory runs out
 /// for the object, the command ends with `NoMemory`, after it did its work.
+///
+/// If the request asks for notes, those on the answer go to `err`. As JSON, they are members of the
+/// object of the answer, or of that of a device of `plan`. The notes on a reply of `run` are an object
+/// of their own after that of the reply. Without an answer the notes are of the error: they follow
+/// its line on `err`, or are members of its object there.
 pub fn run_order<H: Host, O: Write, E: Write>(
     alloc: Global,
     request: Request<'_>,
@@ -79,81 +74,21 @@ pub fn run_order<H: Host, O: Write, E: Write>(
         (H.opened host.new) (H.synced host.new) }
 {
     let mut err = UntilFailed::over(err);
-    let outcome = answer_request(alloc, &request, host, out, &mut err);
-    let status = end(alloc, request.is_json, &outcome, &[], out, &mut err);
-    if may_hint && !request.is_json {
+    let mut notes = CommandNotes::new(alloc, request.is_explained);
+    let outcome = answer_request(alloc, &request, host, out, &mut err, &mut notes);
+    if let Err(refusal) = &outcome {
+        notes.on_refusal(&request.order, refusal);
+    }
+    let status = end(
+        alloc,
+        request.is_json,
+        &outcome,
+        notes.text(),
+        out,
+        &mut err,
+    );
+    if may_hint && !request.is_json && !request.is_explained {
         hint_at_notes(&outcome, &*host, &mut err);
     }
     status
-}
-
-/// Runs the command of an order, and writes its answer to `out` in the requested form.
-fn answer_request<H: Host, O: Write, E: Write>(
-    alloc: Global,
-    request: &Request<'_>,
-    host: &mut H,
-    out: &mut O,
-    err: &mut E,
-) -> Result<Answer, Refusal>
-    ensures answers { IfOk result (λ answer. AnswersIn request.now.is_json answer request.now.order
-        (H.input host.old) (H.file host.old) (H.file host.new)
-        (O.contents out.old) (O.contents out.new)) }
-    ensures swept { KeepsSwept request.now.order (H.file host.old) (H.file host.new) }
-    ensures used { IfOk result (λ answer. answer ≡ Answer.Done
-        → UsesFlash request.now.order (H.opened host.old) (H.opened host.new) (H.synced host.new)) }
-{
-    if !request.is_json {
-        return run_command(alloc, &request.order, host, out, err);
-    }
-    match request.order {
-        Order::Device(ref order) => answer_replies(alloc, order, host, out),
-        Order::Plan(ref order) if lists_devices(order) => {
-            answer_devices(alloc, order, host, &mut NoPlanNotes, out)
-        }
-        Order::Read(order) if is_codes(order) => answer_object(
-            alloc,
-            &request.order,
-            host,
-            out,
-            err,
-        ),
-        Order::Read(order) => answer_inspection(alloc, order, host, out),
-        Order::Sweep {
-            device,
-            script,
-            ref images,
-            choices,
-        } => {
-            let named = Named::of(device, script, images, choices);
-            run_sweep(alloc, Form::Json, named, host, out, err)
-        }
-        Order::MergeSweeps {
-            ref outputs,
-            picture,
-            forced,
-        } => run_merge(alloc, Form::Json, outputs, picture, forced, host, out),
-        _ => answer_object(alloc, &request.order, host, out, err),
-    }
-}
-
-/// Runs the command of an order, and writes an object with its answer to `out`.
-fn answer_object<H: Host, O: Write, E: Write>(
-    alloc: Global,
-    order: &Order<'_>,
-    host: &mut H,
-    out: &mut O,
-    err: &mut E,
-) -> Result<Answer, Refusal>
-    ensures answers { IfOk result (λ answer. AnswersObject answer order.now
-        (H.input host.old) (H.file host.old) (H.file host.new)
-        (O.contents out.old) (O.contents out.new)) }
-    ensures swept { KeepsSwept order.now (H.file host.old) (H.file host.new) }
-    ensures used { IfOk result (λ answer. answer ≡ Answer.Done
-        → UsesFlash order.now (H.opened host.old) (H.opened host.new) (H.synced host.new)) }
-{
-    let mut text = Vec::new(alloc);
-    let outcome = run_command(alloc, order, host, &mut text, err);
-    let answer = outcome_in_memory(outcome)?;
-    write_object(alloc, order, &text, &[], out)?;
-    Ok(answer)
 }

@@ -18,8 +18,9 @@ use command_line::{SweepChoices, SweepPart};
 use common::event::Event;
 use device_commands::provision::read_images;
 use device_texts::{DeviceFile, Form, Line, flash_of, write_all};
+use explaining::CommandNotes;
 use host::{Answer, FlashFault, Host, Refusal, Replaced, Source, SourceFault, refuse_input};
-use inputs::{Lines, device_or_fault, load, read_script};
+use inputs::{Lines, Notes, device_or_fault, load, notes_in, read_script};
 use machine::Fault;
 use sector_map::SectorMap;
 use std::alloc::{AllocError, Global};
@@ -80,8 +81,8 @@ struct Start {
     held: Result<(), FlashFault>,
 }
 
-/// Runs a script on a device with power cuts, and writes to `out` how the runs ended, in this form.
-/// `sweep_device` says what it reads and makes.
+/// Runs a script on a device with power cuts, and writes to `out` how the runs ended, in this form, with
+/// the notes that JSON has. The notes are added to `notes`. `sweep_device` says what it reads and makes.
 pub fn run_sweep<H: Host, O: Write, E: Write>(
     alloc: Global,
     form: Form,
@@ -89,6 +90,7 @@ pub fn run_sweep<H: Host, O: Write, E: Write>(
     host: &mut H,
     out: &mut O,
     err: &mut E,
+    notes: &mut CommandNotes,
 ) -> Result<Answer, Refusal>
     ensures answers { IfOk result (λ answer.
         AnswersSweep form answer named.entry.device named.entry.script
@@ -96,8 +98,12 @@ pub fn run_sweep<H: Host, O: Write, E: Write>(
     ensures inputs { KeepsInputs named.entry.device named.entry.script named.entry.images.now
         named.entry.choices.picture (H.file host.old) (H.file host.new) }
 {
-    let swept = sweep_device(alloc, named, host, err)?;
-    write_swept(alloc, form, &[], &swept, out)
+    let swept = sweep_device(alloc, named, host, err, notes)?;
+    notes.on_answer(answer_of(&swept));
+    let Ok(notes) = notes_in(alloc, notes.text()) else {
+        return Err(Refusal::NoMemory);
+    };
+    write_swept(alloc, form, &notes, &swept, out)
 }
 
 /// Writes the result of a sweep to `out` in a form, and returns the answer. The object has the notes
@@ -127,7 +133,7 @@ pub fn write_swept<O: Write>(
 }
 
 /// The answer of a sweep with this result.
-pub fn answer_of(swept: &Swept) -> Answer
+fn answer_of(swept: &Swept) -> Answer
     ensures { result ≡ answer_of swept.now }
 {
     if swept.is_good() {
@@ -139,7 +145,8 @@ pub fn answer_of(swept: &Swept) -> Answer
 
 /// Runs a script on a device with power cuts, and returns how the runs ended.
 ///
-/// The device file, the script and the images are read from `host`. The flash is made and
+/// The device file, the script and the images are read from `host`. A device file without a map, and
+/// the images, are handed to `notes`. The flash is made and
 /// provisioned in memory of `alloc`. `named` says at which writes the power fails. At a terminal,
 /// the progress is written to `err`.
 ///
@@ -148,11 +155,12 @@ pub fn answer_of(swept: &Swept) -> Answer
 /// forced. The picture is made or replaced after all runs. No other file changes. The device file,
 /// the script, the files that its lines name and the images keep their bytes on every path: none of
 /// them may be the picture.
-pub fn sweep_device<H: Host, E: Write>(
+fn sweep_device<H: Host, E: Write, N: Notes>(
     alloc: Global,
     named: Named<'_, '_>,
     host: &mut H,
     err: &mut E,
+    notes: &mut N,
 ) -> Result<Swept, Refusal>
     ensures finds { IfOk result (λ swept.
         FindsSweep swept named.entry.device named.entry.script (H.input host.old) (H.file host.old)) }
@@ -162,15 +170,21 @@ pub fn sweep_device<H: Host, E: Write>(
     let is_input_read = reads_standard_input(&named);
     let device = match device_or_fault(alloc, named.device, host)? {
         Ok(device) => device,
-        Err(refused) => return Ok(Swept::RefusedMap(refused)),
+        Err(bad) => {
+            notes.bad_map(&bad);
+            return Ok(Swept::RefusedMap(bad.fault));
+        }
     };
     let text = read_script(alloc, named.script, host)?;
-    let events = load(alloc, &text, is_input_read, host)?;
+    let events = match load(alloc, &text, is_input_read, host) {
+        Ok(events) => events,
+        Err(refusal) => return Err(refusal.in_script(text)),
+    };
     let script = Script {
         text: &text,
         events: &events,
     };
-    sweep_images(alloc, &device, script, &named, host, err)
+    sweep_images(alloc, &device, script, &named, host, err, notes)
 }
 
 /// Whether one of these files is standard input.
@@ -242,13 +256,14 @@ fn refuse_line<H: Host>(
 }
 
 /// Reads the images, provisions a flash with them, and sweeps a script on it.
-fn sweep_images<H: Host, E: Write>(
+fn sweep_images<H: Host, E: Write, N: Notes>(
     alloc: Global,
     device: &DeviceFile,
     script: Script<'_, '_>,
     named: &Named<'_, '_>,
     host: &mut H,
     err: &mut E,
+    notes: &mut N,
 ) -> Result<Swept, Refusal>
     requires device { IsOfFile device.now }
     ensures ran { IfOk result HasDevice }
@@ -256,7 +271,7 @@ fn sweep_images<H: Host, E: Write>(
         (IsNamedBy script.entry.text.now) named.now.choices.picture
         (H.file host.old) (H.file host.new) }
 {
-    let Start { bytes, held } = prepare(alloc, &device.map, named, host)?;
+    let Start { bytes, held } = prepare(alloc, &device.map, named, host, notes)?;
     refuse_inputs(alloc, host, named, script.text, held)?;
     let Ok(made) = provision_in_memory::<Brand>(alloc, Blank::new(2), &device.map, bytes) else {
         return Err(Refusal::NoMemory);
@@ -277,16 +292,17 @@ fn sweep_images<H: Host, E: Write>(
 }
 
 /// Reads the images, and then looks up the picture.
-fn prepare<H: Host>(
+fn prepare<H: Host, N: Notes>(
     alloc: Global,
     map: &SectorMap,
     named: &Named<'_, '_>,
     host: &mut H,
+    notes: &mut N,
 ) -> Result<Start, Refusal>
     ensures whole { IfOk result (λ start. IsFlashOf map.now start.bytes.items) }
     ensures kept { KeepsFiles (H.file host.old) (H.file host.new) }
 {
-    let bytes = read_images(alloc, map, named.images, host)?;
+    let bytes = read_images(alloc, map, named.images, host, notes)?;
     // Not earlier: while the host reads, a name may become that of another file.
     let held = hold_picture(alloc, named.choices.picture, host);
     Ok(Start { bytes, held })

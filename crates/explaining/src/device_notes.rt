@@ -1,11 +1,12 @@
-//! Explains the results of the devices of a plan.
+//! Explains the results of the devices of a plan, and the rows of its summary.
 
+use crate::summary_notes::row_notes;
 use diagnostics::explain_planned;
-use inspecting::{Outcome, PlanNotes};
+use inspecting::{Outcome, PlanNotes, Rows};
 use std::alloc::{AllocError, Global};
 use std::io::Write;
 
-/// Says why the devices of a plan have their results.
+/// Says why the devices of a plan have their results, and what the rows of its summary mean.
 #[derive(Drop)]
 pub struct DeviceNotes<'e, E> {
     alloc: Global,
@@ -13,7 +14,7 @@ pub struct DeviceNotes<'e, E> {
 }
 
 impl<'e, E: Write> DeviceNotes<'e, E> {
-    /// The notes on devices, in memory of `alloc`. Those on the text of a device go to `err`.
+    /// The notes on devices or rows, in memory of `alloc`. Those on a text go to `err`.
     pub fn new(alloc: Global, err: &'e mut E) -> Self {
         DeviceNotes { alloc, err }
     }
@@ -24,6 +25,11 @@ impl<E: Write> PlanNotes for DeviceNotes<'_, E> {
         let mut notes = String::new(self.alloc);
         // If memory runs out, the notes so far are returned.
         let _ = explain_outcome(&mut notes, name, outcome);
+        if notes.is_empty() { None } else { Some(notes) }
+    }
+
+    fn explain_rows(&mut self, rows: &Rows) -> Option<String> {
+        let notes = row_notes(self.alloc, rows);
         if notes.is_empty() { None } else { Some(notes) }
     }
 

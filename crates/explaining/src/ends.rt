@@ -1,94 +1,65 @@
-//! Explains how a command ended.
+//! Explains why a command refuses an order.
 
-use crate::answers::explain_answer;
-use crate::done::explain_done;
-use crate::ended::Ended;
-use crate::files::{explain_flash, explain_lock, explain_source};
+use crate::files::{explain_flash, explain_lock, explain_source, flash_name, image_name};
 use crate::fleets::explain_fleet;
-use crate::order_sources::{flash_name, image_name};
-use crate::remembering::Remembering;
 use crate::sizes::{explain_count, explain_flash_size, explain_slot_size};
 use certificate::Table;
 use command_line::Order;
 use diagnostics::{
     explain_device, explain_report_line, explain_running, explain_script_line, explain_table_line,
 };
-use host::{Answer, Host, Refusal};
+use host::{NamedText, Refusal, ScriptLine, Source};
 use std::alloc::{AllocError, Global};
-use std::io::Write;
 
-/// Writes to `err` why the command of `order`, which was run over `host`, ended with `outcome`.
+/// Adds why the command of an order ended with this refusal. JSON values are in memory of `alloc`.
 ///
-/// The notes are in memory of `alloc`. There are none if memory ran out for the log of what was
-/// read.
-pub fn explain_end<H: Host, E: Write>(
+/// # Errors
+/// `AllocError` if memory runs out. Then `notes` has a part of the text.
+pub fn explain_refusal(
+    notes: &mut String,
     alloc: Global,
     order: &Order<'_>,
-    outcome: &Result<Answer, Refusal>,
-    host: &Remembering<H>,
-    err: &mut E,
-) {
-    if !host.log.is_whole() {
-        return;
-    }
-    let mut notes = String::new(alloc);
-    let ended = Ended { alloc, order, host };
-    // If memory runs out, the notes so far are written.
-    let _ = match outcome {
-        Ok(Answer::Done) => explain_done(&mut notes, &ended),
-        Ok(Answer::Refused) => explain_answer(&mut notes, &ended),
-        Ok(Answer::Cut) => Ok(()),
-        Err(refusal) => explain_refusal(&mut notes, &ended, refusal),
-    };
-    // The notes are no part of the answer, so a failed write changes nothing.
-    let _ = err.write_all(notes.as_bytes());
-    let _ = err.flush();
-}
-
-/// Adds why a command refuses an order.
-fn explain_refusal<H: Host>(
-    notes: &mut String,
-    ended: &Ended<'_, '_, '_, H>,
     refusal: &Refusal,
 ) -> Result<(), AllocError> {
-    let (order, host, sources) = (ended.order, ended.host, ended.sources());
-    match *refusal {
-        Refusal::TableLine(number) => {
-            explain_table_line(notes, host.bytes_of(sources.table), number)
-        }
-        Refusal::ReportLine(number) => {
-            explain_report_line(notes, host.bytes_of(sources.report), number)
-        }
+    match refusal {
+        Refusal::TableLine(bad) => explain_table_line(notes, &bad.text, bad.line),
+        Refusal::ReportLine(bad) => explain_report_line(notes, &bad.text, bad.line),
         Refusal::FleetLine => explain_fleet(notes),
-        Refusal::NotValid => match Table::parse(host.bytes_of(sources.table)) {
+        Refusal::NotValid(text) => match Table::parse(text) {
             Ok(table) => explain_running(notes, &table),
             Err(_) => Ok(()),
         },
-        Refusal::DeviceFile => explain_device_file(notes, ended),
-        Refusal::ScriptLine(number, fault) => {
-            explain_script_line(notes, host.bytes_of(sources.script), number, fault)
-        }
-        Refusal::OfSource(ref refused) => explain_source(notes, order, refused, host),
-        Refusal::FlashFile(error) => explain_flash(notes, order, error),
+        Refusal::DeviceFile(file) => explain_device_file(notes, alloc, file),
+        Refusal::ScriptLine(bad) => explain_bad_line(notes, bad),
+        Refusal::OfSource(refused) => explain_source(notes, order, refused),
+        Refusal::FlashFile(error) => explain_flash(notes, order, *error),
         Refusal::FlashInUse => explain_lock(notes, flash_name(order)),
         Refusal::ImageInUse => explain_lock(notes, image_name(order)),
-        Refusal::FlashSize(length) => explain_flash_size(notes, flash_name(order), length),
-        Refusal::ImageCount(images) => explain_count(notes, images),
+        Refusal::FlashSize(length) => explain_flash_size(notes, flash_name(order), *length),
+        Refusal::ImageCount(images) => explain_count(notes, *images),
         Refusal::NoImage { images, .. } if !matches!(order, Order::Plan(_)) => {
-            explain_count(notes, images)
+            explain_count(notes, *images)
         }
-        Refusal::ImageTooBig { image, most } => explain_slot_size(notes, image, most),
+        Refusal::ImageTooBig { image, most } => explain_slot_size(notes, *image, *most),
         _ => Ok(()),
     }
 }
 
 /// Adds which file is no device file, and why.
-fn explain_device_file<H: Host>(
+fn explain_device_file(
     notes: &mut String,
-    ended: &Ended<'_, '_, '_, H>,
+    alloc: Global,
+    file: &NamedText,
 ) -> Result<(), AllocError> {
-    if let Some(device) = ended.sources().device {
-        writeln!(notes, "note: {device} is no device file:")?;
+    let device = Source::named(&file.name);
+    writeln!(notes, "note: {device} is no device file:")?;
+    explain_device(notes, alloc, &file.text)
+}
+
+/// Adds why a line of a script can't be run.
+fn explain_bad_line(notes: &mut String, bad: &ScriptLine) -> Result<(), AllocError> {
+    match &bad.script {
+        Some(script) => explain_script_line(notes, script, bad.line, bad.fault),
+        None => Ok(()),
     }
-    explain_device(notes, ended.alloc, ended.device_bytes())
 }

@@ -2,6 +2,7 @@
 
 use common::event::Event;
 use device_texts::DeviceFile;
+use diagnostics::Images;
 use machine::Fault;
 use std::alloc::AllocError;
 use upload::UploadError;
@@ -61,9 +62,10 @@ fn explain_image_of(
     };
     let images = device.map.images;
     if image >= images {
+        let all = Images(usize::from(images));
         return writeln!(
             notes,
-            "note: there is no image {image}; there are {images}, from 0 on"
+            "note: there is no image {image}; the device has {all}"
         );
     }
     writeln!(notes, "note: image {image}: {why}")

@@ -1,12 +1,11 @@
 //! Explains why a file can't be read or written.
 
 use crate::fleets::{explain_output, explain_summary};
-use crate::images::explain_bytes;
-use crate::order_sources::OrderSources;
-use crate::remembering::Remembering;
 use crate::scripts::explain_place;
-use command_line::{DeviceOrder, Order};
-use host::{Host, Source, SourceFault, SourceRefusal};
+use command_line::{DeviceOrder, Order, ReadOrder};
+use diagnostics::explain_image;
+use host::{Source, SourceFault, SourceRefusal};
+use image_reading::describe;
 use std::alloc::AllocError;
 use std::io;
 use std::io::ErrorKind;
@@ -14,31 +13,30 @@ use std::io::ErrorKind;
 /// Adds why a source is refused: the system's reason, the first script line that names a file which
 /// can't be read, how to replace a file that isn't an image, why a requested file is no image, and
 /// the wrong line of a summary.
-pub fn explain_source<H: Host>(
+pub fn explain_source(
     notes: &mut String,
     order: &Order<'_>,
     refused: &SourceRefusal,
-    host: &Remembering<H>,
 ) -> Result<(), AllocError> {
     let source = refused.source();
-    match refused.fault {
+    match &refused.fault {
         SourceFault::CannotRead(error) => {
-            explain_error(notes, source, error)?;
-            let script = OrderSources::of(order).script;
-            explain_place(notes, source, host.bytes_of(script))
+            explain_error(notes, source, *error)?;
+            match &refused.script {
+                Some(script) => explain_place(notes, source, script),
+                None => Ok(()),
+            }
         }
-        SourceFault::CannotReplace(Some(error)) => explain_error(notes, source, error),
+        SourceFault::CannotReplace(Some(error)) => explain_error(notes, source, *error),
         SourceFault::CannotReplace(None) => Ok(()),
-        SourceFault::NoImage => match order {
-            Order::Plan(_) => explain_bytes(notes, host.bytes_of(Some(source))),
-            _ => explain_names(notes, order, source),
-        },
+        SourceFault::NoImage(bytes) => explain_bytes(notes, bytes),
+        SourceFault::NoOldImage => explain_names(notes, order, source),
         SourceFault::NoPicture => {
             writeln!(notes, "note: `--force` replaces {source} by the picture")
         }
-        SourceFault::CannotMerge(line) => match order {
-            Order::Plan(_) => explain_summary(notes, host.bytes_of(Some(source)), line),
-            _ => explain_output(notes, host.bytes_of(Some(source)), line),
+        SourceFault::CannotMerge(bad) => match order {
+            Order::Plan(_) => explain_summary(notes, &bad.text, bad.line),
+            _ => explain_output(notes, &bad.text, bad.line),
         },
         SourceFault::TooLong(_) => Ok(()),
     }
@@ -114,4 +112,31 @@ fn is_read_only(error: io::Error) -> bool {
         error.kind(),
         ErrorKind::PermissionDenied | ErrorKind::ReadOnlyFilesystem
     )
+}
+
+/// The name of the flash file of an order, if it has one.
+pub fn flash_name<'a>(order: &Order<'a>) -> Option<&'a str> {
+    match order {
+        Order::Device(DeviceOrder::Provision { flash, .. } | DeviceOrder::Run { flash, .. })
+        | Order::Read(ReadOrder::Show { flash, .. } | ReadOrder::Slots { flash, .. })
+        | Order::Extract { flash, .. } => Some(*flash),
+        Order::MakeManifest { manifest, .. } => manifest.precursor,
+        _ => None,
+    }
+}
+
+/// The name of the image file that an order makes, if it makes one.
+pub fn image_name<'a>(order: &Order<'a>) -> Option<&'a str> {
+    match order {
+        Order::MakeImage { image: file, .. } | Order::Extract { out: file, .. } => Some(file.name),
+        _ => None,
+    }
+}
+
+/// Adds why bytes aren't an intact image, if they aren't.
+fn explain_bytes(notes: &mut String, bytes: &[u8]) -> Result<(), AllocError> {
+    match describe(bytes) {
+        Ok(_) => Ok(()),
+        Err(fault) => explain_image(notes, bytes, fault),
+    }
 }

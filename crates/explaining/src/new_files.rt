@@ -1,13 +1,12 @@
 //! Explains why a device file, an image or a manifest can't be made.
 
-use crate::slots::{begins_intact, explain_slot};
 use command_line::{NewComponent, NewDevice, NewImage, NewManifest};
 use common::limits::{MOST_ALTERNATIVES, MOST_DEPENDENCIES, MOST_GROUPS};
 use device_texts::DeviceFile;
-use diagnostics::explain_asked_map;
+use diagnostics::{Images, explain_asked_map};
 use host::Source;
 use image_header::{ACCEPTED_FLAGS, HEADER_LENGTH};
-use sector_map::{SectorMap, Side};
+use sector_map::SectorMap;
 use std::alloc::AllocError;
 
 /// Adds which sizes in the arguments of `make-device` make no map.
@@ -73,27 +72,16 @@ fn explain_groups(notes: &mut String, asked: &NewImage) -> Result<(), AllocError
 }
 
 /// Adds which files in the arguments of `make-manifest` can't be in a manifest for the device: a
-/// file for an image that the device doesn't have, or for the image of an earlier file. If there is
-/// no such file, adds which running image on the flash isn't intact.
-pub fn explain_new_manifest(
+/// file for an image that the device doesn't have, or for the image of an earlier file.
+pub fn explain_components(
     notes: &mut String,
     device: &DeviceFile,
     asked: &NewManifest<'_>,
-    flash: &[u8],
 ) -> Result<(), AllocError> {
-    let empty = notes.len();
     let components = asked.components.as_slice();
     for (place, component) in components.iter().enumerate() {
         let before = components.get(..place).unwrap_or_default();
         explain_component(notes, device, before, component)?;
-    }
-    if notes.len() > empty {
-        return Ok(());
-    }
-    for component in components {
-        if !begins_intact(&device.map, flash, component.image, Side::Primary) {
-            return explain_slot(notes, &device.map, flash, component.image, Side::Primary);
-        }
     }
     Ok(())
 }
@@ -108,9 +96,10 @@ fn explain_component(
     let (file, image) = (Source::named(component.file), component.image);
     let images = device.map.images;
     if image >= images {
+        let all = Images(usize::from(images));
         writeln!(
             notes,
-            "note: {file} is for image {image}, and the device has {images}, from 0 on"
+            "note: {file} is for image {image}, and the device has {all}"
         )?;
     }
     for other in before {

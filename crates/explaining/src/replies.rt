@@ -7,11 +7,9 @@ use crate::uploads::explain_opening;
 use common::event::Event;
 use device_texts::DeviceFile;
 use diagnostics::{explain_manifest, explain_refusals};
-use inputs::RunNotes;
 use machine::{Fault, Reply};
 use manifest::Manifest;
 use std::alloc::{AllocError, Global};
-use std::io::Write;
 
 /// Says why a run has its replies.
 #[derive(Drop)]
@@ -20,54 +18,6 @@ pub struct ReplyNotes {
     device: Option<DeviceFile>,
     uploads: UploadLog,
     trials: Trials,
-}
-
-/// Writes to standard error why a run has its replies.
-#[derive(Drop)]
-pub struct WrittenNotes<'e, E> {
-    notes: ReplyNotes,
-    err: &'e mut E,
-}
-
-impl<'e, E: Write> WrittenNotes<'e, E> {
-    /// The notes of a run, to be written to `err`. They are made in memory of `alloc`.
-    pub fn new(alloc: Global, err: &'e mut E) -> Self {
-        WrittenNotes {
-            notes: ReplyNotes::new(alloc),
-            err,
-        }
-    }
-}
-
-impl<E: Write> RunNotes for WrittenNotes<'_, E> {
-    fn begin(&mut self, device: &DeviceFile, flash: &[u8]) {
-        self.notes.begin(device, flash);
-    }
-
-    /// Writes why the event of this number has this reply, if there is a note on it. Returns none.
-    fn tell(&mut self, number: usize, event: &Event<Vec<u8>>, reply: &Reply) -> Option<String> {
-        let notes = self.notes.tell(number, event, reply)?;
-        // The notes are no part of the answer, so a failed write changes nothing.
-        let _ = writeln!(self.err, "note: of reply {number}:");
-        let _ = self.err.write_all(notes.as_bytes());
-        let _ = self.err.flush();
-        None
-    }
-}
-
-impl RunNotes for ReplyNotes {
-    fn begin(&mut self, device: &DeviceFile, flash: &[u8]) {
-        self.device = Some(*device);
-        self.trials = Trials::on(&device.map, flash);
-    }
-
-    fn tell(&mut self, _: usize, event: &Event<Vec<u8>>, reply: &Reply) -> Option<String> {
-        let device = self.device?;
-        let mut notes = String::new(self.alloc);
-        // If memory runs out, the notes so far are returned.
-        let _ = self.explain(&mut notes, &device, event, reply);
-        if notes.is_empty() { None } else { Some(notes) }
-    }
 }
 
 impl ReplyNotes {
@@ -80,6 +30,21 @@ impl ReplyNotes {
             uploads: UploadLog::new(alloc),
             trials: Trials::default(),
         }
+    }
+
+    /// Begins a run on a device whose flash has these bytes.
+    pub fn begin(&mut self, device: &DeviceFile, flash: &[u8]) {
+        self.device = Some(*device);
+        self.trials = Trials::on(&device.map, flash);
+    }
+
+    /// Returns why the event has this reply, if there is a note on it.
+    pub fn on_reply(&mut self, event: &Event<Vec<u8>>, reply: &Reply) -> Option<String> {
+        let device = self.device?;
+        let mut notes = String::new(self.alloc);
+        // If memory runs out, the notes so far are returned.
+        let _ = self.explain(&mut notes, &device, event, reply);
+        if notes.is_empty() { None } else { Some(notes) }
     }
 
     /// Adds why the event has this reply, and logs the bytes of the event for later notes.

@@ -1,12 +1,9 @@
-//! Explains why a line of a script is refused, and finds the line that names a file.
+//! Finds the line of a script that names a file.
 
-use crate::order_sources::OrderSources;
-use crate::remembering::Remembering;
-use command_line::Order;
 use common::lines::first_line;
 use device_texts::{Event, Line, line_of};
 use diagnostics::Shown;
-use host::{Host, Source};
+use host::Source;
 use std::alloc::AllocError;
 
 /// Adds the first line of a script that names this source, if one does.

@@ -1,11 +1,13 @@
 //! Explains wrong sizes and counts of input files.
 
+use diagnostics::Images;
 use host::{Source, WrongLength};
 use std::alloc::AllocError;
 
 /// Adds how many images the device has.
 pub fn explain_count(notes: &mut String, images: u8) -> Result<(), AllocError> {
-    writeln!(notes, "note: the device has {images} images, from 0 on")
+    let all = Images(usize::from(images));
+    writeln!(notes, "note: the device has {all}")
 }
 
 /// Adds the length of the slot of an image, in bytes.

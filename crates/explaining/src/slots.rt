@@ -5,7 +5,7 @@ ghost use Rattle.device_texts.specs.FlashOf.{IsFlashOf, flash_of};
 ghost use Rattle.image_reading.specs.Slot.{slot_bytes};
 
 use diagnostics::explain_image;
-use image_reading::{ImageError, describe};
+use image_reading::describe;
 use sector_map::{SectorMap, Side};
 use std::alloc::AllocError;
 
@@ -25,14 +25,6 @@ fn slot_of<'f>(map: &SectorMap, flash: &'f [u8], image: u8, side: Side) -> &'f [
     &flash[start..end]
 }
 
-/// Whether a slot of a flash of these bytes begins with an intact image. More bytes may follow it.
-pub fn begins_intact(map: &SectorMap, flash: &[u8], image: u8, side: Side) -> bool {
-    matches!(
-        describe(slot_of(map, flash, image, side)),
-        Ok(_) | Err(ImageError::TrailingBytes)
-    )
-}
-
 /// Adds why a slot on a flash of these bytes doesn't begin with an intact image: it is erased, or a
 /// check of its bytes fails.
 pub fn explain_slot(
@@ -42,7 +34,16 @@ pub fn explain_slot(
     image: u8,
     side: Side,
 ) -> Result<(), AllocError> {
-    let slot = slot_of(map, flash, image, side);
+    explain_content(notes, slot_of(map, flash, image, side), image, side)
+}
+
+/// Adds why a slot with these bytes doesn't begin with an intact image.
+pub fn explain_content(
+    notes: &mut String,
+    slot: &[u8],
+    image: u8,
+    side: Side,
+) -> Result<(), AllocError> {
     let name = match side {
         Side::Primary => "primary",
         Side::Secondary => "secondary",

@@ -1,4 +1,4 @@
-use Rattle.std.proofs.Common.{[], subst}
+use Rattle.std.proofs.Common.{[], refl, subst}
 use Rattle.std.proofs.lemmas.Result.{IfOk-weaker}
 use Rattle.inputs.specs.Loading.{came_in}
 use Rattle.inputs.specs.Script.{IsScript}
@@ -18,14 +18,18 @@ sweep_images-requires g c =
 pub returns-clause-finds : goal.returns-clause-finds
 returns-clause-finds g c =
     let read = rw c.in-Ok.is at c.in_ok-device.ensures.read in
-    let came = came_in c.in_ok-events.events.items in
+    let came = came_in c.in-Ok-load.events.items in
     IfOk-weaker c.sweep_images.result _ _
     (λ it ran. FindsSweep-read it c.args.named.device c.args.named.script _ _ _ _ _ _
     c.in_ok-text.text.items came c.in-Ok.device read c.in_ok-device.ensures.others
     c.in_ok-text.ensures.bytes c.in_ok-text.ensures.others
-    (λ known stays. subst (λ text. IsScript text known [] came) c.deref.ensures.value (c.in_ok-events.ensures.script known stays))
+    (λ known stays. subst (λ text. IsScript text known [] came) c.deref.ensures.value (c.in-Ok-load.ensures.script known stays))
     ran)
     c.sweep_images.ensures.ran
+
+-- The sizes of the device file make no map.
+pub returns-in-Err-clause-finds : goal.returns-in-Err-clause-finds
+returns-in-Err-clause-finds g c = (c.in-Err.bad, rw c.in-Err.is at c.in_ok-device.ensures.read, refl)
 
 -- Nothing was written yet, so the inputs are kept.
 pub returns-in_err-device-clause-inputs : goal.returns-in_err-device-clause-inputs
@@ -40,17 +44,17 @@ pub returns-in_err-text-clause-inputs : goal.returns-in_err-text-clause-inputs
 returns-in_err-text-clause-inputs g c = inputs_kept c.args.named.device c.args.named.script c.args.named.images.now
     (IsNamedIn c.args.named.script (g.H.Host.file c.args.host.now)) c.args.named.choices.picture _ _ (KeepsFiles-twice _ _ _ c.in_ok-device.ensures.files c.in_err-text.ensures.files)
 
-pub returns-in_err-events-clause-inputs : goal.returns-in_err-events-clause-inputs
-returns-in_err-events-clause-inputs g c = inputs_kept c.args.named.device c.args.named.script c.args.named.images.now
+pub returns-in-Err-load-clause-inputs : goal.returns-in-Err-load-clause-inputs
+returns-in-Err-load-clause-inputs g c = inputs_kept c.args.named.device c.args.named.script c.args.named.images.now
     (IsNamedIn c.args.named.script (g.H.Host.file c.args.host.now)) c.args.named.choices.picture _ _ (KeepsFiles-twice _ _ _ c.in_ok-device.ensures.files
-    (KeepsFiles-twice _ _ _ c.in_ok-text.ensures.files c.in_err-events.ensures.files))
+    (KeepsFiles-twice _ _ _ c.in_ok-text.ensures.files c.in-Err-load.ensures.files))
 
 -- The inputs are kept to the end.
 pub returns-clause-inputs : goal.returns-clause-inputs
 returns-clause-inputs g c = inputs_later c.args.named.device c.args.named.script c.args.named.images.now c.in_ok-text.text.items
     c.args.named.choices.picture _ _ _ _ _ c.in_ok-device.ensures.files c.in_ok-text.ensures.bytes
     (KeepsFiles-twice _ _ _ c.in_ok-device.ensures.files
-    (KeepsFiles-twice _ _ _ c.in_ok-text.ensures.files c.in_ok-events.ensures.files))
+    (KeepsFiles-twice _ _ _ c.in_ok-text.ensures.files c.in-Ok-load.ensures.files))
     (subst (λ text. KeepsRead c.args.named.device c.args.named.script c.args.named.images.now (IsNamedBy text)
     c.args.named.choices.picture (g.H.Host.file c.load.new.host) (g.H.Host.file c.sweep_images.new.host))
     c.deref-2.ensures.value c.sweep_images.ensures.inputs)
