@@ -41,7 +41,7 @@ pub enum Outcome {
 }
 
 impl Outcome {
-    /// Returns whether this is no report.
+    /// Returns whether planning failed.
     pub fn is_bad(&self) -> bool
         ensures { result ≡ is_bad self.now }
     {

@@ -237,7 +237,7 @@ impl Planner {
         Ok(())
     }
 
-    /// Takes the line: as the begin of a device, or into the table of the device.
+    /// Starts a device, or extends its table.
     fn take_line<W: Write, N: PlanNotes>(
         &mut self,
         requests: &Requests,
