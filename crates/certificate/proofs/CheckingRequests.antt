@@ -1,13 +1,11 @@
 -- The requests of all images are decided once if those of the first images are and no other is
 -- refused.
-use Rattle.std.proofs.Common.{◌≡◌, ℕ, ◌<◌, ◌≤◌, false, length, count_by, get_or, inl, inr, refl, ap, arith, eq-eqb}
+use Rattle.std.proofs.Common.{◌≡◌, ℕ, ◌<◌, ◌≤◌, false, length, count_by, inl, inr, ap, arith}
 use Rattle.std.specs.Prelude.{◌==◌, All}
 use Rattle.std.specs.Option.{option_map_or}
 use Rattle.std.proofs.lemmas.Bool.{cases_lt, eqb-true}
-use Rattle.std.proofs.lemmas.List.Sums.{get_or-le-sum_by}
 use Rattle.std.proofs.lemmas.Option.{slice_get_past, slice_get_within, get_or_from_slice_get}
 use Rattle.certificate.specs.declared.table.Table.{Table}
-use Rattle.certificate.specs.declared.report.Refusal.{Refusal}
 use Rattle.certificate.specs.declared.report.Report.{Report}
 use Rattle.certificate.specs.Rightness.{taken_in, is_requested, has_request, once_if, IsDecidedOnce}
 use Rattle.common.proofs.Lists.{Passes-from_count_by}
@@ -40,26 +38,6 @@ module _ (table : Table) (report : Report) (count : ℕ) (in_table : length tabl
             let small : refused.element.image < count = rw is at (below refused.place refused.element within) in
             absurd (omega arith)
         | inr none ↦ omega (arith, ap once_if (taken_in-past j past), ap once_if (has_request-past j past))
-      ]
-
-  -- If each request is decided once, no refusal names an image beyond the last one.
-  pub refusals_below : ((j : ℕ) → IsDecidedOnce table report j)
-      → All (λ refusal. refusal.image < count) report.refusals.items
-  refusals_below decided k d within =
-      let refusals = report.refusals.items in
-      let j = (get_or refusals k d).image in
-      elim (cases_lt j count) [
-        | inl before ↦ before
-        | inr past ↦
-            let counted = get_or-le-sum_by (λ (refusal : Refusal). once_if (refusal.image == j)) refusals k d within in
-            absurd (omega (
-              arith,
-              counted,
-              ap once_if (eq-eqb j j refl),
-              decided j,
-              ap once_if
-                  (has_request-past j past),
-            ))
       ]
 
   -- If the requests of the first images are decided once and no other is refused, all are decided

@@ -31,8 +31,8 @@ module _ {X : Type 0} (xs : List X) (Holds : ℕ → X → Type 0) where
         (sym (slice_get_past xs j (omega (arith, ap length same)))) tt
   ]
 
-  -- If all elements have the property, so does the one that the loop reads.
+  -- If the element at a place has the property, that is so of the one that the loop reads there.
   pub holds_here : (ys : List X) (n : ℕ) (x : X) → ys ≡ xs → n < length ys → x ≡ get_or ys n x
-      → ((j : ℕ) → HoldsAt j) → Holds n x
-  holds_here ys n x same within is each =
-      subst (λ (found : Option X). IfSome found (Holds n)) (read ys n x same within is) (each n)
+      → HoldsAt n → Holds n x
+  holds_here ys n x same within is here =
+      subst (λ (found : Option X). IfSome found (Holds n)) (read ys n x same within is) here

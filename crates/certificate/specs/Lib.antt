@@ -1,6 +1,7 @@
 pub mod Combination
 pub mod Dependants
 pub mod DependencyText
+pub mod Flaws
 pub mod LineReading
 pub mod Reasons
 pub mod ReportReading

@@ -3,7 +3,8 @@
 //!
 //! - Promises: Tables and reports are read exactly, and a refusal names the first bad line. A yes
 //!   says that a report is right, and the set of a right report is the greatest valid one.
-//! - Main calls: `Table::parse`, `Report::parse`, and `parse_into` of both; `is_valid`, `check`
+//! - Main calls: `Table::parse`, `Report::parse`, and `parse_into` of both; `is_valid`, `check`,
+//!   `first_flaw`
 //! - Allocates: no.
 //! - Callers: any crate.
 //!
@@ -28,7 +29,7 @@ mod table_placing;
 mod table_reading;
 mod validity;
 
-pub use checking::check;
+pub use checking::{Flaw, check, first_flaw};
 pub use depending::dependants;
 pub use error::{BadReport, BadTable};
 pub use laws::{

@@ -1,8 +1,9 @@
 //! Checks the combination of requests that a report takes.
 
 ghost use Rattle.std.specs.List.{list_all};
-ghost use Rattle.std.specs.Prelude.{◌≡◌, ◌↔◌, ℕ, IsTrue};
-ghost use Rattle.certificate.specs.Combination.{entry_in, is_group_met, is_met, meets_all, HasMetDependencies, IsAcceptable, IsValid};
+ghost use Rattle.std.specs.Prelude.{◌≡◌, ◌↔◌, IsTrue};
+ghost use Rattle.certificate.specs.Combination.{entry_in, is_group_met, is_met, meets_all, HasMetDependencies, IsAcceptable};
+ghost use Rattle.certificate.specs.Flaws.{IsAcceptableIfTaken, IsFirstFailure};
 ghost use Rattle.certificate.specs.Rightness.{taken_in};
 
 use crate::checking::images::{entry_in, is_taken};
@@ -10,24 +11,16 @@ use crate::report::Report;
 use crate::table::{Image, Request, Table};
 use version_order::{Dependency, Group};
 
-/// Returns whether the requests that a report takes are a valid combination.
-pub(super) fn takes_a_valid_combination(table: &Table, report: &Report) -> bool
-    ensures { IsTrue result ↔ IsValid table.now (taken_in report.now) }
-{
-    has_acceptable_members(table, report) && meets_all_dependencies(table, report)
-}
-
-/// Returns whether each request that a report takes is acceptable.
-fn has_acceptable_members(table: &Table, report: &Report) -> bool
-    ensures { IsTrue result
-        ↔ ((j : ℕ) → IsTrue (taken_in report.now j) → IsAcceptable table.now j) }
+/// Returns the lowest image whose request a report takes and that has no acceptable request.
+pub(super) fn first_unacceptable_member(table: &Table, report: &Report) -> Option<usize>
+    ensures { IsFirstFailure (IsAcceptableIfTaken table.now report.now) result }
 {
     for number in 0..report.images.len() {
         if is_taken(report, number) && !is_acceptable(table, number) {
-            return false;
+            return Some(number);
         }
     }
-    true
+    None
 }
 
 /// Returns whether a table has an image `number` with an acceptable request: it is intact, it isn't
@@ -46,18 +39,17 @@ fn is_acceptable(table: &Table, number: usize) -> bool
     }
 }
 
-/// Returns whether the combination of a report meets all dependencies and groups of all images, of
-/// those that are taken and those that run on.
-fn meets_all_dependencies(table: &Table, report: &Report) -> bool
-    ensures { IsTrue result
-        ↔ ((j : ℕ) → HasMetDependencies table.now (taken_in report.now) j) }
+/// Returns the lowest image of a table, taken or running on, of which the combination of a report
+/// doesn't meet all dependencies and groups.
+pub(super) fn first_unmet(table: &Table, report: &Report) -> Option<usize>
+    ensures { IsFirstFailure (HasMetDependencies table.now (taken_in report.now)) result }
 {
     for (number, image) in table.images.iter().enumerate() {
         if !can_run_on(table, report, number, image) {
-            return false;
+            return Some(number);
         }
     }
-    true
+    None
 }
 
 /// Returns whether the combination of a report meets all dependencies and groups of image `number`,

@@ -1,7 +1,8 @@
 //! Checks the images of a report: their number, and the version of each.
 
-ghost use Rattle.std.specs.Prelude.{◌≡◌, ◌↔◌, ℕ, length, IsTrue};
+ghost use Rattle.std.specs.Prelude.{◌≡◌, ◌↔◌, length, IsTrue};
 ghost use Rattle.certificate.specs.Combination.{entry_in};
+ghost use Rattle.certificate.specs.Flaws.{IsFirstFailure};
 ghost use Rattle.certificate.specs.Rightness.{taken_in, HasVersionAt, HasVersionOf};
 
 use crate::report::Report;
@@ -14,18 +15,17 @@ pub(super) fn has_as_many_images(table: &Table, report: &Report) -> bool
     report.images.len() == table.images.len()
 }
 
-/// Returns whether each image that a table and a report both have is reported with its version:
+/// Returns the lowest image that a table and a report both have and whose reported version isn't
 /// that of the taken request, or the running version.
-pub(super) fn has_the_versions(table: &Table, report: &Report) -> bool
-    ensures { IsTrue result
-        ↔ ((j : ℕ) → HasVersionAt table.now report.now j) }
+pub(super) fn first_wrong_version(table: &Table, report: &Report) -> Option<usize>
+    ensures { IsFirstFailure (HasVersionAt table.now report.now) result }
 {
     for (number, image) in table.images.iter().enumerate() {
         if !has_its_version(report, number, image) {
-            return false;
+            return Some(number);
         }
     }
-    true
+    None
 }
 
 /// Returns whether a report that has an image `number` has it with its version: that of the taken

@@ -3,22 +3,23 @@
 ghost use Rattle.std.specs.List.{list_any};
 ghost use Rattle.std.specs.Prelude.{◌≡◌, ◌↔◌, None, Contains, IsTrue};
 ghost use Rattle.certificate.specs.Combination.{image_at};
-ghost use Rattle.certificate.specs.Reasons.{best_version, depends_on, is_group_out_of_reach, is_in_reach, is_out_of_reach, is_refused, newest_version, requested_version, IsFounded, ReasonHolds};
+ghost use Rattle.certificate.specs.Flaws.{IsFirstFailure, IsFoundedAt};
+ghost use Rattle.certificate.specs.Reasons.{best_version, depends_on, is_group_out_of_reach, is_in_reach, is_out_of_reach, is_refused, newest_version, requested_version, ReasonHolds};
 
 use crate::report::{Reason, Refusal};
 use crate::table::{Entry, Image, Request, Table};
 use version_order::{Dependency, Group, Version};
 
-/// Returns whether each refusal of a list has a reason that holds after the refusals before it.
-pub(super) fn is_founded(table: &Table, refusals: &[Refusal]) -> bool
-    ensures { IsTrue result ↔ IsFounded table.now refusals.now }
+/// Returns the place of the first refusal whose reason doesn't hold after the refusals before it.
+pub(super) fn first_unfounded(table: &Table, refusals: &[Refusal]) -> Option<usize>
+    ensures { IsFirstFailure (IsFoundedAt table.now refusals.now) result }
 {
     for (place, refusal) in refusals.iter().enumerate() {
         if !reason_holds(table, &refusals[..place], refusal.image, &refusal.reason) {
-            return false;
+            return Some(place);
         }
     }
-    true
+    None
 }
 
 /// Returns whether a reason to refuse the request of image `own` holds after these refusals.

@@ -1,6 +1,7 @@
 //! Checks that each request of a table is taken or refused once.
 
-ghost use Rattle.std.specs.Prelude.{◌≡◌, ◌<◌, ◌↔◌, ℕ, All, IsTrue};
+ghost use Rattle.std.specs.Prelude.{◌≡◌, ◌<◌, ◌≤◌, ◌↔◌, length, All, IsTrue};
+ghost use Rattle.certificate.specs.Flaws.{IsFirstFailure};
 ghost use Rattle.certificate.specs.Reasons.{times_refused};
 ghost use Rattle.certificate.specs.Rightness.{has_request, IsDecidedOnce};
 
@@ -8,36 +9,30 @@ use crate::checking::images::is_taken;
 use crate::report::{Refusal, Report};
 use crate::table::{Request, Table};
 
-/// Returns whether each request is taken or refused once, and nothing else is.
-pub(super) fn decides_each_request_once(table: &Table, report: &Report) -> bool
-    ensures { IsTrue result ↔ ((j : ℕ) → IsDecidedOnce table.now report.now j) }
+/// Returns the lowest image whose request isn't taken or refused once, or that has none and it is
+/// taken or refused. Perhaps neither the table nor the report has the image.
+pub(super) fn first_not_decided_once(table: &Table, report: &Report) -> Option<usize>
+    ensures { IsFirstFailure (IsDecidedOnce table.now report.now) result }
 {
-    // Beyond the last image of both, no request is taken and there is none.
-    let count = table.images.len().max(report.images.len());
-    refuses_only_below(report, count) && decides_each_below(table, report, count)
-}
-
-/// Returns whether all refused requests are those of images below `count`.
-fn refuses_only_below(report: &Report, count: usize) -> bool
-    ensures { IsTrue result ↔ All (λ refusal. refusal.image < count) report.now.refusals.items }
-{
-    report
-        .refusals
-        .iter()
-        .all(|refusal| usize::from(refusal.image) < count)
-}
-
-/// Returns whether each request of an image below `count` is taken or refused once.
-fn decides_each_below(table: &Table, report: &Report, count: usize) -> bool
-    ensures { IsTrue result
-        ↔ ((j : ℕ) → j < count → IsDecidedOnce table.now report.now j) }
-{
-    for number in 0..count {
+    for number in 0..numbers_in(table, report) {
         if !is_decided_once(table, report, number) {
-            return false;
+            return Some(number);
         }
     }
-    true
+    None
+}
+
+/// Returns a number above those of all images that a table has, or that a report has or refuses.
+fn numbers_in(table: &Table, report: &Report) -> usize
+    ensures images { length table.now.images.items ≤ result }
+    ensures reported { length report.now.images.items ≤ result }
+    ensures refused { All (λ refusal. refusal.image < result) report.now.refusals.items }
+{
+    let mut count = table.images.len().max(report.images.len());
+    for refusal in report.refusals.iter() {
+        count = count.max(usize::from(refusal.image) + 1);
+    }
+    count
 }
 
 /// Returns whether the request of image `number` is taken or refused once. If there is no request,

@@ -1,4 +1,4 @@
-use Rattle.std.proofs.Common.{ℕ, Bool, refl, sym, ◌∙◌}
+use Rattle.std.proofs.Common.{ℕ, Bool, sym, ◌∙◌}
 use Rattle.std.specs.Prelude.{IsTrue}
 use Rattle.std.proofs.lemmas.Bool.{false≢true}
 use Rattle.certificate.specs.declared.table.Image.{Image}
@@ -6,7 +6,7 @@ use Rattle.certificate.specs.declared.table.Table.{Table}
 use Rattle.certificate.specs.Combination.{entry_in, meets_all}
 use Rattle.certificate.specs.Rightness.{taken_in}
 use Rattle.certificate.proofs.EachPlace.{holds_everywhere, holds_here, holds_one_more}
-use Rattle.certificate.proofs.checking.combination.meets_all_dependencies.Goals as goal
+use Rattle.certificate.proofs.checking.combination.first_unmet.Goals as goal
 
 -- The dependencies and groups of the entry that an image contributes are met.
 abbrev IsMetAt : Table → (ℕ → Bool) → ℕ → Image → Type 0
@@ -19,16 +19,15 @@ loop-number-preserved c =
     (sym c.can_run_on.ensures ∙ c.if-not-can_run_on.false)
 
 pub returns : goal.returns
-returns c = (
-  λ yes. holds_everywhere c.args.table.now.images.items (IsMetAt c.args.table.now (taken_in c.args.report.now)) _ _
-      c.deref-image-items.ensures.0 c.loop-number-test.false c.loop-number.invariant,
-  λ met. refl,
-)
+returns c =
+    holds_everywhere c.args.table.now.images.items (IsMetAt c.args.table.now (taken_in c.args.report.now)) _ _
+    c.deref-image-items.ensures.0 c.loop-number-test.false c.loop-number.invariant
 
 pub returns-then-not-can_run_on : goal.returns-then-not-can_run_on
-returns-then-not-can_run_on c = (
-  λ yes. absurd (false≢true yes),
-  λ met. sym c.if-not-can_run_on.true ∙ c.can_run_on.ensures
-      ∙ holds_here c.args.table.now.images.items (IsMetAt c.args.table.now (taken_in c.args.report.now)) _ _ _
-      c.deref-image-items.ensures.0 c.loop-number-test.true c.image-item.is met,
-)
+returns-then-not-can_run_on c =
+    record {
+      fails = λ met. false≢true (sym c.if-not-can_run_on.true ∙ c.can_run_on.ensures
+          ∙ holds_here c.args.table.now.images.items (IsMetAt c.args.table.now (taken_in c.args.report.now)) _ _ _
+          c.deref-image-items.ensures.0 c.loop-number-test.true c.image-item.is met);
+      before = c.loop-number.invariant;
+    }

@@ -1,6 +1,6 @@
 use Rattle.std.proofs.Common.{ℕ, ◌<◌}
 use Rattle.certificate.specs.Rightness.{HasVersionAt}
-use Rattle.certificate.proofs.checking.images.has_the_versions.Given as goal
+use Rattle.certificate.proofs.checking.images.first_wrong_version.Given as goal
 
 -- Each image so far has its version.
 abbrev pub invariant-loop-number : goal.invariant-loop-number

@@ -1,7 +1,7 @@
 use Rattle.std.proofs.Common.{ℕ, ◌<◌}
 use Rattle.certificate.specs.Combination.{HasMetDependencies}
 use Rattle.certificate.specs.Rightness.{taken_in}
-use Rattle.certificate.proofs.checking.combination.meets_all_dependencies.Given as goal
+use Rattle.certificate.proofs.checking.combination.first_unmet.Given as goal
 
 -- The dependencies and groups of each image so far are met.
 abbrev pub invariant-loop-number : goal.invariant-loop-number
