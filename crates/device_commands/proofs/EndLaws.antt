@@ -22,8 +22,10 @@ use Rattle.device_texts.specs.FlashOf.{IsFlashOf}
 use Rattle.inputs.specs.DeviceInput.{GivesDevice}
 use Rattle.host.specs.Input.{FileBytes, Gives, KeepsFiles, KeepsOthers}
 use Rattle.device_commands.specs.ProvisionEnd.{AnswersMade, AnswersProvision, EndsMade, MakesDevice, MayReplace, ReadsImages}
-use Rattle.device_commands.specs.RunEnd.{AnswersRun, Plays, RunsDevice}
+use Rattle.device_commands.specs.RunEnd.{AnswersRun, BreaksRun, Plays, RunsDevice}
+use Rattle.device_commands.specs.Telling.{RunsFirstLines}
 use Rattle.inputs.specs.Script.{IsScript, Known, StaysKnown, known_after}
+use Rattle.host.specs.Inputs.{GiveEach}
 use Rattle.host.specs.Status.{EndsUnmade, status_of_answer}
 use Rattle.host.proofs.InputLaws.{GiveEach-one, GiveEach-read}
 use Rattle.inputs.proofs.ScriptLaws.{StaysKnown-itself, StaysKnown-read}
@@ -123,6 +125,30 @@ AnswersRun-runs form is_strict Done device flash script input file old new runs 
 AnswersRun-runs form is_strict Refused device flash script input file old new runs = inl runs
 AnswersRun-runs form is_strict Cut device flash script input file old new runs = runs
 
+-- A device file, its flash and a script were read in turn.
+reads_three : (device : Source) (flash : Bor (List ℕ)) (script : Source)
+    (input second_input third_input fourth_input : Option (List ℕ)) (file second_file third_file fourth_file : FileBytes)
+    (device_bytes bytes text : List ℕ) → Gives device input file device_bytes
+    → KeepsOthers device input file second_input second_file
+    → Gives (source.File flash) second_input second_file bytes
+    → KeepsOthers (source.File flash) second_input second_file third_input third_file
+    → Gives script third_input third_file text
+    → KeepsOthers script third_input third_file fourth_input fourth_file
+    → GiveEach (device ∷ source.File flash ∷ script ∷ []) input file (device_bytes ∷ bytes ∷ text ∷ [])
+    × StaysKnown (known_after script (known_after device (record { input = input; files = file }))) fourth_input fourth_file
+reads_three device flash script input second_input third_input fourth_input file second_file third_file fourth_file device_bytes
+    bytes text given kept flash_given flash_kept script_given script_kept =
+    let first : Known = record { input = input; files = file } in
+    let second = known_after device first in
+    let stays = StaysKnown-read device first input second_input file second_file (StaysKnown-itself input file) kept in
+    let still = StaysKnown-read (source.File flash) second second_input third_input second_file third_file stays flash_kept in (
+      GiveEach-read device (source.File flash ∷ script ∷ []) input second_input file second_file device_bytes
+          (bytes ∷ text ∷ []) given kept
+          (GiveEach-read (source.File flash) (script ∷ []) second_input third_input second_file third_file bytes
+          (text ∷ []) flash_given flash_kept (GiveEach-one script third_input third_file text script_given)),
+      StaysKnown-read script second third_input fourth_input third_file fourth_file still script_kept,
+    )
+
 -- `run` read a device file, then its flash, and then a script with the files that it names.
 pub AnswersRun-read : (form : Form) (is_strict : Bool) (answer : Answer) (device : Source) (flash : Bor (List ℕ)) (script : Source)
     (input second_input third_input fourth_input : Option (List ℕ))
@@ -140,10 +166,8 @@ pub AnswersRun-read : (form : Form) (is_strict : Bool) (answer : Answer) (device
 AnswersRun-read form is_strict answer device flash script input second_input third_input fourth_input file second_file third_file
     fourth_file old new bytes text cuts came of_device given kept flash_given flash_kept script_given script_kept says
     whole plays =
-    let first : Known = record { input = input; files = file } in
-    let second = known_after device first in
-    let stays = StaysKnown-read device first input second_input file second_file (StaysKnown-itself input file) kept in
-    let still = StaysKnown-read (source.File flash) second second_input third_input second_file third_file stays flash_kept in
+    let read = reads_three device flash script input second_input third_input fourth_input file second_file third_file fourth_file
+    given.0 bytes text given.1 kept flash_given flash_kept script_given script_kept in
     AnswersRun-runs form is_strict answer device (source.File flash) script input file old new (record {
       device_bytes = given.0;
       of_device = of_device;
@@ -151,13 +175,43 @@ AnswersRun-read form is_strict answer device flash script input second_input thi
       text = text;
       cuts = cuts;
       came = came;
-      given = GiveEach-read device (source.File flash ∷ script ∷ []) input second_input file second_file given.0
-          (bytes ∷ text ∷ []) given.1 kept
-          (GiveEach-read (source.File flash) (script ∷ []) second_input third_input second_file third_file bytes
-          (text ∷ []) flash_given flash_kept (GiveEach-one script third_input third_file text script_given));
+      given = read.0;
       is_device = given.2;
       whole = whole;
-      script = says (known_after script second)
-          (StaysKnown-read script second third_input fourth_input third_file fourth_file still script_kept);
+      script = says _ read.1;
       plays = plays;
     })
+
+-- The same for a run that ended with an error.
+pub BreaksRun-read : (form : Form) (device : Source) (flash : Bor (List ℕ)) (script : Source)
+    (input second_input third_input fourth_input : Option (List ℕ))
+    (file second_file third_file fourth_file : FileBytes) (old new : Option (List ℕ)) (bytes text : List ℕ) (of_device : DeviceFile)
+    → GivesDevice device input file of_device → KeepsOthers device input file second_input second_file
+    → Gives (source.File flash) second_input second_file bytes
+    → KeepsOthers (source.File flash) second_input second_file third_input third_file
+    → Gives script third_input third_file text
+    → KeepsOthers script third_input third_file fourth_input fourth_file
+    → IsFlashOf of_device.map bytes
+    → (new ≡ old) ⊎ RunsFirstLines form of_device bytes text fourth_input fourth_file old new
+    → BreaksRun form device (source.File flash) script input file old new
+BreaksRun-read form device flash script input second_input third_input fourth_input file second_file third_file fourth_file old new
+    bytes text of_device given kept flash_given flash_kept script_given script_kept whole (inl same) = inl same
+BreaksRun-read form device flash script input second_input third_input fourth_input file second_file third_file fourth_file old new
+    bytes text of_device given kept flash_given flash_kept script_given script_kept whole (inr runs) =
+    let read = reads_three device flash script input second_input third_input fourth_input file second_file third_file fourth_file
+    given.0 bytes text given.1 kept flash_given flash_kept script_given script_kept in
+    inr (inl (record {
+      device_bytes = given.0;
+      of_device = of_device;
+      bytes = bytes;
+      text = text;
+      cuts = runs.cuts;
+      lines = runs.lines;
+      came = runs.came;
+      given = read.0;
+      is_device = given.2;
+      whole = whole;
+      cut = runs.cut;
+      first = runs.says _ read.1;
+      plays = runs.plays;
+    }))

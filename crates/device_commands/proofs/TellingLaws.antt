@@ -1,6 +1,6 @@
 -- Replies that are written one by one: what all of them give, and what was written if one could not
 -- be.
-use Rattle.std.proofs.Common.{◌≡◌, ℕ, ◌+◌, ◌-◌, ◌||◌, Bool, false, List, [], ◌∷◌, ◌++◌, Option, Some, Result, Ok, Err, IfErr, IfOk, ap, append-nil, arith, get_or, length, length-append, map, refl, subst, sym, take, ◌∙◌}
+use Rattle.std.proofs.Common.{◌≡◌, ℕ, ◌+◌, ◌-◌, ◌||◌, Bool, false, List, [], ◌∷◌, ◌++◌, Option, Some, Result, Ok, Err, IfErr, IfOk, ap, append-nil, arith, get_or, length, length-append, map, OnErr, refl, subst, sym, take, ◌∙◌}
 use Rattle.std.specs.Io.KnownBytes.{Appends}
 use Rattle.std.specs.List.{list_any}
 use Rattle.std.proofs.KnownBytes.{Appends-nil, Appends-trans}
@@ -32,13 +32,13 @@ use Rattle.device_texts.specs.ReplyJson.{note_line, reply_line, reply_lines}
 use Rattle.device_texts.specs.declared.form.Form.{Form}
 use Rattle.device_texts.proofs.ReplyLaws.{note_line-none, reply_lines-none, reply_lines-one, reply_lines-push}
 use Rattle.common.specs.Lines.{lines_of}
-use Rattle.host.specs.Input.{FileBytes}
+use Rattle.host.specs.Input.{FileBytes, KeepsFiles}
 use Rattle.inputs.specs.declared.checking.BufferedInput.{BufferedInput}
 use Rattle.device_commands.specs.declared.run.Told.{Told}
-use Rattle.device_commands.specs.RunEnd.{IsMadeOf, answer_after, came_by, ending, is_refusal, last_answer}
+use Rattle.device_commands.specs.RunEnd.{IsMadeOf, IsPlayed, Plays, PlaysFirst, answer_after, came_by, ending, is_refusal, last_answer}
 use Rattle.device_texts.specs.DeviceFile.{setup_of}
-use Rattle.device_commands.specs.Telling.{BreaksEvent, BreaksOff, BreaksText, PlaysRun, PlaysText, RepliesTo, RepliesToAll, TellsAll, TellsEvent, TellsFirst, TellsSome, TellsText}
-use Rattle.inputs.specs.Loading.{LoadsAll}
+use Rattle.device_commands.specs.Telling.{BreaksEvent, BreaksOff, BreaksText, PlaysRun, PlaysText, RepliesTo, RepliesToAll, RunsFirstLines, TellsAll, TellsEvent, TellsFirst, TellsSome, TellsText}
+use Rattle.inputs.specs.Loading.{AreBuffered, AreCutsOf, LoadsAll}
 use Rattle.inputs.proofs.ScriptLaws.{AreTaken, LoadsFirst-none, LoadsFirst-taken}
 
 -- The last reply gives the answer of a run.
@@ -292,3 +292,77 @@ PlaysRun-made form is_strict device bytes cuts text buffered files old new befor
   plays = tt;
   tells = record { old = old; new = new; made = made; breaks = some };
 }
+
+-- What holds whatever a call returns holds if it fails.
+pub OnErr-any : {T E P : Type 0} (result : Result T E) → P → OnErr result P
+OnErr-any (Ok value) holds = tt
+OnErr-any (Err error) holds = holds
+
+-- What follows if a call fails.
+pub OnErr-then : {T E P Q : Type 0} (result : Result T E) → (P → Q) → OnErr result P → OnErr result Q
+OnErr-then (Ok value) then failed = tt
+OnErr-then (Err error) then failed = then failed
+
+-- All replies were written, but of the last one perhaps a prefix.
+PlaysFirst-some : (form : Form) (refusal : Refusal) (device : DeviceFile) (bytes : List ℕ) (cuts : List Armed)
+    (came : List (Event (List ℕ))) (old new : DeviceView) (before after : Option (List ℕ))
+    → IsMadeOf device.map bytes cuts old → TellsSome form refusal (setup_of device) old new came before after
+    → PlaysFirst form device bytes cuts came before after
+PlaysFirst-some form refusal device bytes cuts came old new before after made tells = record {
+  events = tells.run.events;
+  told = tells.told;
+  last = tells.untold;
+  come = tells.run.come;
+  played = record { old = old; new = new; made = made; runs = tells.run.runs; each = tells.run.each };
+  one = tells.one;
+  notes = tells.notes;
+  late = tells.late;
+  count = tells.count;
+  written = tells.written;
+}
+
+-- All replies were written.
+PlaysFirst-all : (form : Form) (is_strict : Bool) (answer : Answer) (device : DeviceFile) (bytes : List ℕ) (cuts : List Armed)
+    (came : List (Event (List ℕ))) (before after : Option (List ℕ))
+    → Plays form is_strict answer device bytes cuts came before after
+    → PlaysFirst form device bytes cuts came before after
+PlaysFirst-all form is_strict answer device bytes cuts came before after plays = record {
+  events = plays.events;
+  told = plays.replies;
+  last = [];
+  come = plays.come;
+  played = subst (IsPlayed device bytes cuts plays.events) (sym (append-nil plays.replies)) plays.played;
+  one = omega arith;
+  notes = plays.notes;
+  late = [];
+  count = 0;
+  written = subst (Appends before after) (sym (append-nil (reply_lines form 1 plays.replies plays.notes))) plays.written;
+}
+
+-- A checked script was run to some line, or to its end.
+pub RunsFirstLines-played : (form : Form) (is_strict : Bool) (result : Result Answer Refusal) (device : DeviceFile) (bytes : List ℕ)
+    (cuts : List Armed) (text : List ℕ) (buffered : List BufferedInput) (input : Option (List ℕ)) (first_files files : FileBytes)
+    (before after : Option (List ℕ)) → AreCutsOf text cuts → KeepsFiles first_files files
+    → AreBuffered buffered input first_files
+    → PlaysRun form is_strict result device bytes cuts text buffered files before after
+    → RunsFirstLines form device bytes text input first_files before after
+RunsFirstLines-played form is_strict (Ok answer) device bytes cuts text buffered input first_files files before after cut kept held run =
+    let all : PlaysText form is_strict answer device bytes cuts text buffered files before after = run.plays in
+    record {
+      cuts = cuts;
+      lines = length (lines_of text);
+      came = all.came;
+      cut = cut;
+      says = λ known stays. (all.comes input first_files kept held known stays).1;
+      plays = PlaysFirst-all form is_strict answer device bytes cuts all.came before after all.plays;
+    }
+RunsFirstLines-played form is_strict (Err refusal) device bytes cuts text buffered input first_files files before after cut kept held run =
+    let some : TellsFirst form refusal device bytes cuts text buffered files before after = run.tells in
+    record {
+      cuts = cuts;
+      lines = some.breaks.lines;
+      came = some.breaks.came;
+      cut = cut;
+      says = λ known stays. (some.breaks.comes input first_files kept held known stays).1;
+      plays = PlaysFirst-some form refusal device bytes cuts some.breaks.came some.old some.new before after some.made some.breaks.tells;
+    }

@@ -12,7 +12,7 @@ use Rattle.host.specs.Input.{AreNamed, FileBytes, IsNamed}
 use Rattle.host.specs.Inputs.{names_of}
 use Rattle.device_texts.specs.declared.form.Form.{Form}
 use Rattle.device_commands.specs.ProvisionEnd.{AnswersProvision}
-use Rattle.device_commands.specs.RunEnd.{AnswersRun}
+use Rattle.device_commands.specs.RunEnd.{AnswersRun, BreaksRun}
 
 -- What a run opens its flash for, with `--durable` and without it.
 abbrev pub access_for : Bool → Access
@@ -37,3 +37,12 @@ AnswersCore form answer (Provision device flash images forced) input file then o
 AnswersCore form answer (Run device flash script durable strict) input file then old new =
     (one other : Source) × AreNamed device.now script.now one other
     × AnswersRun form strict answer one (source.File flash) other input file old new
+
+-- What an order wrote before an error. A run wrote replies in this form. Nothing is promised of
+-- `provision`.
+abbrev pub BreaksCore : Form → DeviceOrder → Option (List ℕ) → FileBytes
+    → Option (List ℕ) → Option (List ℕ) → Type 0
+BreaksCore form (Provision device flash images forced) input file old new = Unit {0}
+BreaksCore form (Run device flash script durable strict) input file old new =
+    (one other : Source) × AreNamed device.now script.now one other
+    × BreaksRun form one (source.File flash) other input file old new

@@ -1,5 +1,5 @@
 -- The result of `run`.
-use Rattle.std.specs.Prelude.{◌≡◌, ◌⊎◌, ◌&&◌, ℕ, ◌-◌, Bool, false, true, List, [], ◌∷◌, if◌then◌else◌, length, Option, None, Some, map, nat_lt, slice_get}
+use Rattle.std.specs.Prelude.{◌≡◌, ◌⊎◌, ◌&&◌, ℕ, ◌+◌, ◌-◌, ◌≤◌, Bool, false, true, List, [], ◌∷◌, ◌++◌, if◌then◌else◌, length, Option, None, Some, map, nat_lt, slice_get, take}
 use Rattle.std.specs.List.{list_any}
 use Rattle.std.specs.Io.KnownBytes.{Appends}
 use Rattle.common.specs.declared.event.Event.{Event}
@@ -25,6 +25,7 @@ use Rattle.host.specs.Input.{FileBytes}
 use Rattle.host.specs.Inputs.{GiveEach}
 use Rattle.device_texts.specs.ReplyJson.{map_refusal_line, reply_lines}
 use Rattle.device_texts.specs.declared.form.Form.{Form}
+use Rattle.inputs.specs.Loading.{AreCutsOf, FirstCome}
 use Rattle.inputs.specs.Script.{IsScript, known_after_each}
 
 -- A new device over a flash with these bytes that is armed with exactly these cuts. It isn't
@@ -100,6 +101,24 @@ pub record Plays (form : Form) (is_strict : Bool) (answer : Answer) (device : De
   pub noted : length notes ≡ length replies
   pub written : Appends old new (reply_lines form 1 replies notes)
 
+-- A device of this file, whose flash has these bytes and is armed with these cuts, replied to these
+-- events. A writer took the replies and the notes on each, in this form: all of them completely, but
+-- of the last one perhaps a prefix.
+pub record PlaysFirst (form : Form) (device : DeviceFile) (bytes : List ℕ) (cuts : List Armed)
+    (came : List (Event (List ℕ))) (old new : Option (List ℕ)) : Type 0 where
+  pub events : List DeviceEvent
+  pub told : List Reply
+  pub last : List Reply
+  pub come : map came_by events ≡ came
+  pub played : IsPlayed device bytes cuts events (told ++ last)
+  pub one : length last ≤ 1
+  pub notes : List (List (List ℕ))
+  pub late : List (List (List ℕ))
+  pub count : ℕ
+  pub written : Appends old new
+      (reply_lines form 1 told notes
+      ++ take count (reply_lines form (1 + length told) last late))
+
 -- `run` read a device file, its flash and a script with the files that it names. It wrote the
 -- replies of the device to the events of the script. Exactly the writes of the flash that the
 -- script names were cut.
@@ -117,6 +136,25 @@ pub record RunsDevice (form : Form) (is_strict : Bool) (answer : Answer) (source
   pub script : IsScript text (known_after_each sources (record { input = input; files = files }))
       cuts came
   pub plays : Plays form is_strict answer of_device bytes cuts came old new
+
+-- `run` read a device file, its flash and a script, and ended with an error after the events of the
+-- first lines of the script. It wrote the replies of the device to these events.
+pub record RunsFirst (form : Form) (sources : List Source) (input : Option (List ℕ))
+    (files : FileBytes) (old new : Option (List ℕ)) : Type 0 where
+  pub device_bytes : List ℕ
+  pub of_device : DeviceFile
+  pub bytes : List ℕ
+  pub text : List ℕ
+  pub cuts : List Armed
+  pub lines : ℕ
+  pub came : List (Event (List ℕ))
+  pub given : GiveEach sources input files (device_bytes ∷ bytes ∷ text ∷ [])
+  pub is_device : IsDeviceFile device_bytes of_device
+  pub whole : IsFlashOf of_device.map bytes
+  pub cut : AreCutsOf text cuts
+  pub first : FirstCome lines text
+      (known_after_each sources (record { input = input; files = files })) came
+  pub plays : PlaysFirst form of_device bytes cuts came old new
 
 -- The source contains a device file whose sizes make no map, and a writer took the line that says
 -- why, in this form.
@@ -137,3 +175,20 @@ AnswersRun form is_strict Refused device flash script input files old new =
     ⊎ WritesNoMap form device input files old new
 AnswersRun form is_strict Cut device flash script input files old new =
     RunsDevice form is_strict Cut (device ∷ flash ∷ script ∷ []) input files old new
+
+-- The source contains a device file whose sizes make no map, and a writer took a prefix of the line
+-- that says why.
+abbrev pub BreaksNoMap : Form → Source → Option (List ℕ) → FileBytes
+    → Option (List ℕ) → Option (List ℕ) → Type 0
+BreaksNoMap form source input files old new =
+    (bad : BadMap) × GivesNoMap source input files bad
+    × (count : ℕ) × Appends old new (take count (map_refusal_line form bad.fault))
+
+-- What `run` wrote before an error: nothing, the replies to the events of the first lines, or a
+-- prefix of why the sizes of the device file make no map.
+abbrev pub BreaksRun : Form → Source → Source → Source → Option (List ℕ) → FileBytes
+    → Option (List ℕ) → Option (List ℕ) → Type 0
+BreaksRun form device flash script input files old new =
+    (new ≡ old)
+    ⊎ (RunsFirst form (device ∷ flash ∷ script ∷ []) input files old new
+    ⊎ BreaksNoMap form device input files old new)

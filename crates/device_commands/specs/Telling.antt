@@ -20,10 +20,10 @@ use Rattle.device_texts.specs.DeviceFile.{setup_of}
 use Rattle.device_texts.specs.ReplyJson.{note_line, reply_line, reply_lines}
 use Rattle.device_texts.specs.declared.form.Form.{Form}
 use Rattle.inputs.specs.declared.checking.BufferedInput.{BufferedInput}
-use Rattle.inputs.specs.Loading.{LoadsAll, LoadsFirst}
+use Rattle.inputs.specs.Loading.{AreCutsOf, FirstCome, LoadsAll, LoadsFirst}
 use Rattle.inputs.specs.Script.{IsScript, Known, StaysKnown}
 use Rattle.device_commands.specs.declared.run.Told.{Told}
-use Rattle.device_commands.specs.RunEnd.{IsMadeOf, Plays, answer_after, came_by, ending, is_refusal, last_answer}
+use Rattle.device_commands.specs.RunEnd.{IsMadeOf, Plays, PlaysFirst, answer_after, came_by, ending, is_refusal, last_answer}
 
 -- A writer took a prefix of a text and no more, or there was no memory for the text. The refusal
 -- isn't that of the flash file, whose status is 4.
@@ -155,6 +155,17 @@ pub record RunsScript (form : Form) (is_strict : Bool) (answer : Answer) (device
   pub came : List (Event (List ℕ))
   pub says : (known : Known) → StaysKnown known input files → IsScript text known cuts came
   pub plays : Plays form is_strict answer device bytes cuts came old new
+
+-- A script of this text was run on a device of this file, whose flash had these bytes, and ended with
+-- an error after the events of its first lines.
+pub record RunsFirstLines (form : Form) (device : DeviceFile) (bytes text : List ℕ)
+    (input : Option (List ℕ)) (files : FileBytes) (old new : Option (List ℕ)) : Type 0 where
+  pub cuts : List Armed
+  pub lines : ℕ
+  pub came : List (Event (List ℕ))
+  pub cut : AreCutsOf text cuts
+  pub says : (known : Known) → StaysKnown known input files → FirstCome lines text known came
+  pub plays : PlaysFirst form device bytes cuts came old new
 
 -- How a run of a text ends, on a device of this file, whose flash has these bytes and is armed with
 -- these cuts: with an answer, or without one.

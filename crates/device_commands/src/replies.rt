@@ -1,5 +1,5 @@
 //! Writes the lines of a run: replies, the notes on them, and why a device file makes no map.
-ghost use Rattle.std.specs.Prelude.{◌≡◌, ℕ, IfErr, IfOk, List, OnOk};
+ghost use Rattle.std.specs.Prelude.{◌≡◌, ℕ, IfErr, IfOk, List, OnErr, OnOk, take};
 ghost use Rattle.std.specs.Io.KnownBytes.{Appends};
 ghost use Rattle.device_texts.specs.ReplyJson.{map_refusal_line, note_line, reply_line};
 ghost use Rattle.device_commands.specs.Telling.{BreaksOff};
@@ -67,8 +67,10 @@ pub fn write_no_map<O: Write>(
     refused: MapError,
     out: &mut O,
 ) -> Result<Answer, Refusal>
-    ensures { IfOk result (λ answer. (answer ≡ Answer.Refused)
+    ensures told { IfOk result (λ answer. (answer ≡ Answer.Refused)
         × Appends (O.contents out.old) (O.contents out.new) (map_refusal_line form refused)) }
+    ensures begun { OnErr result ((count : ℕ) × Appends (O.contents out.old) (O.contents out.new)
+        (take count (map_refusal_line form refused))) }
 {
     let Ok(line) = map_refusal_line(alloc, form, refused) else {
         return Err(Refusal::NoMemory);

@@ -1,12 +1,12 @@
 //! `bootswap run`: runs the events of a script on a device, and writes its replies.
 ghost use Rattle.host.specs.Doings.{IsOpenedFor};
-ghost use Rattle.std.specs.Prelude.{◌≡◌, ◌||◌, IfErr, IfOk, IsTrue, OnOk, Some, is_some, length, true};
+ghost use Rattle.std.specs.Prelude.{◌≡◌, ◌⊎◌, ◌||◌, IfErr, IfOk, IsTrue, OnErr, OnOk, Some, is_some, length, true};
 ghost use Rattle.flash_model.specs.Blanks.{IsBlankOf};
 ghost use Rattle.device_texts.specs.DeviceFile.{IsOfFile};
 ghost use Rattle.device_texts.specs.FlashOf.{IsFlashOf, armed_in};
 ghost use Rattle.inputs.specs.Loading.{came_of};
-ghost use Rattle.device_commands.specs.RunEnd.{AnswersRun, answer_after, ending, is_refusal};
-ghost use Rattle.device_commands.specs.Telling.{BreaksEvent, BreaksText, PlaysRun, RunsScript, TellsEvent, TellsText};
+ghost use Rattle.device_commands.specs.RunEnd.{AnswersRun, BreaksRun, answer_after, ending, is_refusal};
+ghost use Rattle.device_commands.specs.Telling.{BreaksEvent, BreaksText, PlaysRun, RunsFirstLines, RunsScript, TellsEvent, TellsText};
 ghost use Rattle.host.specs.declared.source.Source.TheVariants as source;
 
 use crate::host_file::HostFile;
@@ -102,6 +102,9 @@ pub fn run_device<H: Host, O: Write, N: Notes>(
     ensures synced { IfOk result (λ answer. answer ≡ Answer.Done → IsTrue (H.synced host.new)) }
     ensures opened { IfOk result (λ answer. answer ≡ Answer.Done
         → IsOpenedFor files.entry.access (H.opened host.old) (H.opened host.new)) }
+    ensures begun { OnErr result (BreaksRun options.form files.entry.device
+        (source.File files.entry.flash) files.entry.script (H.input host.old) (H.file host.old)
+        (O.contents out.old) (O.contents out.new)) }
 {
     let is_input_read = files.device.is_standard_input() || files.script.is_standard_input();
     let device = match device_or_fault(alloc, files.device, host)? {
@@ -157,6 +160,10 @@ fn run_script<H: Host, O: Write, N: Notes>(
         (H.input host.old) (H.file host.old) (O.contents out.old) (O.contents out.new)) }
     ensures synced { OnOk result (IsTrue (H.synced host.new)) }
     ensures opened { H.opened host.new ≡ H.opened host.old }
+    ensures begun { OnErr result ((O.contents out.new ≡ O.contents out.old)
+        ⊎ RunsFirstLines options.form start.entry.device.now start.entry.bytes.items
+        start.entry.text.now (H.input host.old) (H.file host.old)
+        (O.contents out.old) (O.contents out.new)) }
 {
     let Start {
         device,

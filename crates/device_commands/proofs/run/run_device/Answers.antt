@@ -1,9 +1,10 @@
-use Rattle.std.proofs.Common.{inr, subst, sym}
+use Rattle.std.proofs.Common.{inl, inr, refl, subst, sym}
 use Rattle.std.proofs.lemmas.Result.{IfOk-weaker}
 use Rattle.device_texts.proofs.DeviceLaws.{IsOfFile-read}
 use Rattle.host.specs.declared.source.Source.TheVariants as source
 use Rattle.device_commands.specs.RunEnd.{AnswersRun}
-use Rattle.device_commands.proofs.EndLaws.{AnswersRun-read}
+use Rattle.device_commands.proofs.EndLaws.{AnswersRun-read, BreaksRun-read}
+use Rattle.device_commands.proofs.TellingLaws.{OnErr-any, OnErr-then}
 use Rattle.device_commands.proofs.run.run_device.Goals as goal
 
 -- The device is one of a device file.
@@ -21,7 +22,7 @@ returns-in-Err-clause-answers g c =
     (source.File c.args.files.flash) c.args.files.script (g.H.Host.input c.args.host.now)
     (g.H.Host.file c.args.host.now) (g.O.Write.contents c.args.out.now)
     (g.O.Write.contents c.write_no_map.new.out)) (sym written.0) (inr (c.in-Err.bad, read, written.1)))
-    c.write_no_map.ensures
+    c.write_no_map.ensures.told
 
 -- All three inputs were read in turn, and the script was run.
 pub returns-in-Ok-run_script-clause-answers : goal.returns-in-Ok-run_script-clause-answers
@@ -32,3 +33,29 @@ returns-in-Ok-run_script-clause-answers g c =
     c.args.files.flash c.args.files.script _ _ _ _ _ _ _ _ _ _ c.in_ok-bytes.bytes.items c.in_ok-text.text.items runs.cuts
     runs.came c.in-Ok.device read c.in_ok-device.ensures.others c.in_ok-bytes.ensures.bytes c.in_ok-bytes.ensures.others
     c.in_ok-text.ensures.bytes c.in_ok-text.ensures.others runs.says c.in_ok-bytes.ensures.whole runs.plays
+
+-- Nothing was written before an input was read.
+pub returns-in_err-device-clause-begun : goal.returns-in_err-device-clause-begun
+returns-in_err-device-clause-begun g c = OnErr-any _ (inl refl)
+
+pub returns-in_err-bytes-clause-begun : goal.returns-in_err-bytes-clause-begun
+returns-in_err-bytes-clause-begun g c = OnErr-any _ (inl refl)
+
+pub returns-in_err-text-clause-begun : goal.returns-in_err-text-clause-begun
+returns-in_err-text-clause-begun g c = OnErr-any _ (inl refl)
+
+-- The device file has no map, and the line that says so was written in part.
+pub returns-in-Err-clause-begun : goal.returns-in-Err-clause-begun
+returns-in-Err-clause-begun g c =
+    let read = rw c.in-Err.is at c.in_ok-device.ensures.read in
+    OnErr-then c.write_no_map.result (λ begun. inr (inr (c.in-Err.bad, read, begun.0, begun.1))) c.write_no_map.ensures.begun
+
+-- All three inputs were read in turn, and the run of the script ended with an error.
+pub returns-in-Err-run_script-clause-begun : goal.returns-in-Err-run_script-clause-begun
+returns-in-Err-run_script-clause-begun g c =
+    let read = rw c.in-Ok.is at c.in_ok-device.ensures.read in
+    let begun = rw c.deref.ensures.value at c.in-Err-run_script.ensures.begun in
+    BreaksRun-read c.args.options.form c.args.files.device c.args.files.flash c.args.files.script _ _ _ _ _ _ _ _ _ _
+    c.in_ok-bytes.bytes.items c.in_ok-text.text.items c.in-Ok.device read c.in_ok-device.ensures.others
+    c.in_ok-bytes.ensures.bytes c.in_ok-bytes.ensures.others c.in_ok-text.ensures.bytes c.in_ok-text.ensures.others
+    c.in_ok-bytes.ensures.whole begun

@@ -1,8 +1,9 @@
-use Rattle.std.proofs.Common.{subst}
+use Rattle.std.proofs.Common.{inl, inr, refl, subst}
 use Rattle.std.proofs.lemmas.Result.{IfOk-weaker}
 use Rattle.device_texts.specs.FlashOf.{armed_in}
 use Rattle.inputs.specs.Loading.{AreCutsOf, LoadsAll}
 use Rattle.inputs.proofs.ScriptLaws.{IsScript-loaded}
+use Rattle.device_commands.proofs.TellingLaws.{OnErr-any, RunsFirstLines-played}
 use Rattle.device_commands.proofs.run.run_script.Goals as goal
 
 -- The script was checked, its events were run, and the replies were written.
@@ -23,3 +24,23 @@ returns-in-Ok-clause-runs g c =
           c.in_ok-cuts.ensures.files c.in_ok-cuts.ensures.buffered;
       plays = plays.plays;
     }) c.play-played.ensures.plays
+
+-- A line or its file has a fault.
+pub returns-in_err-cuts-clause-begun : goal.returns-in_err-cuts-clause-begun
+returns-in_err-cuts-clause-begun g c = OnErr-any _ (inl refl)
+
+-- The run ended without an answer.
+pub returns-in-Ok-clause-begun : goal.returns-in-Ok-clause-begun
+returns-in-Ok-clause-begun g c = OnErr-any c.play-played.result (inr (RunsFirstLines-played c.args.options.form
+    c.args.options.is_strict c.play-played.result c.args.start.device.now c.args.start.bytes.items
+    (armed_in c.in_ok-cuts.field-0.cuts.items) c.args.start.text.now _ (g.H.Host.input c.args.host.now)
+    (g.H.Host.file c.args.host.now) _ _ _ c.in_ok-cuts.ensures.cuts c.in_ok-cuts.ensures.files
+    (rw c.deref.ensures.value c.in_ok-cuts.ensures.buffered) c.play-played.ensures))
+
+-- The file of the flash could not be synced.
+pub returns-clause-begun : goal.returns-clause-begun
+returns-clause-begun g c = inr (RunsFirstLines-played c.args.options.form
+    c.args.options.is_strict c.play-played.result c.args.start.device.now c.args.start.bytes.items
+    (armed_in c.in_ok-cuts.field-0.cuts.items) c.args.start.text.now _ (g.H.Host.input c.args.host.now)
+    (g.H.Host.file c.args.host.now) _ _ _ c.in_ok-cuts.ensures.cuts c.in_ok-cuts.ensures.files
+    (rw c.deref.ensures.value c.in_ok-cuts.ensures.buffered) c.play-played.ensures)
