@@ -16,10 +16,9 @@ use crate::sweeping::{Named, run_sweep};
 use command_line::{DeviceOrder, Order, PlanOrder, ReadOrder, Request};
 use device_commands::run_device_order;
 use device_texts::json::last_notes;
-use device_texts::{Form, write_all};
+use device_texts::{Form, NoteList, write_all};
 use explaining::{CommandNotes, DeviceNotes, WrittenNotes};
 use host::{Answer, Host, Refusal};
-use inputs::notes_in;
 use inspecting::{NoPlanNotes, inspect, run_inspection, run_plan, write_inspection};
 use std::alloc::Global;
 use std::io::Write;
@@ -92,10 +91,7 @@ fn answer_reading<H: Host, O: Write>(
 {
     let found = inspect(alloc, order, host)?;
     notes.on_inspection(&found);
-    let Ok(notes) = notes_in(alloc, notes.text()) else {
-        return Err(Refusal::NoMemory);
-    };
-    write_inspection(alloc, form, &notes, &found, out)
+    write_inspection(alloc, form, notes.list(), &found, out)
 }
 
 /// Runs the command of an order to a device, and writes the answer to `out`.
@@ -136,10 +132,15 @@ fn answer_texts<H: Host, O: Write, E: Write>(
     ensures used { IfOk result (λ answer. answer ≡ Answer.Done
         → core.UsesFlash order.now (H.opened host.old) (H.opened host.new) (H.synced host.new)) }
 {
-    let mut written = WrittenNotes { notes, err };
+    let mut written = WrittenNotes { alloc, notes, err };
     let answer = run_device_order(alloc, order, Form::Text, host, out, &mut written)?;
-    written.end(answer);
+    add_end(&mut written, answer);
     Ok(answer)
+}
+
+/// Adds why a run has this answer.
+fn add_end<E: Write>(written: &mut WrittenNotes<'_, '_, E>, answer: Answer) {
+    written.notes.on_answer(answer);
 }
 
 /// Runs the command of an order to a device, and writes to `out` an object for each reply, one for
@@ -159,19 +160,16 @@ fn answer_objects<H: Host, O: Write>(
 {
     let answer = run_device_order(alloc, order, Form::Json, host, out, notes)?;
     notes.on_answer(answer);
-    write_last_notes(alloc, notes.text(), out)?;
+    write_last_notes(alloc, notes.list(), out)?;
     Ok(answer)
 }
 
-/// Writes the object of the notes on the end of a run, which are lines, if there are any.
-fn write_last_notes<O: Write>(alloc: Global, text: &str, out: &mut O) -> Result<(), Refusal>
+/// Writes the object of the notes on the end of a run, if there are any.
+fn write_last_notes<O: Write>(alloc: Global, notes: &NoteList, out: &mut O) -> Result<(), Refusal>
     ensures { OnOk result ((texts : List (List ℕ))
         × Appends (O.contents out.old) (O.contents out.new) (last_notes texts)) }
 {
-    let Ok(notes) = notes_in(alloc, text) else {
-        return Err(Refusal::NoMemory);
-    };
-    let Ok(line) = last_notes(alloc, &notes) else {
+    let Ok(line) = last_notes(alloc, notes) else {
         return Err(Refusal::NoMemory);
     };
     match write_all(out, line.as_bytes()) {

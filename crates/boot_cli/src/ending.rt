@@ -4,9 +4,10 @@ ghost use Rattle.std.specs.Prelude.{◌≡◌, ◌⊎◌, Ok};
 ghost use Rattle.host.specs.Status.{Ends, status_of_refusal};
 
 use crate::error_members::put_error;
+use device_texts::NoteList;
 use device_texts::json::{put_notes, put_value, value_line};
+use explaining::write_notes;
 use host::{Answer, Refusal, finish, status_after};
-use inputs::notes_in;
 use serde_json::{Map, Value};
 use std::alloc::{AllocError, Global};
 use std::io::Write;
@@ -15,12 +16,12 @@ use std::io::Write;
 const NO_MEMORY: &str = "{\"error\":{\"kind\":\"memory\",\"text\":\"memory\"}}\n";
 
 /// Ends a command as [`finish`] does. If `is_json` is set, a refusal is written as an object, with
-/// the notes on it, which are lines. Without it the notes follow the answer or the error line.
+/// the notes on it. Without it the lines of the notes follow the answer or the error line.
 pub fn end<O: Write, E: Write>(
     alloc: Global,
     is_json: bool,
     outcome: &Result<Answer, Refusal>,
-    notes: &str,
+    notes: &NoteList,
     out: &mut O,
     err: &mut E,
 ) -> u8
@@ -33,10 +34,8 @@ pub fn end<O: Write, E: Write>(
         Err(refusal) if is_json => refuse(alloc, refusal, notes, err),
         _ => {
             let status = finish(outcome, out, err);
-            if !is_json && !notes.is_empty() {
-                // The notes are no part of the answer, so a failed write changes nothing.
-                let _ = err.write_all(notes.as_bytes());
-                let _ = err.flush();
+            if !is_json {
+                write_notes(alloc, notes, err);
             }
             status
         }
@@ -44,7 +43,7 @@ pub fn end<O: Write, E: Write>(
 }
 
 /// Writes the object of a refusal and returns its exit status, or 1 if the write failed.
-fn refuse<E: Write>(alloc: Global, refusal: &Refusal, notes: &str, err: &mut E) -> u8
+fn refuse<E: Write>(alloc: Global, refusal: &Refusal, notes: &NoteList, err: &mut E) -> u8
     ensures { (result ≡ status_of_refusal refusal.now) ⊎ (result ≡ 1) }
 {
     let written = match error_line(alloc, refusal, notes) {
@@ -55,12 +54,11 @@ fn refuse<E: Write>(alloc: Global, refusal: &Refusal, notes: &str, err: &mut E) 
 }
 
 /// Makes the line of the object of a refusal and the notes on it.
-fn error_line(alloc: Global, refusal: &Refusal, notes: &str) -> Result<String, AllocError> {
+fn error_line(alloc: Global, refusal: &Refusal, notes: &NoteList) -> Result<String, AllocError> {
     let mut error = Map::new(alloc);
     put_error(alloc, &mut error, refusal)?;
     let mut object = Map::new(alloc);
     put_value(alloc, &mut object, "error", Value::Object(error))?;
-    let notes = notes_in(alloc, notes)?;
-    put_notes(alloc, &mut object, &notes)?;
+    put_notes(alloc, &mut object, notes)?;
     value_line(alloc, &Value::Object(object))
 }

@@ -5,7 +5,7 @@ ghost use Rattle.host.specs.Input.{KeepsFiles};
 ghost use Rattle.boot_cli.specs.SweepEnd.{AnswersMerge, KeepsOutputs};
 
 use crate::sweeping::{check_picture, hold_picture, make_picture, write_swept};
-use device_texts::Form;
+use device_texts::{Form, NoteList};
 use host::{
     Answer, BadText, FlashFault, Host, MOST_FILE, Refusal, Source, SourceFault, refuse_input,
 };
@@ -32,7 +32,7 @@ pub fn run_merge<H: Host, O: Write>(
     ensures outputs { KeepsOutputs outputs.now picture.entry (H.file host.old) (H.file host.new) }
 {
     let swept = merge_outputs(alloc, outputs, picture, is_forced, host)?;
-    write_swept(alloc, form, &[], &swept, out)
+    write_swept(alloc, form, &NoteList::new(alloc), &swept, out)
 }
 
 /// Reads the outputs of the parts of a sweep from `host`, and returns the result of all their runs.

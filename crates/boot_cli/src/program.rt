@@ -83,7 +83,7 @@ pub fn run_order<H: Host, O: Write, E: Write>(
         alloc,
         request.is_json,
         &outcome,
-        notes.text(),
+        notes.list(),
         out,
         &mut err,
     );

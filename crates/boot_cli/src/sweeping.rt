@@ -1,12 +1,13 @@
 //! `bootswap sweep`: runs a script once for each write of the flash, with a power cut at that
 //! write.
-ghost use Rattle.std.specs.Prelude.{◌≡◌, IfErr, IfOk, IfSome, List, ℕ, OnOk, map};
+ghost use Rattle.std.specs.Prelude.{◌≡◌, IfErr, IfOk, IfSome, List, ℕ, OnOk};
 ghost use Rattle.std.specs.Io.KnownBytes.{Appends};
 ghost use Rattle.flash_model.specs.Blanks.{IsBlankOf};
 ghost use Rattle.host.specs.Doings.{KeepsApart};
 ghost use Rattle.host.specs.Input.{IsKnownAs, IsNamed, KeepsFiles};
 ghost use Rattle.device_texts.specs.DeviceFile.{IsOfFile};
 ghost use Rattle.device_texts.specs.FlashOf.{IsFlashOf};
+ghost use Rattle.device_texts.specs.Notes.{sentences};
 ghost use Rattle.device_texts.specs.Said.{said};
 ghost use Rattle.sweep.specs.Swept.{written};
 ghost use Rattle.boot_cli.specs.SweepEnd.{AnswersSweep, FindsSweep, HasDevice, answer_of};
@@ -17,10 +18,10 @@ use crate::progress::Progress;
 use command_line::{SweepChoices, SweepPart};
 use common::event::Event;
 use device_commands::provision::read_images;
-use device_texts::{DeviceFile, Form, Line, flash_of, write_all};
+use device_texts::{DeviceFile, Form, Line, NoteList, flash_of, write_all};
 use explaining::CommandNotes;
 use host::{Answer, FlashFault, Host, Refusal, Replaced, Source, SourceFault, refuse_input};
-use inputs::{Lines, Notes, device_or_fault, load, notes_in, read_script};
+use inputs::{Lines, Notes, device_or_fault, load, read_script};
 use machine::Fault;
 use sector_map::SectorMap;
 use std::alloc::{AllocError, Global};
@@ -100,10 +101,7 @@ pub fn run_sweep<H: Host, O: Write, E: Write>(
 {
     let swept = sweep_device(alloc, named, host, err, notes)?;
     notes.on_answer(answer_of(&swept));
-    let Ok(notes) = notes_in(alloc, notes.text()) else {
-        return Err(Refusal::NoMemory);
-    };
-    write_swept(alloc, form, &notes, &swept, out)
+    write_swept(alloc, form, notes.list(), &swept, out)
 }
 
 /// Writes the result of a sweep to `out` in a form, and returns the answer. The object has the notes
@@ -114,13 +112,13 @@ pub fn run_sweep<H: Host, O: Write, E: Write>(
 pub fn write_swept<O: Write>(
     alloc: Global,
     form: Form,
-    notes: &[&str],
+    notes: &NoteList,
     swept: &Swept,
     out: &mut O,
 ) -> Result<Answer, Refusal>
     ensures { IfOk result (λ answer. (answer ≡ answer_of swept.now)
         × Appends (O.contents out.old) (O.contents out.new)
-        (written form (map (λ note. note.now) notes.now) swept.now)) }
+        (written form (sentences notes.now) swept.now)) }
 {
     let answer = answer_of(swept);
     let Ok(text) = swept.written(alloc, form, notes) else {

@@ -17,7 +17,7 @@ use crate::next_boot::{write_decisions, write_intake};
 use crate::precursors::{Precursors, Running, read_precursors};
 use crate::telling::tell;
 use command_line::{NewComponent, NewManifest};
-use device_texts::{DeviceFile, refused_fault_text, refused_text};
+use device_texts::{DeviceFile, NoteList, refused_fault_text, refused_text};
 use host::{Answer, Host, Refusal, Source};
 use inputs::{Notes, read_device};
 use machine::Fault;
@@ -140,7 +140,7 @@ fn write_manifest<H: Host, O: Write, E: Write>(
     ensures files { KeepsFiles (H.file host.old) (H.file host.new) }
     ensures opened { H.opened host.new ≡ H.opened host.old }
 {
-    let mut notes = String::new(alloc);
+    let mut notes = NoteList::new(alloc);
     let Running {
         digests,
         mut table,
@@ -162,6 +162,9 @@ fn write_manifest<H: Host, O: Write, E: Write>(
         return Err(Refusal::NoMemory);
     };
     expect_manifest(alloc, text.as_bytes(), &device.identity, &manifest)?;
+    let Ok(notes) = notes.lines(alloc) else {
+        return Err(Refusal::NoMemory);
+    };
     tell(text.as_bytes(), out)?;
     tell(notes.as_bytes(), err)?;
     Ok(notes.is_empty())

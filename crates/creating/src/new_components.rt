@@ -8,9 +8,10 @@ use crate::next_boot::{request, write_lack};
 use arrayvec::ArrayVec;
 use certificate::Table;
 use command_line::NewComponent;
-use diagnostics::explain_own_need;
+use device_texts::NoteList;
 use host::{Host, MOST_FILE, Refusal, Source, SourceFault};
 use image_reading::{Desc, ImageError, describe};
+use inputs::OwnNeed;
 use manifest::{Component, MOST_COMPONENTS};
 use sector_map::SectorMap;
 use sha2::{Digest, Sha256};
@@ -29,7 +30,7 @@ pub fn read_components<H: Host>(
     precursors: &[Option<[u8; 32]>],
     host: &mut H,
     table: &mut Option<Table>,
-    notes: &mut String,
+    notes: &mut NoteList,
 ) -> Result<ArrayVec<Component, MOST_COMPONENTS>, Refusal>
     requires same { length precursors.now ≡ length asked.now }
     requires there { HaveImages map.now.images asked.now }
@@ -59,7 +60,7 @@ fn read_component<H: Host>(
     precursor: Option<[u8; 32]>,
     host: &mut H,
     table: &mut Option<Table>,
-    notes: &mut String,
+    notes: &mut NoteList,
 ) -> Result<Component, Refusal>
     requires { asked.now.image < map.now.images }
     ensures read { IfOk result (ReadsComponent asked.now precursor
@@ -90,10 +91,10 @@ fn read_component<H: Host>(
     })
 }
 
-/// Adds to the notes why a device with this map will not take a file, with a line for each reason, and
+/// Adds to the notes why a device with this map will not take a file, one for each reason, and
 /// that its image needs an image of its own number.
 fn write_notes(
-    notes: &mut String,
+    notes: &mut NoteList,
     map: &SectorMap,
     asked: &NewComponent<'_>,
     file: &[u8],
@@ -103,18 +104,21 @@ fn write_notes(
 {
     let (source, image) = (Source::named(asked.file), asked.image);
     match described {
-        Ok(description) => explain_own_need(notes, Source::named(asked.file), image, description)?,
+        Ok(description) => {
+            if let Some(need) = OwnNeed::of(source, image, description) {
+                notes.add(need)?;
+            }
+        }
         Err(fault) => {
             let (code, name) = (fault.code(), fault.name());
-            writeln!(notes, "note: {source} is no intact image: {code} {name}")?;
+            notes.add(format_args!("{source} is no intact image: {code} {name}"))?;
         }
     }
     let (long, slot) = (file.len(), map.slot_length(image));
     if long > slot as usize {
-        writeln!(
-            notes,
-            "note: {source} has {long} bytes, and the slots of image {image} {slot}"
-        )?;
+        notes.add(format_args!(
+            "{source} has {long} bytes, and the slots of image {image} {slot}"
+        ))?;
     }
     Ok(())
 }

@@ -5,6 +5,7 @@ use certificate::{Reason, Request, Table, is_valid};
 use chooser::choose;
 use command_line::NewComponent;
 use decision::entry_of;
+use device_texts::NoteList;
 use image_reading::{Desc, ImageError};
 use inputs::Intake;
 use std::alloc::AllocError;
@@ -27,7 +28,7 @@ pub fn request(table: &mut Option<Table>, image: u8, file: Result<Desc, ImageErr
 /// Adds to the notes why a device takes no manifest of this sequence number: it accepted a higher one,
 /// or is on trial.
 pub fn write_intake(
-    notes: &mut String,
+    notes: &mut NoteList,
     sequence: u32,
     intake: &Option<Intake>,
 ) -> Result<(), AllocError> {
@@ -36,32 +37,29 @@ pub fn write_intake(
     };
     let last = intake.sequence;
     if sequence < last {
-        writeln!(
-            notes,
-            "note: the device accepted a manifest of sequence number {last}, and refuses a lower one"
-        )?;
+        notes.add(format_args!(
+            "the device accepted a manifest of sequence number {last}, and refuses a lower one"
+        ))?;
     }
     if intake.is_on_trial {
-        notes.push_str(
-            "note: a set of images is on trial: the device takes no uploads until a boot ends the \
-             trial\n",
+        notes.add(
+            "a set of images is on trial: the device takes no uploads until a boot ends the trial",
         )?;
     }
     Ok(())
 }
 
 /// Adds to the notes what a boot decides about the files: that it boots some on trial that are
-/// requested permanently, and a line for each file that it would refuse by this table.
+/// requested permanently, and each file that it would refuse by this table.
 pub fn write_decisions(
-    notes: &mut String,
+    notes: &mut NoteList,
     asked: &[NewComponent<'_>],
     table: &Option<Table>,
 ) -> Result<(), AllocError> {
     if asks_for_both(asked) {
-        writeln!(
-            notes,
-            "note: a boot tries these images as a set: those of --permanent revert too unless each \
-             is confirmed"
+        notes.add(
+            "a boot tries these images as a set: those of --permanent revert too unless each is \
+             confirmed",
         )?;
     }
     write_refusals(notes, asked, table)
@@ -73,9 +71,9 @@ fn asks_for_both(asked: &[NewComponent<'_>]) -> bool {
         && asked.iter().any(|component| !component.permanent)
 }
 
-/// Adds to the notes a line for each file that a boot by this table would refuse, with the reason.
+/// Adds to the notes one for each file that a boot by this table would refuse, with the reason.
 fn write_refusals(
-    notes: &mut String,
+    notes: &mut NoteList,
     asked: &[NewComponent<'_>],
     table: &Option<Table>,
 ) -> Result<(), AllocError> {
@@ -89,7 +87,7 @@ fn write_refusals(
     for refusal in report.refusals.as_slice() {
         if is_told(asked, refusal.image, &refusal.reason) {
             let (image, reason) = (refusal.image, &refusal.reason);
-            writeln!(notes, "note: a boot would refuse image {image}: {reason}")?;
+            notes.add(format_args!("a boot would refuse image {image}: {reason}"))?;
         }
     }
     Ok(())
@@ -104,7 +102,7 @@ fn is_told(asked: &[NewComponent<'_>], image: u8, reason: &Reason) -> bool {
 /// reason is the first of a report: the image needs an image that the device doesn't have, or a
 /// higher version of itself.
 pub fn write_lack(
-    notes: &mut String,
+    notes: &mut NoteList,
     images: u8,
     image: u8,
     file: &Result<Desc, ImageError>,
@@ -113,7 +111,7 @@ pub fn write_lack(
         return Ok(());
     };
     match lack_of(description, images, image) {
-        Some(reason) => writeln!(notes, "note: a boot would refuse image {image}: {reason}"),
+        Some(reason) => notes.add(format_args!("a boot would refuse image {image}: {reason}")),
         None => Ok(()),
     }
 }

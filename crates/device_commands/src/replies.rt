@@ -5,9 +5,8 @@ ghost use Rattle.device_texts.specs.ReplyJson.{map_refusal_line, note_line, repl
 ghost use Rattle.device_commands.specs.Telling.{BreaksOff};
 
 use device_texts::json::{map_refusal_line, note_line, reply_line};
-use device_texts::{Form, write_all};
+use device_texts::{Form, NoteList, write_all};
 use host::{Answer, Refusal};
-use inputs::notes_in;
 use machine::Reply;
 use sector_map::MapError;
 use std::alloc::{AllocError, Global};
@@ -33,13 +32,13 @@ pub fn write_reply<O: Write>(
     write_line(&line, out)
 }
 
-/// Writes the notes on the reply to the event of this number to `out`, a note in each line, and
-/// flushes them. Writes nothing if there are none, or if the form is a text, which has no notes.
+/// Writes the notes on the reply to the event of this number to `out`, as an object, and flushes
+/// them. Writes nothing if there are none, or if the form is a text, which has no notes.
 pub fn write_notes<O: Write>(
     alloc: Global,
     form: Form,
     number: usize,
-    notes: Option<String>,
+    notes: &NoteList,
     out: &mut O,
 ) -> Result<(), Refusal>
     ensures told { OnOk result ((texts : List (List ℕ))
@@ -48,13 +47,7 @@ pub fn write_notes<O: Write>(
         × BreaksOff refusal (note_line form number texts)
         (O.contents out.old) (O.contents out.new)) }
 {
-    let Some(notes) = notes else {
-        return Ok(());
-    };
-    let Ok(notes) = notes_in(alloc, &notes) else {
-        return Err(Refusal::NoMemory);
-    };
-    let Ok(line) = note_line(alloc, form, number, &notes) else {
+    let Ok(line) = note_line(alloc, form, number, notes) else {
         return Err(Refusal::NoMemory);
     };
     write_line(&line, out)

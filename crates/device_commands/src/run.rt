@@ -13,7 +13,7 @@ use crate::host_file::HostFile;
 use crate::replies::{write_no_map, write_notes, write_reply};
 use boot_core::{Device, step};
 use common::event::Event;
-use device_texts::{CutWrite, DeviceFile, Form, Line, arm_all, flash_of};
+use device_texts::{CutWrite, DeviceFile, Form, Line, NoteList, arm_all, flash_of};
 use flash_model::Flash;
 use host::{Access, Answer, Host, Refusal, Source};
 use inputs::{
@@ -331,7 +331,9 @@ fn run_event<F: Flash, O: Write, N: Notes>(
     let borrowed = event.as_deref();
     let reply = step(alloc, device, &borrowed);
     write_reply(alloc, form, number, &reply, out)?;
-    write_notes(alloc, form, number, notes.tell(number, &event, &reply), out)?;
+    let mut told = NoteList::new(alloc);
+    notes.tell(number, &event, &reply, &mut told);
+    write_notes(alloc, form, number, &told, out)?;
     Ok(Told {
         answer: answer_after(&reply),
         has_refused: is_refusal(&reply),

@@ -3,7 +3,6 @@
 use Rattle.std.proofs.Common.{◌≡◌, ℕ, ◌+◌, ◌<◌, List, [], ◌∷◌, ◌++◌, Bool, true, false, Ordering, Less, Equal, Greater, ap, append_assoc, arith, get_or, length, map, nat_cmp, refl, sym, take, ◌∙◌, add-zero, append-nil, length-take-le, true≢false, zero-add}
 use Rattle.std.proofs.Math.Bool.{beq}
 use Rattle.std.proofs.lemmas.List.{map-append, take_more}
-use Rattle.std.specs.Borrow.{Bor}
 use Rattle.std.specs.Cmp.Lexicographic.{slice_cmp}
 use Rattle.std.specs.List.{flat_map, range_with_len}
 use Rattle.std.specs.Ordering.{match_ordering}
@@ -153,7 +152,7 @@ flat_map-whole f [] each = none-whole
 flat_map-whole f (x ∷ xs) each = append-whole (f x) (flat_map f xs) (each x) (flat_map-whole f xs each)
 
 -- The texts of notes.
-pub notes-mapped : (notes : List (Bor (List ℕ)))
-    → map (λ note. string note.now) notes ≡ map string (map (λ note. note.now) notes)
-notes-mapped [] = refl
-notes-mapped (note ∷ notes) = ap (λ rest. string note.now ∷ rest) (notes-mapped notes)
+pub notes-mapped : {A : Type 0} (text : A → List ℕ) (notes : List A)
+    → map (λ note. string (text note)) notes ≡ map string (map text notes)
+notes-mapped text [] = refl
+notes-mapped text (note ∷ notes) = ap (λ rest. string (text note) ∷ rest) (notes-mapped text notes)

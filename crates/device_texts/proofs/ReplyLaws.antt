@@ -1,6 +1,5 @@
 -- The lines of replies that are written one by one.
 use Rattle.std.proofs.Common.{◌≡◌, ℕ, zero, suc, ◌+◌, ◌==◌, Bool, false, true≢false, List, [], ◌∷◌, ◌++◌, length, map, refl, sym, ap, ◌∙◌, append-nil, append_assoc, add-zero, arith}
-use Rattle.std.specs.Borrow.{Bor}
 use Rattle.serde_json.specs.Data.{no_members, object}
 use Rattle.machine.specs.declared.reply.Reply.{Reply}
 use Rattle.device_texts.specs.Json.{json_line, with_notes}
@@ -73,14 +72,13 @@ reply_lines-push Text n replies notes reply note each =
 reply_lines-push Json n replies notes reply note each = objects-push n replies notes reply note each
 
 -- Some notes have a line.
-pub note_line-some : (n : ℕ) (notes : List (Bor (List ℕ))) → (length notes == 0) ≡ false
-    → note_line Json n (map (λ note. note.now) notes)
-    ≡ json_line (event_json n (with_notes (map (λ note. note.now) notes) no_members))
-note_line-some n [] some = absurd (true≢false some)
-note_line-some n (note ∷ notes) some = refl
+pub note_line-some : {A : Type 0} (text : A → List ℕ) (n : ℕ) (notes : List A) → (length notes == 0) ≡ false
+    → note_line Json n (map text notes)
+    ≡ json_line (event_json n (with_notes (map text notes) no_members))
+note_line-some text n [] some = absurd (true≢false some)
+note_line-some text n (note ∷ notes) some = refl
 
-pub last_notes-some : (notes : List (Bor (List ℕ))) → (length notes == 0) ≡ false
-    → last_notes (map (λ note. note.now) notes)
-    ≡ json_line (object (with_notes (map (λ note. note.now) notes) no_members))
-last_notes-some [] some = absurd (true≢false some)
-last_notes-some (note ∷ notes) some = refl
+pub last_notes-some : {A : Type 0} (text : A → List ℕ) (notes : List A) → (length notes == 0) ≡ false
+    → last_notes (map text notes) ≡ json_line (object (with_notes (map text notes) no_members))
+last_notes-some text [] some = absurd (true≢false some)
+last_notes-some text (note ∷ notes) some = refl

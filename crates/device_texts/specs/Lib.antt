@@ -6,6 +6,7 @@ pub mod InOrder
 pub mod Json
 pub mod LineReading
 pub mod LineText
+pub mod Notes
 pub mod Part
 pub mod ReplyJson
 pub mod ReplyText

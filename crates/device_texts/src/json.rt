@@ -6,12 +6,14 @@ ghost use Rattle.std.specs.Prelude.{◌≡◌, IfOk, OnOk, false, map, string_by
 ghost use Rattle.serde_json.specs.Data.{Data, string};
 ghost use Rattle.serde_json.specs.Written.{has_float};
 ghost use Rattle.serde_json.specs.View.{members_view, view};
+ghost use Rattle.device_texts.specs.Notes.{sentences};
 ghost use Rattle.device_texts.specs.Json.{json_line, number_json, set_numbers, with_member, with_notes, with_some};
 
 mod refusals;
 mod reply;
 mod report;
 
+use crate::notes::NoteList;
 use common::limits::MOST_IMAGES;
 pub use refusals::{code_value, fault_value, map_value, put_code, put_refused};
 pub use reply::{last_notes, map_refusal_line, note_line, reply_line};
@@ -138,15 +140,15 @@ pub fn set_numbers(alloc: Global, set: u8) -> Result<Vec<Value>, AllocError>
 }
 
 /// Adds the member `notes`, unless there are none.
-pub fn put_notes(alloc: Global, object: &mut Object, notes: &[&str]) -> Result<(), AllocError>
+pub fn put_notes(alloc: Global, object: &mut Object, notes: &NoteList) -> Result<(), AllocError>
     ensures { OnOk result (members_view object.new.entries
-        ≡ with_notes (map (λ note. note.now) notes.now) (members_view object.old.entries)) }
+        ≡ with_notes (sentences notes.now) (members_view object.old.entries)) }
 {
-    put_each(alloc, object, "notes", notes)
+    put_each(alloc, object, "notes", notes.sentences.as_slice())
 }
 
-impl Json for &str {
-    ghost json = { λ note. string note.now };
+impl Json for String {
+    ghost json = { λ note. string (string_bytes note) };
 
     fn json(&self, alloc: Global) -> Result<Value, AllocError> {
         Value::try_from_str(alloc, self)

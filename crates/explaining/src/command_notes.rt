@@ -1,24 +1,25 @@
 //! Collects the notes on the answer of a command while it runs.
 
-use crate::bodies::explain_body;
+use crate::device_files::explain_map;
 use crate::ends::explain_refusal;
 use crate::image_files::ImageFiles;
 use crate::inspections::explain_inspection;
-use crate::new_files::{explain_components, explain_new_device, explain_new_image};
+use crate::needs::explain_running;
+use crate::new_files::{explain_body, explain_components, explain_new_device, explain_new_image};
 use crate::replies::ReplyNotes;
 use crate::resting_tables::resting_table;
-use crate::slots::explain_slot;
+use crate::slots::{explain_slot, slot_of};
+use crate::{Result, add_all, write_notes};
 use certificate::Table;
 use command_line::Order;
 use common::event::Event;
-use device_texts::DeviceFile;
-use diagnostics::{explain_map, explain_running};
+use device_texts::{DeviceFile, NoteList};
 use host::{Answer, Refusal, Source};
 use inputs::{BadMap, Notes};
 use inspecting::Inspection;
 use machine::Reply;
 use sector_map::{SectorMap, Side};
-use std::alloc::{AllocError, Global};
+use std::alloc::Global;
 use std::io::Write;
 
 /// The notes on a command. It hands over what it finds in its inputs. If no notes are wanted, nothing
@@ -28,8 +29,8 @@ pub struct CommandNotes {
     alloc: Global,
     /// Whether notes are wanted.
     are_wanted: bool,
-    /// The notes on the answer or the error, a line each.
-    text: String,
+    /// The notes on the answer or the error.
+    list: NoteList,
     /// The device.
     device: Option<DeviceFile>,
     /// The files of the images.
@@ -39,9 +40,9 @@ pub struct CommandNotes {
     /// The notes on the replies of a run.
     replies: ReplyNotes,
     /// The notes for the answer `Done`.
-    if_done: String,
+    if_done: NoteList,
     /// The notes for the answer `Refused`.
-    if_refused: String,
+    if_refused: NoteList,
 }
 
 impl CommandNotes {
@@ -51,19 +52,19 @@ impl CommandNotes {
         CommandNotes {
             alloc,
             are_wanted,
-            text: String::new(alloc),
+            list: NoteList::new(alloc),
             device: None,
-            files: ImageFiles::new(alloc),
+            files: ImageFiles::new(),
             running: None,
             replies: ReplyNotes::new(alloc),
-            if_done: String::new(alloc),
-            if_refused: String::new(alloc),
+            if_done: NoteList::new(alloc),
+            if_refused: NoteList::new(alloc),
         }
     }
 
-    /// Returns the notes on the answer or the error, a line each.
-    pub fn text(&self) -> &str {
-        &self.text
+    /// Returns the notes on the answer or the error.
+    pub fn list(&self) -> &NoteList {
+        &self.list
     }
 
     /// Returns whether notes are wanted.
@@ -91,30 +92,27 @@ impl CommandNotes {
     /// Adds why a read-only command finds this. If memory runs out, the notes so far stay.
     pub fn on_inspection(&mut self, found: &Inspection) {
         if self.are_wanted {
-            let _ = explain_inspection(&mut self.text, self.alloc, found);
+            let _ = explain_inspection(&mut self.list, self.alloc, found);
         }
     }
 
     /// Has only notes on why the command of an order ended with this refusal: an answer with notes isn't
     /// written then. If memory runs out, the notes so far stay.
     pub fn on_refusal(&mut self, order: &Order<'_>, refusal: &Refusal) {
-        self.text.clear();
+        self.list.sentences.clear();
         if self.are_wanted {
-            let _ = explain_refusal(&mut self.text, self.alloc, order, refusal);
+            let _ = explain_refusal(&mut self.list, self.alloc, order, refusal);
         }
     }
 
-    fn explain_answer(&mut self, answer: Answer) -> Result<(), AllocError> {
+    fn explain_answer(&mut self, answer: Answer) -> Result {
         match answer {
-            Answer::Done => {
-                self.text.push_str(&self.if_done)?;
-                self.files.explain_places(&mut self.text)
-            }
+            Answer::Done => add_all(&mut self.list, &self.if_done),
             Answer::Refused => {
-                self.text.push_str(&self.if_refused)?;
-                self.files.explain_faults(&mut self.text)?;
+                add_all(&mut self.list, &self.if_refused)?;
+                self.files.explain(&mut self.list)?;
                 match &self.running {
-                    Some(table) => explain_running(&mut self.text, table),
+                    Some(table) => explain_running(&mut self.list, table),
                     None => Ok(()),
                 }
             }
@@ -123,12 +121,12 @@ impl CommandNotes {
     }
 
     /// Adds which arguments of a refused order can't be.
-    fn explain_arguments(&mut self, order: &Order<'_>) -> Result<(), AllocError> {
+    fn explain_arguments(&mut self, order: &Order<'_>) -> Result {
         match (order, &self.device) {
-            (Order::MakeDevice { device }, _) => explain_new_device(&mut self.text, device),
-            (Order::MakeImage { values, .. }, _) => explain_new_image(&mut self.text, values),
+            (Order::MakeDevice { device }, _) => explain_new_device(&mut self.list, device),
+            (Order::MakeImage { values, .. }, _) => explain_new_image(&mut self.list, values),
             (Order::MakeManifest { manifest, .. }, Some(device)) => {
-                explain_components(&mut self.text, device, manifest)
+                explain_components(&mut self.list, device, manifest)
             }
             _ => Ok(()),
         }
@@ -149,7 +147,8 @@ impl Notes for CommandNotes {
 
     fn image(&mut self, source: Source<'_>, bytes: &[u8]) {
         if self.are_wanted {
-            let _ = self.files.add(source, bytes);
+            let (done, refused) = (&mut self.if_done, &mut self.if_refused);
+            let _ = self.files.add(done, refused, source, bytes);
         }
     }
 
@@ -161,7 +160,8 @@ impl Notes for CommandNotes {
 
     fn damaged(&mut self, map: &SectorMap, flash: &[u8], image: u8, side: Side) {
         if self.are_wanted {
-            let _ = explain_slot(&mut self.if_refused, map, flash, image, side);
+            let slot = slot_of(map, flash, image, side);
+            let _ = explain_slot(&mut self.if_refused, slot, image, side);
         }
     }
 
@@ -175,11 +175,9 @@ impl Notes for CommandNotes {
         self.replies.begin(device, flash);
     }
 
-    fn tell(&mut self, _: usize, event: &Event<Vec<u8>>, reply: &Reply) -> Option<String> {
+    fn tell(&mut self, _: usize, event: &Event<Vec<u8>>, reply: &Reply, told: &mut NoteList) {
         if self.are_wanted {
-            self.replies.on_reply(event, reply)
-        } else {
-            None
+            let _ = self.replies.explain(told, event, reply);
         }
     }
 }
@@ -187,17 +185,12 @@ impl Notes for CommandNotes {
 /// The notes on a command whose notes on replies are written to standard error, each after its reply.
 #[derive(Drop)]
 pub struct WrittenNotes<'n, 'e, E> {
+    /// The memory for the notes on a reply.
+    pub alloc: Global,
     /// The notes on the command.
     pub notes: &'n mut CommandNotes,
     /// The writer to standard error.
     pub err: &'e mut E,
-}
-
-impl<E> WrittenNotes<'_, '_, E> {
-    /// Adds why the command has this answer, as [`CommandNotes::on_answer`] does.
-    pub fn end(&mut self, answer: Answer) {
-        self.notes.on_answer(answer);
-    }
 }
 
 impl<E: Write> Notes for WrittenNotes<'_, '_, E> {
@@ -225,13 +218,14 @@ impl<E: Write> Notes for WrittenNotes<'_, '_, E> {
         self.notes.begin(device, flash);
     }
 
-    /// Writes why the event of this number has this reply, if there is a note on it. Returns none.
-    fn tell(&mut self, number: usize, event: &Event<Vec<u8>>, reply: &Reply) -> Option<String> {
-        let notes = self.notes.tell(number, event, reply)?;
-        // The notes are no part of the answer, so a failed write changes nothing.
-        let _ = writeln!(self.err, "note: of reply {number}:");
-        let _ = self.err.write_all(notes.as_bytes());
-        let _ = self.err.flush();
-        None
+    /// Writes why the event of this number has this reply, if there is a note on it. Adds none.
+    fn tell(&mut self, number: usize, event: &Event<Vec<u8>>, reply: &Reply, _: &mut NoteList) {
+        let mut told = NoteList::new(self.alloc);
+        self.notes.tell(number, event, reply, &mut told);
+        if !told.is_empty() {
+            // The notes are no part of the answer, so a failed write changes nothing.
+            let _ = writeln!(self.err, "note: of reply {number}:");
+            write_notes(self.alloc, &told, self.err);
+        }
     }
 }

@@ -1,36 +1,54 @@
 //! Explains why a command refuses an order.
 
-use crate::files::{explain_flash, explain_lock, explain_source, flash_name, image_name};
-use crate::fleets::explain_fleet;
-use crate::sizes::{explain_count, explain_flash_size, explain_slot_size};
+use crate::Result;
+use crate::device_files::explain_device;
+use crate::image_notes::explain_bytes;
+use crate::lines::{explain_line, explain_report_line, explain_table_line};
+use crate::needs::explain_running;
+use crate::scripts::{explain_place, explain_script_line};
+use crate::texts::Images;
 use certificate::Table;
-use command_line::Order;
-use diagnostics::{
-    explain_device, explain_report_line, explain_running, explain_script_line, explain_table_line,
-};
-use host::{NamedText, Refusal, ScriptLine, Source};
-use std::alloc::{AllocError, Global};
+use command_line::{DeviceOrder, Order, ReadOrder};
+use device_texts::NoteList;
+use host::{Refusal, Source, SourceFault, SourceRefusal, WrongLength};
+use std::alloc::Global;
+use std::io;
+use std::io::ErrorKind;
+
+/// What a fleet begins with.
+const FLEET: &str =
+    "a fleet begins with a line `device NAME`; a NAME is 1 to 255 visible characters of ASCII";
+
+/// What lines a summary has.
+const SUMMARY: &str =
+    "a summary has lines `COUNT FIRST KEY` as `plan --summary` prints them, sorted by the bytes of \
+     KEY; the counts of a KEY add up to less than 2^64";
+
+/// Which outputs of sweeps can be merged.
+const OUTPUTS: &str =
+    "outputs can be merged if `sweep` printed them for the same device, script and images";
 
 /// Adds why the command of an order ended with this refusal. JSON values are in memory of `alloc`.
-///
-/// # Errors
-/// `AllocError` if memory runs out. Then `notes` has a part of the text.
 pub fn explain_refusal(
-    notes: &mut String,
+    notes: &mut NoteList,
     alloc: Global,
     order: &Order<'_>,
     refusal: &Refusal,
-) -> Result<(), AllocError> {
+) -> Result {
     match refusal {
-        Refusal::TableLine(bad) => explain_table_line(notes, &bad.text, bad.line),
-        Refusal::ReportLine(bad) => explain_report_line(notes, &bad.text, bad.line),
-        Refusal::FleetLine => explain_fleet(notes),
+        Refusal::TableLine(bad) => explain_table_line(notes, bad),
+        Refusal::ReportLine(bad) => explain_report_line(notes, bad),
+        Refusal::FleetLine => notes.add(FLEET),
         Refusal::NotValid(text) => match Table::parse(text) {
             Ok(table) => explain_running(notes, &table),
             Err(_) => Ok(()),
         },
-        Refusal::DeviceFile(file) => explain_device_file(notes, alloc, file),
-        Refusal::ScriptLine(bad) => explain_bad_line(notes, bad),
+        Refusal::DeviceFile(file) => {
+            let device = Source::named(&file.name);
+            notes.add(format_args!("{device} is no device file:"))?;
+            explain_device(notes, alloc, &file.text)
+        }
+        Refusal::ScriptLine(bad) => explain_script_line(notes, bad),
         Refusal::OfSource(refused) => explain_source(notes, order, refused),
         Refusal::FlashFile(error) => explain_flash(notes, order, *error),
         Refusal::FlashInUse => explain_lock(notes, flash_name(order)),
@@ -40,26 +58,130 @@ pub fn explain_refusal(
         Refusal::NoImage { images, .. } if !matches!(order, Order::Plan(_)) => {
             explain_count(notes, *images)
         }
-        Refusal::ImageTooBig { image, most } => explain_slot_size(notes, *image, *most),
+        Refusal::ImageTooBig { image, most } => {
+            notes.add(format_args!("the slot of image {image} has {most} bytes"))
+        }
         _ => Ok(()),
     }
 }
 
-/// Adds which file is no device file, and why.
-fn explain_device_file(
-    notes: &mut String,
-    alloc: Global,
-    file: &NamedText,
-) -> Result<(), AllocError> {
-    let device = Source::named(&file.name);
-    writeln!(notes, "note: {device} is no device file:")?;
-    explain_device(notes, alloc, &file.text)
+/// Adds how many images the device has.
+fn explain_count(notes: &mut NoteList, images: u8) -> Result {
+    let all = Images(usize::from(images));
+    notes.add(format_args!("the device has {all}"))
 }
 
-/// Adds why a line of a script can't be run.
-fn explain_bad_line(notes: &mut String, bad: &ScriptLine) -> Result<(), AllocError> {
-    match &bad.script {
-        Some(script) => explain_script_line(notes, script, bad.line, bad.fault),
-        None => Ok(()),
+/// Adds why a source is refused: the system's reason, the first script line that names a file which
+/// can't be read, how to replace a file that isn't an image, why a requested file is no image, and
+/// the wrong line of a summary.
+fn explain_source(notes: &mut NoteList, order: &Order<'_>, refused: &SourceRefusal) -> Result {
+    let source = refused.source();
+    match &refused.fault {
+        SourceFault::CannotRead(error) => {
+            explain_error(notes, source, *error)?;
+            match &refused.script {
+                Some(script) => explain_place(notes, source, script),
+                None => Ok(()),
+            }
+        }
+        SourceFault::CannotReplace(Some(error)) => explain_error(notes, source, *error),
+        SourceFault::NoImage(bytes) => explain_bytes(notes, bytes),
+        SourceFault::NoOldImage => match order {
+            Order::MakeImage { body, .. } => {
+                let body = Source::named(body);
+                notes.add(format_args!(
+                    "OUT comes first, then BODY: `--force` replaces {source} by an image of {body}"
+                ))
+            }
+            _ => notes.add(format_args!("`--force` replaces {source} by the image")),
+        },
+        SourceFault::NoPicture => {
+            notes.add(format_args!("`--force` replaces {source} by the picture"))
+        }
+        SourceFault::CannotMerge(bad) => {
+            let is_plan = matches!(order, Order::Plan(_));
+            explain_line(notes, bad, if is_plan { SUMMARY } else { OUTPUTS })
+        }
+        SourceFault::CannotReplace(None) | SourceFault::TooLong(_) => Ok(()),
+    }
+}
+
+/// Adds the system's reason why a file can't be read or written.
+fn explain_error(notes: &mut NoteList, source: Source<'_>, error: io::Error) -> Result {
+    notes.add(format_args!("{source}: {error}"))
+}
+
+/// Adds which file another program has locked, if the name is known.
+fn explain_lock(notes: &mut NoteList, name: Option<&str>) -> Result {
+    let Some(name) = name else {
+        return Ok(());
+    };
+    let file = Source::File(name);
+    notes.add(format_args!(
+        "another program holds {file}, or is replacing it: one that writes it holds it alone"
+    ))
+}
+
+/// Adds the system's reason why a flash file can't be made or written.
+fn explain_flash(notes: &mut NoteList, order: &Order<'_>, error: io::Error) -> Result {
+    match order {
+        Order::Device(DeviceOrder::Run { flash, .. }) if is_read_only(error) => {
+            let file = Source::File(flash);
+            notes.add(format_args!(
+                "{file} can't be opened for writing: its permissions, or those of its file system, \
+                 allow only reading"
+            ))
+        }
+        Order::Device(DeviceOrder::Run { flash, .. } | DeviceOrder::Provision { flash, .. }) => {
+            explain_error(notes, Source::named(flash), error)
+        }
+        _ => Ok(()),
+    }
+}
+
+/// Whether the system's reason is that a file may only be read.
+fn is_read_only(error: io::Error) -> bool {
+    matches!(
+        error.kind(),
+        ErrorKind::PermissionDenied | ErrorKind::ReadOnlyFilesystem
+    )
+}
+
+/// Adds the length of the flash of this name, if it is known, and the length that it has to have.
+fn explain_flash_size(notes: &mut NoteList, name: Option<&str>, length: WrongLength) -> Result {
+    let WrongLength { found, wanted } = length;
+    let Some(name) = name else {
+        return Ok(());
+    };
+    let source = Source::named(name);
+    match found {
+        Some(found) if source.is_standard_input() && found > u64::from(wanted) => {
+            notes.add(format_args!(
+                "{source} has more bytes than the flash of the device, which has {wanted}"
+            ))
+        }
+        Some(found) => notes.add(format_args!(
+            "{source} has {found} bytes, and the flash of the device has {wanted}"
+        )),
+        None => notes.add(format_args!("the flash of the device has {wanted} bytes")),
+    }
+}
+
+/// The name of the flash file of an order, if it has one.
+fn flash_name<'a>(order: &Order<'a>) -> Option<&'a str> {
+    match order {
+        Order::Device(DeviceOrder::Provision { flash, .. } | DeviceOrder::Run { flash, .. })
+        | Order::Read(ReadOrder::Show { flash, .. } | ReadOrder::Slots { flash, .. })
+        | Order::Extract { flash, .. } => Some(*flash),
+        Order::MakeManifest { manifest, .. } => manifest.precursor,
+        _ => None,
+    }
+}
+
+/// The name of the image file that an order makes, if it makes one.
+fn image_name<'a>(order: &Order<'a>) -> Option<&'a str> {
+    match order {
+        Order::MakeImage { image: file, .. } | Order::Extract { out: file, .. } => Some(file.name),
+        _ => None,
     }
 }

@@ -1,35 +1,35 @@
 //! Explains why a device refuses an event of a run.
 
+use crate::Result;
+use crate::texts::Images;
 use common::event::Event;
-use device_texts::DeviceFile;
-use diagnostics::Images;
+use device_texts::{DeviceFile, NoteList};
 use machine::Fault;
-use std::alloc::AllocError;
 use upload::UploadError;
 
 /// Adds that the log of a flash holds no state.
-pub fn explain_no_state(notes: &mut String) -> Result<(), AllocError> {
-    notes.push_str(
-        "note: the log of the flash holds no state: run `provision` first, with the same device \
-         file\n",
+pub fn explain_no_state(notes: &mut NoteList) -> Result {
+    notes.add(
+        "the log of the flash holds no state: run `provision` first, with the same device \
+         file",
     )
 }
 
 /// Adds what a device has to do first, if its state doesn't allow an event.
 pub fn explain_state(
-    notes: &mut String,
+    notes: &mut NoteList,
     device: &DeviceFile,
     event: &Event<Vec<u8>>,
     fault: Fault,
-) -> Result<(), AllocError> {
+) -> Result {
     match fault {
-        Fault::NotBooted => notes.push_str(
-            "note: the device isn't booted: it needs a `boot` first, also after a `reset` and after \
-             a power cut\n",
+        Fault::NotBooted => notes.add(
+            "the device isn't booted: it needs a `boot` first, also after a `reset` and after \
+             a power cut",
         ),
-        Fault::OnTrial => notes.push_str(
-            "note: a set of images is on trial: the device takes no uploads and withdrawals until a \
-             boot ends the trial\n",
+        Fault::OnTrial => notes.add(
+            "a set of images is on trial: the device takes no uploads and withdrawals until a \
+             boot ends the trial",
         ),
         Fault::NotProvisioned => explain_no_state(notes),
         Fault::NotOnTrial | Fault::Upload(UploadError::NoSession | UploadError::NothingRequested) =>
@@ -39,11 +39,7 @@ pub fn explain_state(
 }
 
 /// Adds why the image of an event doesn't allow the event.
-fn explain_image_of(
-    notes: &mut String,
-    device: &DeviceFile,
-    event: &Event<Vec<u8>>,
-) -> Result<(), AllocError> {
+fn explain_image_of(notes: &mut NoteList, device: &DeviceFile, event: &Event<Vec<u8>>) -> Result {
     let (image, why) = match event {
         Event::Piece(image, _) | Event::Finish(image) => (
             *image,
@@ -63,10 +59,7 @@ fn explain_image_of(
     let images = device.map.images;
     if image >= images {
         let all = Images(usize::from(images));
-        return writeln!(
-            notes,
-            "note: there is no image {image}; the device has {all}"
-        );
+        return notes.add(format_args!("there is no image {image}; the device has {all}"));
     }
-    writeln!(notes, "note: image {image}: {why}")
+    notes.add(format_args!("image {image}: {why}"))
 }

@@ -1,12 +1,15 @@
 //! Explains why files aren't images that run together, and which may be those of other images.
 
+use crate::Result;
+use crate::image_notes::explain_image;
+use crate::needs::explain_running;
 use arrayvec::ArrayVec;
 use certificate::{Image, Request, Table};
 use decision::entry_of;
-use diagnostics::{explain_image, explain_own_need, explain_running};
+use device_texts::NoteList;
 use host::Source;
 use image_reading::{Desc, ImageError, describe};
-use std::alloc::{AllocError, Global};
+use inputs::OwnNeed;
 
 /// The files for the images of a device, as far as they were read.
 #[derive(Drop)]
@@ -17,37 +20,40 @@ pub struct ImageFiles {
     table: Table,
     /// Whether each file is an image and no more.
     are_images: bool,
-    /// The notes on files that may be those of other images.
-    places: String,
-    /// The notes on the first file that isn't an image.
-    fault: String,
 }
 
 impl ImageFiles {
-    /// No file was read. The notes are in memory of `alloc`.
-    pub fn new(alloc: Global) -> Self {
+    /// No file was read.
+    pub fn new() -> Self {
         ImageFiles {
             count: 0,
             table: Table {
                 images: ArrayVec::new(),
             },
             are_images: true,
-            places: String::new(alloc),
-            fault: String::new(alloc),
         }
     }
 
-    /// Adds the file for the next image.
-    pub fn add(&mut self, source: Source<'_>, bytes: &[u8]) -> Result<(), AllocError> {
+    /// Adds the file for the next image, and notes: to `if_done` that it may be that of another image,
+    /// and to `if_refused` why it is the first file that isn't an image.
+    pub fn add(
+        &mut self,
+        if_done: &mut NoteList,
+        if_refused: &mut NoteList,
+        source: Source<'_>,
+        bytes: &[u8],
+    ) -> Result {
         let number = self.count;
         self.count = self.count.saturating_add(1);
         match describe(bytes) {
             Ok(description) => {
-                explain_own_need(&mut self.places, source, number, &description)?;
+                if let Some(need) = OwnNeed::of(source, number, &description) {
+                    if_done.add(need)?;
+                }
                 self.add_image(description);
                 Ok(())
             }
-            Err(fault) => self.add_fault(source, bytes, fault),
+            Err(fault) => self.add_fault(if_refused, source, bytes, fault),
         }
     }
 
@@ -64,33 +70,27 @@ impl ImageFiles {
     /// Adds a file that isn't an image and no more.
     fn add_fault(
         &mut self,
+        notes: &mut NoteList,
         source: Source<'_>,
         bytes: &[u8],
         fault: ImageError,
-    ) -> Result<(), AllocError> {
-        if !self.are_images {
-            return Ok(());
-        }
+    ) -> Result {
+        let are_images = self.are_images;
         self.are_images = false;
         // More bytes may follow the image in its slot.
-        if fault == ImageError::TrailingBytes {
+        if !are_images || fault == ImageError::TrailingBytes {
             return Ok(());
         }
-        writeln!(self.fault, "note: {source} is no intact image:")?;
-        explain_image(&mut self.fault, bytes, fault)
+        notes.add(format_args!("{source} is no intact image:"))?;
+        explain_image(notes, bytes, fault)
     }
 
-    /// Adds which of the files may be those of other images.
-    pub fn explain_places(&self, notes: &mut String) -> Result<(), AllocError> {
-        notes.push_str(&self.places)
-    }
-
-    /// Adds which file is no image, or why the images don't run together.
-    pub fn explain_faults(&self, notes: &mut String) -> Result<(), AllocError> {
+    /// Adds why the images don't run together, if each file is one.
+    pub fn explain(&self, notes: &mut NoteList) -> Result {
         if self.are_images {
             explain_running(notes, &self.table)
         } else {
-            notes.push_str(&self.fault)
+            Ok(())
         }
     }
 }

@@ -1,24 +1,21 @@
 //! Explains what a read-only command found.
 
+use crate::Result;
+use crate::device_files::explain_map;
 use crate::faults::explain_no_state;
-use crate::slots::explain_content;
-use diagnostics::{
-    explain_image, explain_manifest, explain_map, explain_no, explain_refusals, explain_running,
-};
+use crate::image_notes::explain_image;
+use crate::manifest_notes::explain_manifest;
+use crate::needs::{explain_refusals, explain_running};
+use crate::slots::explain_slot;
+use crate::verdicts::explain_no;
+use device_texts::NoteList;
 use inspecting::{Inspection, NextDecision};
 use sector_map::Side;
-use std::alloc::{AllocError, Global};
+use std::alloc::Global;
 
 /// Adds why what a read-only command found is a no or a refusal, or why a decision refuses requests.
 /// JSON values and the sizes of a map are in memory of `alloc`.
-///
-/// # Errors
-/// `AllocError` if memory is refused. Then `notes` has a part of the text.
-pub fn explain_inspection(
-    notes: &mut String,
-    alloc: Global,
-    found: &Inspection,
-) -> Result<(), AllocError> {
+pub fn explain_inspection(notes: &mut NoteList, alloc: Global, found: &Inspection) -> Result {
     match found {
         Inspection::Choice(choice) => explain_refusals(notes, &choice.table, &choice.report),
         Inspection::Verdict(verdict) if !verdict.is_right => {
@@ -43,11 +40,11 @@ pub fn explain_inspection(
 }
 
 /// Adds why the decision of the next boot refuses requests, or why the boot would be refused.
-fn explain_decision(notes: &mut String, decision: &NextDecision) -> Result<(), AllocError> {
+fn explain_decision(notes: &mut NoteList, decision: &NextDecision) -> Result {
     match decision {
         NextDecision::Decided { table, report } => explain_refusals(notes, table, report),
         NextDecision::Damaged { image, slot } => {
-            explain_content(notes, slot, *image, Side::Primary)
+            explain_slot(notes, slot, *image, Side::Primary)
         }
         NextDecision::Invalid { table } => explain_running(notes, table),
     }

@@ -1,15 +1,16 @@
 //! Explains the replies of a run.
 
+use crate::Result;
 use crate::faults::explain_state;
+use crate::manifest_notes::explain_manifest;
+use crate::needs::explain_refusals;
 use crate::trials::Trials;
-use crate::upload_log::UploadLog;
-use crate::uploads::explain_opening;
+use crate::uploads::{UploadLog, explain_opening};
 use common::event::Event;
-use device_texts::DeviceFile;
-use diagnostics::{explain_manifest, explain_refusals};
+use device_texts::{DeviceFile, NoteList};
 use machine::{Fault, Reply};
 use manifest::Manifest;
-use std::alloc::{AllocError, Global};
+use std::alloc::Global;
 
 /// Says why a run has its replies.
 #[derive(Drop)]
@@ -38,27 +39,20 @@ impl ReplyNotes {
         self.trials = Trials::on(&device.map, flash);
     }
 
-    /// Returns why the event has this reply, if there is a note on it.
-    pub fn on_reply(&mut self, event: &Event<Vec<u8>>, reply: &Reply) -> Option<String> {
-        let device = self.device?;
-        let mut notes = String::new(self.alloc);
-        // If memory runs out, the notes so far are returned.
-        let _ = self.explain(&mut notes, &device, event, reply);
-        if notes.is_empty() { None } else { Some(notes) }
-    }
-
     /// Adds why the event has this reply, and logs the bytes of the event for later notes.
-    fn explain(
+    pub fn explain(
         &mut self,
-        notes: &mut String,
-        device: &DeviceFile,
+        notes: &mut NoteList,
         event: &Event<Vec<u8>>,
         reply: &Reply,
-    ) -> Result<(), AllocError> {
+    ) -> Result {
+        let Some(device) = self.device else {
+            return Ok(());
+        };
         self.log_request(event, reply);
         match reply {
-            Reply::Done => self.log_bytes(device, event),
-            Reply::Refused(fault) => self.explain_fault(notes, device, event, *fault),
+            Reply::Done => self.log_bytes(&device, event),
+            Reply::Refused(fault) => self.explain_fault(notes, &device, event, *fault),
             Reply::Booted {
                 table,
                 report,
@@ -86,7 +80,7 @@ impl ReplyNotes {
     }
 
     /// Logs the bytes of an event that was done.
-    fn log_bytes(&mut self, device: &DeviceFile, event: &Event<Vec<u8>>) -> Result<(), AllocError> {
+    fn log_bytes(&mut self, device: &DeviceFile, event: &Event<Vec<u8>>) -> Result {
         match event {
             Event::Accept(text) => match Manifest::read(self.alloc, text, &device.identity) {
                 Ok(manifest) => self.uploads.open(&manifest),
@@ -100,11 +94,11 @@ impl ReplyNotes {
     /// Adds why an event is refused.
     fn explain_fault(
         &mut self,
-        notes: &mut String,
+        notes: &mut NoteList,
         device: &DeviceFile,
         event: &Event<Vec<u8>>,
         fault: Fault,
-    ) -> Result<(), AllocError> {
+    ) -> Result {
         explain_state(notes, device, event, fault)?;
         match (event, fault) {
             (Event::Accept(text), Fault::Manifest(_)) => {

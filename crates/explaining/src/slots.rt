@@ -4,13 +4,13 @@ ghost use Rattle.std.specs.Prelude.{◌≡◌, ◌<◌};
 ghost use Rattle.device_texts.specs.FlashOf.{IsFlashOf, flash_of};
 ghost use Rattle.image_reading.specs.Slot.{slot_bytes};
 
-use diagnostics::explain_image;
-use image_reading::describe;
+use crate::Result;
+use crate::image_notes::explain_bytes;
+use device_texts::NoteList;
 use sector_map::{SectorMap, Side};
-use std::alloc::AllocError;
 
 /// The bytes of a slot on a flash of these bytes. They are empty if the flash has no such slot.
-fn slot_of<'f>(map: &SectorMap, flash: &'f [u8], image: u8, side: Side) -> &'f [u8]
+pub fn slot_of<'f>(map: &SectorMap, flash: &'f [u8], image: u8, side: Side) -> &'f [u8]
     ensures { image < map.now.images → IsFlashOf map.now flash.now
         → result.now ≡ slot_bytes map.now (flash_of map.now flash.now) image side }
 {
@@ -25,38 +25,18 @@ fn slot_of<'f>(map: &SectorMap, flash: &'f [u8], image: u8, side: Side) -> &'f [
     &flash[start..end]
 }
 
-/// Adds why a slot on a flash of these bytes doesn't begin with an intact image: it is erased, or a
-/// check of its bytes fails.
-pub fn explain_slot(
-    notes: &mut String,
-    map: &SectorMap,
-    flash: &[u8],
-    image: u8,
-    side: Side,
-) -> Result<(), AllocError> {
-    explain_content(notes, slot_of(map, flash, image, side), image, side)
-}
-
-/// Adds why a slot with these bytes doesn't begin with an intact image.
-pub fn explain_content(
-    notes: &mut String,
-    slot: &[u8],
-    image: u8,
-    side: Side,
-) -> Result<(), AllocError> {
+/// Adds why a slot with these bytes doesn't begin with an intact image: it is erased, or a check of
+/// its bytes fails.
+pub fn explain_slot(notes: &mut NoteList, slot: &[u8], image: u8, side: Side) -> Result {
+    if slot.is_empty() || slot.iter().any(|byte| *byte != 0xff) {
+        return explain_bytes(notes, slot);
+    }
     let name = match side {
         Side::Primary => "primary",
         Side::Secondary => "secondary",
     };
-    if !slot.is_empty() && slot.iter().all(|byte| *byte == 0xff) {
-        let count = slot.len();
-        return writeln!(
-            notes,
-            "note: the {name} slot of image {image} is erased: its {count} bytes are 0xff"
-        );
-    }
-    match describe(slot) {
-        Ok(_) => Ok(()),
-        Err(fault) => explain_image(notes, slot, fault),
-    }
+    let count = slot.len();
+    notes.add(format_args!(
+        "the {name} slot of image {image} is erased: its {count} bytes are 0xff"
+    ))
 }

@@ -1,9 +1,10 @@
 //! Explains which images are on trial though they were requested permanently.
 
+use crate::Result;
 use certificate::Report;
 use common::limits::MOST_IMAGES;
+use device_texts::NoteList;
 use sector_map::{SectorMap, Side, is_member};
-use std::alloc::AllocError;
 
 /// The distance in bytes of the unit `image_ok` from the end of its trailer's sector. The unit is
 /// set if the request is permanent.
@@ -40,12 +41,7 @@ impl Trials {
 
     /// Notes that a boot gave this report. The images that it took are permanent if `stays` is set,
     /// else on trial. Adds which images are on trial though they were requested permanently.
-    pub fn begin(
-        &mut self,
-        notes: &mut String,
-        report: &Report,
-        stays: bool,
-    ) -> Result<(), AllocError> {
+    pub fn begin(&mut self, notes: &mut NoteList, report: &Report, stays: bool) -> Result {
         self.tried = [false; MOST_IMAGES];
         for (image, reported) in report.images.iter().enumerate() {
             let permanent = self.permanent.get(image).copied().unwrap_or(false);
@@ -53,26 +49,24 @@ impl Trials {
                 if let Some(one) = self.tried.get_mut(image) {
                     *one = true;
                 }
-                writeln!(
-                    notes,
-                    "note: image {image} is requested permanently, and on trial: another image of \
-                     the set is for a test, and the set is tried and reverts as a whole"
-                )?;
+                notes.add(format_args!(
+                    "image {image} is requested permanently, and on trial: another image of the \
+                     set is for a test, and the set is tried and reverts as a whole"
+                ))?;
             }
         }
         Ok(())
     }
 
     /// Notes that the images of a set reverted. Adds which of them were requested permanently.
-    pub fn revert(&mut self, notes: &mut String, set: u8) -> Result<(), AllocError> {
+    pub fn revert(&mut self, notes: &mut NoteList, set: u8) -> Result {
         for image in 0..MOST_IMAGES as u8 {
             let tried = self.tried.get(usize::from(image)).copied().unwrap_or(false);
             if tried && is_member(set, image) {
-                writeln!(
-                    notes,
-                    "note: image {image} was requested permanently, and reverts: the set was on \
-                     trial as a whole"
-                )?;
+                notes.add(format_args!(
+                    "image {image} was requested permanently, and reverts: the set was on trial as \
+                     a whole"
+                ))?;
             }
         }
         self.tried = [false; MOST_IMAGES];

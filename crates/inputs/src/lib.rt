@@ -21,6 +21,7 @@ mod flash_file;
 mod lines;
 mod loading;
 mod notes;
+mod own_need;
 mod resting_table;
 mod sources;
 
@@ -30,6 +31,7 @@ pub use file_flash::FileFlash;
 pub use flash_file::FlashFile;
 pub use lines::Lines;
 pub use loading::{load, read_script};
-pub use notes::{NoNotes, Notes, notes_in};
-pub use resting_table::{Intake, has_state, intake_on, table_on};
+pub use notes::{NoNotes, Notes};
+pub use own_need::OwnNeed;
+pub use resting_table::{Intake, intake_on, table_on};
 pub use sources::Sources;

@@ -2,11 +2,10 @@
 
 use crate::device_input::BadMap;
 use common::event::Event;
-use device_texts::DeviceFile;
+use device_texts::{DeviceFile, NoteList};
 use host::Source;
 use machine::Reply;
 use sector_map::{SectorMap, Side};
-use std::alloc::{AllocError, Global};
 
 /// Explains the answer of a command. The command hands it what it finds in its inputs. Nothing that
 /// the command does depends on it.
@@ -29,9 +28,9 @@ pub trait Notes {
     /// Is called before the first event of a run. `flash` has the bytes of the device's flash.
     fn begin(&mut self, device: &DeviceFile, flash: &[u8]);
 
-    /// Is called after each reply of a run. `number` is that of the event, from 1. Returns the notes
-    /// that the answer is to have, a line each, or `None` if it is to have none.
-    fn tell(&mut self, number: usize, event: &Event<Vec<u8>>, reply: &Reply) -> Option<String>;
+    /// Is called after each reply of a run. `number` is that of the event, from 1. Adds the notes that
+    /// the answer is to have to `told`.
+    fn tell(&mut self, number: usize, event: &Event<Vec<u8>>, reply: &Reply, told: &mut NoteList);
 }
 
 /// Explains nothing.
@@ -51,16 +50,5 @@ impl Notes for NoNotes {
 
     fn begin(&mut self, _: &DeviceFile, _: &[u8]) {}
 
-    fn tell(&mut self, _: usize, _: &Event<Vec<u8>>, _: &Reply) -> Option<String> {
-        None
-    }
-}
-
-/// Returns the notes in a text, without their prefixes. Each is a line.
-pub fn notes_in(alloc: Global, text: &str) -> Result<Vec<&str>, AllocError> {
-    let mut notes = Vec::new(alloc);
-    for line in text.lines() {
-        notes.push(line.strip_prefix("note: ").unwrap_or(line))?;
-    }
-    Ok(notes)
+    fn tell(&mut self, _: usize, _: &Event<Vec<u8>>, _: &Reply, _: &mut NoteList) {}
 }

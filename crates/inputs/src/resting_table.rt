@@ -47,11 +47,3 @@ pub fn intake_on<F: Flash>(flash: &mut F, map: &SectorMap) -> Option<Intake>
         is_on_trial: state.kind == RecordKind::Trial,
     })
 }
-
-/// Returns whether the log of a flash has a state, which means that the flash was provisioned.
-pub fn has_state<F: Flash>(flash: &mut F, map: &SectorMap) -> bool
-    requires { IsLaidOut map.now (F.chip flash.old) }
-    ensures { F.chip flash.new ≡ F.chip flash.old }
-{
-    read_state(flash, map).is_ok()
-}

@@ -1,8 +1,9 @@
 //! What a read-only command finds in its inputs, and the two forms in which it is written.
-ghost use Rattle.std.specs.Prelude.{◌≡◌, IfOk, OnOk, map, string_bytes};
+ghost use Rattle.std.specs.Prelude.{◌≡◌, IfOk, OnOk, string_bytes};
 ghost use Rattle.serde_json.specs.Data.{no_members, string};
 ghost use Rattle.serde_json.specs.View.{members_view, view};
 ghost use Rattle.inspecting.specs.Inspection.{WritesInspection, answer_of, members_of, text_of, written};
+ghost use Rattle.device_texts.specs.Notes.{sentences};
 ghost use Rattle.device_texts.specs.declared.form.Form.TheVariants as form;
 
 use crate::answer::{write_answer, write_text};
@@ -20,7 +21,7 @@ use device_texts::json::{
     Object, code_value, fault_value, map_value, put_notes, put_refused, put_report, put_value,
     value_line,
 };
-use device_texts::{Form, map_refusal_text, refused_fault_text, write_all};
+use device_texts::{Form, NoteList, map_refusal_text, refused_fault_text, write_all};
 use host::{Answer, Refusal};
 use image_reading::Desc;
 use inputs::BadMap;
@@ -161,12 +162,12 @@ impl Inspection {
 pub fn write_inspection<W: Write>(
     alloc: Global,
     form: Form,
-    notes: &[&str],
+    notes: &NoteList,
     found: &Inspection,
     out: &mut W,
 ) -> Result<Answer, Refusal>
     ensures { WritesInspection result (answer_of found.now)
-        (written form (map (λ note. note.now) notes.now) found.now)
+        (written form (sentences notes.now) found.now)
         (W.contents out.old) (W.contents out.new) }
 {
     let answer = found.answer();
@@ -185,9 +186,9 @@ pub fn write_inspection<W: Write>(
 }
 
 /// Makes the line of the object with its notes.
-fn object_line(alloc: Global, notes: &[&str], found: &Inspection) -> Result<String, AllocError>
+fn object_line(alloc: Global, notes: &NoteList, found: &Inspection) -> Result<String, AllocError>
     ensures { IfOk result (λ line. string_bytes line
-        ≡ written form.Json (map (λ note. note.now) notes.now) found.now) }
+        ≡ written form.Json (sentences notes.now) found.now) }
 {
     let mut object = found.members(alloc)?;
     put_notes(alloc, &mut object, notes)?;

@@ -10,7 +10,7 @@ use crate::image::inspect_image;
 use crate::inspection::{Inspection, write_inspection};
 use crate::manifest_file::inspect_manifest;
 use command_line::ReadOrder;
-use device_texts::Form;
+use device_texts::{Form, NoteList};
 use host::{Answer, Host, Refusal, Source};
 use std::alloc::Global;
 use std::io::Write;
@@ -30,7 +30,7 @@ pub fn run_inspection<H: Host, O: Write>(
         (H.input host.old) (H.file host.old) (O.contents out.old) (O.contents out.new)) }
 {
     let found = inspect(alloc, order, host)?;
-    write_inspection(alloc, Form::Text, &[], &found, out)
+    write_inspection(alloc, Form::Text, &NoteList::new(alloc), &found, out)
 }
 
 /// Returns what the command of an order finds. Its inputs are read from `host` into memory of

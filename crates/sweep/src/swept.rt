@@ -1,15 +1,16 @@
 //! The result of a sweep, and the two forms in which it is written.
-ghost use Rattle.std.specs.Prelude.{◌≡◌, IfOk, OnOk, map, string_bytes};
+ghost use Rattle.std.specs.Prelude.{◌≡◌, IfOk, OnOk, string_bytes};
 ghost use Rattle.serde_json.specs.Data.{no_members};
 ghost use Rattle.serde_json.specs.View.{members_view};
 ghost use Rattle.sweep.specs.Swept.{is_good, members_of, text_of, written};
+ghost use Rattle.device_texts.specs.Notes.{sentences};
 ghost use Rattle.device_texts.specs.declared.form.Form.TheVariants as form;
 
 use crate::found::Found;
 use crate::json::put_found;
 use crate::text::found_text;
 use device_texts::json::{Object, fault_value, map_value, put_notes, put_refused, value_line};
-use device_texts::{Form, map_refusal_text, refused_fault_text};
+use device_texts::{Form, NoteList, map_refusal_text, refused_fault_text};
 use machine::Fault;
 use sector_map::MapError;
 use serde_json::{Map, Value};
@@ -71,9 +72,9 @@ impl Swept {
     ///
     /// # Errors
     /// `AllocError` if memory is refused.
-    pub fn written(&self, alloc: Global, form: Form, notes: &[&str]) -> Result<String, AllocError>
+    pub fn written(&self, alloc: Global, form: Form, notes: &NoteList) -> Result<String, AllocError>
         ensures { IfOk result (λ text. string_bytes text
-            ≡ written form (map (λ note. note.now) notes.now) self.now) }
+            ≡ written form (sentences notes.now) self.now) }
     {
         match form {
             Form::Text => self.text(alloc),
@@ -82,9 +83,9 @@ impl Swept {
     }
 
     /// Makes the line of the object with its notes.
-    fn line(&self, alloc: Global, notes: &[&str]) -> Result<String, AllocError>
+    fn line(&self, alloc: Global, notes: &NoteList) -> Result<String, AllocError>
         ensures { IfOk result (λ line. string_bytes line
-            ≡ written form.Json (map (λ note. note.now) notes.now) self.now) }
+            ≡ written form.Json (sentences notes.now) self.now) }
     {
         let mut object = Map::new(alloc);
         self.put_members(alloc, &mut object)?;

@@ -1,9 +1,10 @@
 //! Makes the lines of a device's replies, as texts or as JSON.
-ghost use Rattle.std.specs.Prelude.{◌≡◌, IfOk, OnOk, false, map, string_bytes};
+ghost use Rattle.std.specs.Prelude.{◌≡◌, IfOk, OnOk, false, string_bytes};
 ghost use Rattle.serde_json.specs.Data.{no_members};
 ghost use Rattle.serde_json.specs.View.{members_view};
 ghost use Rattle.serde_json.specs.Written.{members_have_float};
 ghost use Rattle.device_texts.specs.Json.{json_line};
+ghost use Rattle.device_texts.specs.Notes.{sentences};
 ghost use Rattle.device_texts.specs.declared.form.Form.TheVariants as form;
 ghost use Rattle.device_texts.specs.ReplyJson.{event_json, last_notes, map_refusal_line, note_line, reply_line};
 ghost use Rattle.device_texts.specs.ReplyJson.{reply_members, with_set, with_word};
@@ -13,6 +14,7 @@ use crate::json::{
     Object, fault_value, map_value, put_notes, put_number, put_refused, put_report, put_text,
     put_values, set_numbers, value_line,
 };
+use crate::notes::NoteList;
 use crate::refusals::map_refusal_text;
 use crate::replies::{decision_text, reply_text};
 use machine::Reply;
@@ -57,10 +59,10 @@ pub fn note_line(
     alloc: Global,
     form: Form,
     number: usize,
-    notes: &[&str],
+    notes: &NoteList,
 ) -> Result<String, AllocError>
     ensures { IfOk result (λ line. string_bytes line
-        ≡ note_line form number (map (λ note. note.now) notes.now)) }
+        ≡ note_line form number (sentences notes.now)) }
 {
     match form {
         Form::Text => Ok(String::new(alloc)),
@@ -69,9 +71,9 @@ pub fn note_line(
 }
 
 /// Makes the object of the notes on a reply. It is empty if there are none.
-fn event_notes(alloc: Global, number: usize, notes: &[&str]) -> Result<String, AllocError>
+fn event_notes(alloc: Global, number: usize, notes: &NoteList) -> Result<String, AllocError>
     ensures { IfOk result (λ line. string_bytes line
-        ≡ note_line form.Json number (map (λ note. note.now) notes.now)) }
+        ≡ note_line form.Json number (sentences notes.now)) }
 {
     if notes.is_empty() {
         return Ok(String::new(alloc));
@@ -85,9 +87,9 @@ fn event_notes(alloc: Global, number: usize, notes: &[&str]) -> Result<String, A
 ///
 /// # Errors
 /// `AllocError` if memory is refused.
-pub fn last_notes(alloc: Global, notes: &[&str]) -> Result<String, AllocError>
+pub fn last_notes(alloc: Global, notes: &NoteList) -> Result<String, AllocError>
     ensures { IfOk result (λ line. string_bytes line
-        ≡ last_notes (map (λ note. note.now) notes.now)) }
+        ≡ last_notes (sentences notes.now)) }
 {
     if notes.is_empty() {
         return Ok(String::new(alloc));

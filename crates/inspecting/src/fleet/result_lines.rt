@@ -1,10 +1,11 @@
 //! Writes devices with their results, as texts or as JSON, and the notes on them.
 
-ghost use Rattle.std.specs.Prelude.{◌≡◌, ℕ, IfOk, List, OnOk, map, string_bytes};
+ghost use Rattle.std.specs.Prelude.{◌≡◌, ℕ, IfOk, List, OnOk, string_bytes};
 ghost use Rattle.std.specs.Io.KnownBytes.{Appends, Keeps};
 ghost use Rattle.serde_json.specs.Data.{no_members};
 ghost use Rattle.serde_json.specs.View.{members_view};
 ghost use Rattle.device_texts.specs.Json.{json_line};
+ghost use Rattle.device_texts.specs.Notes.{sentences};
 ghost use Rattle.inspecting.specs.PlanJson.{outcome_members, result_json, result_lines, result_text};
 
 use crate::fleet::outcome::Outcome;
@@ -12,9 +13,8 @@ use crate::fleet::plan_notes::PlanNotes;
 use device_texts::json::{
     Object, put_notes, put_number, put_report, put_text, put_value, value_line,
 };
-use device_texts::{Form, write_all};
+use device_texts::{Form, NoteList, write_all};
 use host::Refusal;
-use inputs::notes_in;
 use serde_json::{Map, Value};
 use std::alloc::{AllocError, Global};
 use std::io::Write;
@@ -60,8 +60,9 @@ fn write_text<W: Write, N: PlanNotes>(
     let Ok(()) = write_all(out, text.as_bytes()) else {
         return Err(Refusal::CannotWrite);
     };
-    let explained = notes.explain(name, outcome);
-    pass_notes(explained, notes, out);
+    let mut told = NoteList::new(alloc);
+    notes.explain(name, outcome, &mut told);
+    pass_notes(&told, notes, out);
     Ok(())
 }
 
@@ -77,10 +78,18 @@ fn write_object<W: Write, N: PlanNotes>(
         × Appends (W.contents out.old) (W.contents out.new)
         (json_line (result_json name.now outcome.now texts))) }
 {
-    let explained = notes.explain(name, outcome);
-    let Ok(line) = noted_line(alloc, name, outcome, explained) else {
+    let mut told = NoteList::new(alloc);
+    notes.explain(name, outcome, &mut told);
+    let Ok(line) = object_line(alloc, name, outcome, &told) else {
         return Err(Refusal::NoMemory);
     };
+    write_line(&line, out)
+}
+
+/// Writes a line.
+pub fn write_line<W: Write>(line: &str, out: &mut W) -> Result<(), Refusal>
+    ensures { OnOk result (Appends (W.contents out.old) (W.contents out.new) line.now) }
+{
     let Ok(()) = write_all(out, line.as_bytes()) else {
         return Err(Refusal::CannotWrite);
     };
@@ -88,14 +97,11 @@ fn write_object<W: Write, N: PlanNotes>(
 }
 
 /// Passes notes back, if there are any, after the text so far. Without the text there are none.
-pub fn pass_notes<W: Write, N: PlanNotes>(explained: Option<String>, notes: &mut N, out: &mut W)
+pub fn pass_notes<W: Write, N: PlanNotes>(told: &NoteList, notes: &mut N, out: &mut W)
     ensures { Keeps (W.contents out.old) (W.contents out.new) }
 {
-    let Some(explained) = explained else {
-        return;
-    };
-    if !explained.is_empty() && out.flush().is_ok() {
-        notes.write(&explained);
+    if !told.is_empty() && out.flush().is_ok() {
+        notes.write(told);
     }
 }
 
@@ -106,34 +112,16 @@ fn result_text(alloc: Global, name: &str, outcome: &Outcome) -> Result<String, A
     format!(in alloc; "device {name}\n{outcome}")
 }
 
-/// Makes the line of the object of a device of this name with its result and the notes on it, a line
-/// each, in memory of `alloc`.
-fn noted_line(
-    alloc: Global,
-    name: &str,
-    outcome: &Outcome,
-    explained: Option<String>,
-) -> Result<String, AllocError>
-    ensures { IfOk result (λ line. (texts : List (List ℕ))
-        × (string_bytes line ≡ json_line (result_json name.now outcome.now texts))) }
-{
-    let Some(explained) = explained else {
-        return object_line(alloc, name, outcome, &[]);
-    };
-    let notes = notes_in(alloc, &explained)?;
-    object_line(alloc, name, outcome, &notes)
-}
-
 /// Makes the line of the object of a device of this name with its result and these notes in memory
 /// of `alloc`.
 fn object_line(
     alloc: Global,
     name: &str,
     outcome: &Outcome,
-    notes: &[&str],
+    notes: &NoteList,
 ) -> Result<String, AllocError>
     ensures { IfOk result (λ line. string_bytes line
-        ≡ json_line (result_json name.now outcome.now (map (λ note. note.now) notes.now))) }
+        ≡ json_line (result_json name.now outcome.now (sentences notes.now))) }
 {
     let mut object = Map::new(alloc);
     put_outcome(alloc, &mut object, outcome)?;

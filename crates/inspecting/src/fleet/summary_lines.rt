@@ -1,18 +1,18 @@
 //! Writes the rows of a summary, as a text or as JSON, and the notes on them.
 
-ghost use Rattle.std.specs.Prelude.{ℕ, IfOk, List, OnOk, map, string_bytes};
+ghost use Rattle.std.specs.Prelude.{IfOk, OnOk, string_bytes};
 ghost use Rattle.std.specs.Io.KnownBytes.{Appends};
+ghost use Rattle.device_texts.specs.Notes.{sentences};
 ghost use Rattle.device_texts.specs.declared.form.Form.TheVariants as form;
 ghost use Rattle.inspecting.specs.SummaryLines.{IsSummaryLine, WritesRows};
 
 use crate::fleet::plan_notes::PlanNotes;
-use crate::fleet::result_lines::pass_notes;
+use crate::fleet::result_lines::{pass_notes, write_line};
 use crate::fleet::row_json::row_values;
 use crate::fleet::rows::{Rows, rows_text};
 use device_texts::json::{put_notes, put_values, value_line};
-use device_texts::{Form, write_all};
+use device_texts::{Form, NoteList, write_all};
 use host::Refusal;
-use inputs::notes_in;
 use serde_json::{Map, Value};
 use std::alloc::{AllocError, Global};
 use std::io::Write;
@@ -51,11 +51,12 @@ fn write_text<W: Write, N: PlanNotes>(
     let Ok(text) = rows_text(alloc, rows) else {
         return Err(Refusal::NoMemory);
     };
-    write_explained(&text, rows, notes, out)
+    write_explained(alloc, &text, rows, notes, out)
 }
 
 /// Writes this text of rows, and has the notes on them written after it.
 fn write_explained<W: Write, N: PlanNotes>(
+    alloc: Global,
     text: &[u8],
     rows: &Rows,
     notes: &mut N,
@@ -66,8 +67,9 @@ fn write_explained<W: Write, N: PlanNotes>(
     let Ok(()) = write_all(out, text) else {
         return Err(Refusal::CannotWrite);
     };
-    let explained = notes.explain_rows(rows);
-    pass_notes(explained, notes, out);
+    let mut told = NoteList::new(alloc);
+    notes.explain_rows(rows, &mut told);
+    pass_notes(&told, notes, out);
     Ok(())
 }
 
@@ -81,39 +83,18 @@ fn write_object<W: Write, N: PlanNotes>(
     ensures { OnOk result (WritesRows form.Json rows.now
         (W.contents out.old) (W.contents out.new)) }
 {
-    let explained = notes.explain_rows(rows);
-    let Ok(line) = noted_line(alloc, rows, explained) else {
+    let mut told = NoteList::new(alloc);
+    notes.explain_rows(rows, &mut told);
+    let Ok(line) = object_line(alloc, rows, &told) else {
         return Err(Refusal::NoMemory);
     };
     write_line(&line, out)
 }
 
-/// Writes a line.
-fn write_line<W: Write>(line: &str, out: &mut W) -> Result<(), Refusal>
-    ensures { OnOk result (Appends (W.contents out.old) (W.contents out.new) line.now) }
-{
-    let Ok(()) = write_all(out, line.as_bytes()) else {
-        return Err(Refusal::CannotWrite);
-    };
-    Ok(())
-}
-
-/// Makes the line of the object of rows and the notes on them, a line each, in memory of `alloc`.
-fn noted_line(alloc: Global, rows: &Rows, explained: Option<String>) -> Result<String, AllocError>
-    ensures { IfOk result (λ line. (texts : List (List ℕ))
-        × IsSummaryLine texts rows.now (string_bytes line)) }
-{
-    let Some(explained) = explained else {
-        return object_line(alloc, rows, &[]);
-    };
-    let notes = notes_in(alloc, &explained)?;
-    object_line(alloc, rows, &notes)
-}
-
 /// Makes the line of the object of rows and these notes in memory of `alloc`.
-fn object_line(alloc: Global, rows: &Rows, notes: &[&str]) -> Result<String, AllocError>
+fn object_line(alloc: Global, rows: &Rows, notes: &NoteList) -> Result<String, AllocError>
     ensures { IfOk result (λ line.
-        IsSummaryLine (map (λ note. note.now) notes.now) rows.now (string_bytes line)) }
+        IsSummaryLine (sentences notes.now) rows.now (string_bytes line)) }
 {
     let mut object = Map::new(alloc);
     let values = row_values(alloc, rows)?;

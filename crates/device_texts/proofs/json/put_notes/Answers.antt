@@ -1,7 +1,9 @@
-use Rattle.std.proofs.Common.{sym}
+use Rattle.std.proofs.Common.{string_bytes, sym}
 use Rattle.device_texts.proofs.JsonLaws.{notes-mapped}
 use Rattle.device_texts.proofs.json.put_notes.Goals as goal
 
 -- The member has the texts of the notes.
 pub returns : goal.returns
-returns c = rw (sym (notes-mapped c.args.notes.now)) c.put_each.ensures
+returns c =
+    let member = rw c.as_slice.ensures.value at c.put_each.ensures in
+    rw (sym (notes-mapped string_bytes c.args.notes.now.sentences.items)) member

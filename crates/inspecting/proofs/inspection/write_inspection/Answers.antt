@@ -1,5 +1,6 @@
-use Rattle.std.proofs.Common.{map, string_bytes}
+use Rattle.std.proofs.Common.{string_bytes}
 use Rattle.inspecting.specs.Inspection.{answer_of, text_of, written}
+use Rattle.device_texts.specs.Notes.{sentences}
 use Rattle.device_texts.specs.declared.form.Form.TheVariants as form
 use Rattle.inspecting.proofs.InspectionLaws.{written-made}
 use Rattle.inspecting.proofs.inspection.write_inspection.Goals as goal
@@ -10,7 +11,7 @@ returns-in-Json g c =
     let found = c.args.found.now in
     rw c.in-Json.is
     (written-made c.object_line.result (λ text. string_bytes text) c.answer-answer.result (answer_of found)
-    (written form.Json (map (λ note. note.now) c.args.notes.now) found) c.write_answer-in-Json.result _ _
+    (written form.Json (sentences c.args.notes.now) found) c.write_answer-in-Json.result _ _
     c.answer-answer.ensures c.object_line.ensures
     c.write_answer-in-Json.ensures.no_text c.write_answer-in-Json.ensures.text)
 

@@ -1,10 +1,11 @@
-use Rattle.std.proofs.Common.{◌≡◌, ◌∙◌, ap, codes, map, string_bytes}
+use Rattle.std.proofs.Common.{◌≡◌, ◌∙◌, ap, codes, string_bytes}
 use Rattle.std.proofs.lemmas.Result.{IfOk-weaker}
 use Rattle.serde_json.proofs.Views.{view-Object}
 use Rattle.serde_json.specs.Data.{object, string}
 use Rattle.serde_json.specs.View.{view}
 use Rattle.serde_json.specs.declared.value.Value.{Object}
 use Rattle.device_texts.specs.Json.{json_line, with_member, with_notes}
+use Rattle.device_texts.specs.Notes.{sentences}
 use Rattle.inspecting.specs.PlanJson.{result_json}
 use Rattle.inspecting.proofs.JsonWholeLaws.{result-whole}
 use Rattle.inspecting.proofs.fleet.result_lines.object_line.Goals as goal
@@ -14,7 +15,7 @@ pub returns : goal.returns
 returns c =
     let name = c.args.name.now in
     let outcome = c.args.outcome.now in
-    let notes = map (λ note. note.now) c.args.notes.now in
+    let notes = sentences c.args.notes.now in
     let same : view (Object c.put_notes.new.object) ≡ result_json name outcome notes =
     view-Object c.put_notes.new.object
     ∙ ap object (c.in_ok-put_notes.ensures

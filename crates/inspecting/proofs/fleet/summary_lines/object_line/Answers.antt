@@ -1,9 +1,10 @@
-use Rattle.std.proofs.Common.{◌≡◌, ◌∙◌, ap, map, refl, rules}
+use Rattle.std.proofs.Common.{◌≡◌, ◌∙◌, ap, refl, rules}
 use Rattle.serde_json.proofs.Views.{view-Object}
 use Rattle.serde_json.specs.Data.{no_members, object}
 use Rattle.serde_json.specs.View.{members_view, view}
 use Rattle.serde_json.specs.declared.value.Value.{Object}
 use Rattle.device_texts.specs.Json.{with_notes}
+use Rattle.device_texts.specs.Notes.{sentences}
 use Rattle.inspecting.specs.SummaryJson.{summary_json}
 use Rattle.inspecting.proofs.JsonWholeLaws.{summary-whole}
 use Rattle.inspecting.proofs.ResultLaws.{IfOk-then}
@@ -13,7 +14,7 @@ use Rattle.inspecting.proofs.fleet.summary_lines.object_line.Goals as goal
 pub returns : goal.returns
 returns c =
     let made = c.in_ok-values.ensures in
-    let notes = map (λ note. note.now) c.args.notes.now in
+    let notes = sentences c.args.notes.now in
     let empty : members_view c.new-object.result.entries ≡ no_members = search rules in
     let same : view (Object c.put_notes.new.object) ≡ summary_json made.0 notes =
     view-Object c.put_notes.new.object

@@ -6,5 +6,5 @@ pub returns : goal.returns
 returns g c =
     let made = c.in-Ok.ensures in
     OnOk-then c.write_line.result
-    (λ written. record { rows = made.1.rows; are = made.1.are; notes = made.0; written = rw (c.deref.ensures, made.1.is) at written })
+    (λ written. record { rows = made.rows; are = made.are; notes = _; written = rw (c.deref.ensures, made.is) at written })
     c.write_line.ensures

@@ -1,10 +1,11 @@
-use Rattle.std.proofs.Common.{◌≡◌, ◌∙◌, ap, map, string_bytes}
+use Rattle.std.proofs.Common.{◌≡◌, ◌∙◌, ap, string_bytes}
 use Rattle.std.proofs.lemmas.Result.{IfOk-weaker}
 use Rattle.serde_json.proofs.Views.{view-Object}
 use Rattle.serde_json.specs.Data.{object}
 use Rattle.serde_json.specs.View.{view}
 use Rattle.serde_json.specs.declared.value.Value.{Object}
 use Rattle.device_texts.specs.Json.{with_notes}
+use Rattle.device_texts.specs.Notes.{sentences}
 use Rattle.device_texts.specs.declared.form.Form.TheVariants as form
 use Rattle.sweep.specs.Swept.{members_of, written}
 use Rattle.sweep.proofs.SweptLaws.{noted-whole}
@@ -14,7 +15,7 @@ use Rattle.sweep.proofs.swept.Swept.line.Goals as goal
 pub returns : goal.returns
 returns c =
     let swept = c.args.self.now in
-    let notes = map (λ note. note.now) c.args.notes.now in
+    let notes = sentences c.args.notes.now in
     let same : view (Object c.put_notes.new.object) ≡ object (with_notes notes (members_of swept)) =
     view-Object c.put_notes.new.object
     ∙ ap object (c.in_ok-put_notes.ensures ∙ ap (with_notes notes) c.in_ok-put_members.ensures) in

@@ -56,14 +56,19 @@ impl Area {
         Some(self.place.saturating_add(usize::from(length)))
     }
 
-    /// The entry of index `wanted`, from 0, among those that are sought.
-    pub fn find(self, bytes: &[u8], sought: Sought, wanted: usize) -> Option<EntryAt<'_>> {
+    /// The entry of index `wanted`, from 0, among those of this type. Without a type, among the
+    /// dependencies and groups that don't consist of complete pairs of an image and a version.
+    pub fn find(self, bytes: &[u8], kind: Option<u16>, wanted: usize) -> Option<EntryAt<'_>> {
         let end = self.end(bytes)?;
         let mut place = self.start();
         let mut count: usize = 0;
         for _ in 0..bytes.len() {
             let entry = entry_at(bytes, place, end)?;
-            if sought.is(&entry) {
+            let is_sought = match kind {
+                Some(kind) => entry.kind == kind,
+                None => entry.is_bad_need(),
+            };
+            if is_sought {
                 if count == wanted {
                     return Some(entry);
                 }
@@ -128,24 +133,6 @@ fn has_zeros(value: &[u8]) -> bool {
         }
     }
     true
-}
-
-/// The entries of an area to seek.
-#[derive(Clone, Copy)]
-pub enum Sought {
-    /// The entries of a type.
-    Kind(u16),
-    /// Dependencies and groups that don't consist of complete pairs of an image and a version.
-    BadNeed,
-}
-
-impl Sought {
-    fn is(self, entry: &EntryAt<'_>) -> bool {
-        match self {
-            Sought::Kind(kind) => entry.kind == kind,
-            Sought::BadNeed => entry.is_bad_need(),
-        }
-    }
 }
 
 /// The entry at an index. `None` if it doesn't end at or before `end`.

@@ -1,4 +1,4 @@
-//! Prints bytes from outside safely in one line.
+//! Prints bytes and numbers in notes.
 
 use std::fmt;
 
@@ -43,4 +43,35 @@ fn write_bytes<W: fmt::Write>(f: &mut fmt::Formatter<W>, bytes: &[u8]) -> fmt::R
         }
     }
     Ok(())
+}
+
+/// Bytes as hexadecimal digits in lower case.
+#[derive(Clone, Copy)]
+pub struct Digits<'a>(pub &'a [u8]);
+
+impl fmt::Display for Digits<'_> {
+    fn fmt<W: fmt::Write>(&self, f: &mut fmt::Formatter<W>) -> fmt::Result {
+        for byte in self.0 {
+            write!(f, "{byte:02x}")?;
+        }
+        Ok(())
+    }
+}
+
+/// The images of a device or of a table, by their count: `image 0`, `images 0 and 1`, `images 0 to 7`.
+#[derive(Clone, Copy)]
+pub struct Images(pub usize);
+
+impl fmt::Display for Images {
+    fn fmt<W: fmt::Write>(&self, f: &mut fmt::Formatter<W>) -> fmt::Result {
+        match self.0 {
+            0 => f.write_str("no image"),
+            1 => f.write_str("image 0"),
+            2 => f.write_str("images 0 and 1"),
+            count => {
+                let last = count.saturating_sub(1);
+                write!(f, "images 0 to {last}")
+            }
+        }
+    }
 }
