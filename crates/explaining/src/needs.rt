@@ -10,7 +10,7 @@ use version_order::{Dependency, Group, Version};
 
 /// A version for each image of a device, or `None` if the device has no such image.
 #[derive(Clone, Copy, Default)]
-pub struct Versions {
+struct Versions {
     versions: [Option<Version>; MOST_IMAGES],
     /// Whether they are the best that are still possible, and not those of a set.
     are_best: bool,
@@ -30,7 +30,7 @@ impl Versions {
     /// The best versions that may run together with the request of image `own`, after the refusals
     /// `before`. Image `own` has its requested version. An image whose request is refused has the
     /// running version. Any other image has the newer of the requested and the running version.
-    pub fn at_best(table: &Table, before: &[Refusal], own: u8) -> Versions {
+    fn at_best(table: &Table, before: &[Refusal], own: u8) -> Versions {
         let mut versions = Versions::default();
         versions.are_best = true;
         for (number, image) in table.images.iter().enumerate() {
@@ -55,17 +55,17 @@ impl Versions {
     }
 
     /// The version of this image.
-    pub fn of(&self, image: u8) -> Option<Version> {
+    fn of(&self, image: u8) -> Option<Version> {
         *self.versions.get(usize::from(image))?
     }
 
     /// Whether these versions meet a dependency.
-    pub fn meet(&self, need: &Dependency) -> bool {
+    fn meet(&self, need: &Dependency) -> bool {
         matches!(self.of(need.image), Some(version) if version >= need.minimum)
     }
 
     /// Whether these versions meet at least one alternative of a group.
-    pub fn meet_one(&self, group: &Group) -> bool {
+    fn meet_one(&self, group: &Group) -> bool {
         group.alternatives.iter().any(|need| self.meet(need))
     }
 }

@@ -1,41 +1,28 @@
 //! Explains why a report isn't right for a table.
 
 use crate::Result;
-use crate::needs::{Versions, explain_set, is_taken, times_refused, version_in};
+use crate::needs::{explain_set, is_taken, times_refused, version_in};
 use crate::texts::Images;
-use certificate::{Entry, Image, Reason, Refusal, Report, Request, Table};
+use certificate::{Flaw, Image, Report, Request, Table, first_flaw};
 use device_texts::NoteList;
-use version_order::Dependency;
 
-/// Adds the first thing that makes a report wrong for a table: the number of its images, a version,
-/// a request that isn't decided exactly once, a set that isn't valid, or a reason that doesn't
-/// hold. Lines of the report are numbered from 1.
+/// Adds why a report is wrong for a table: the first condition of a right report that doesn't hold, as
+/// the checker finds it. Lines of the report are numbered from 1.
 pub fn explain_no(notes: &mut NoteList, table: &Table, report: &Report) -> Result {
-    explain_count(notes, table, report)?;
-    if notes.is_empty() {
-        explain_versions(notes, table, report)?;
+    match first_flaw(table, report) {
+        None => Ok(()),
+        Some(Flaw::Images) => explain_count(notes, table, report),
+        Some(Flaw::Version { .. }) => explain_versions(notes, table, report),
+        Some(Flaw::Request { .. }) => explain_requests(notes, table, report),
+        Some(Flaw::Member { .. }) => explain_members(notes, table, report),
+        Some(Flaw::Dependencies { .. }) => explain_set(notes, table, report),
+        Some(Flaw::Reason { refusal }) => explain_reason(notes, report, refusal),
     }
-    if notes.is_empty() {
-        explain_requests(notes, table, report)?;
-    }
-    if notes.is_empty() {
-        explain_members(notes, table, report)?;
-    }
-    if notes.is_empty() {
-        explain_set(notes, table, report)?;
-    }
-    if notes.is_empty() {
-        explain_reasons(notes, table, report)?;
-    }
-    Ok(())
 }
 
-/// Adds that the table and the report have different numbers of images, if they have.
+/// Adds that the table and the report have different numbers of images.
 fn explain_count(notes: &mut NoteList, table: &Table, report: &Report) -> Result {
     let (here, there) = (table.images.len(), report.images.len());
-    if here == there {
-        return Ok(());
-    }
     notes.add(format_args!("the report tells of {there} images, and the table of {here}"))
 }
 
@@ -136,65 +123,15 @@ fn explain_member(notes: &mut NoteList, number: usize, image: &Image) -> Result 
     }
 }
 
-/// Adds the first reason that doesn't hold after the refusals before it.
-fn explain_reasons(notes: &mut NoteList, table: &Table, report: &Report) -> Result {
-    let refusals = report.refusals.as_slice();
-    for (place, refusal) in refusals.iter().enumerate() {
-        let before = refusals.get(..place).unwrap_or_default();
-        if !holds(table, before, refusal) {
-            let line = line_of(report, place);
-            let (image, reason) = (refusal.image, &refusal.reason);
-            return notes.add(format_args!(
-                "report line {line}: `{reason}` is no reason to refuse image {image} after the lines before"
-            ));
-        }
-    }
-    Ok(())
-}
-
-/// Whether the reason of a refusal holds after the refusals `before`.
-fn holds(table: &Table, before: &[Refusal], refusal: &Refusal) -> bool {
-    let Some(image) = table.images.get(usize::from(refusal.image)) else {
-        return false;
+/// Adds that a reason doesn't hold after the refusals before it: that of the refusal at this place of
+/// the report's list, from 0.
+fn explain_reason(notes: &mut NoteList, report: &Report, place: usize) -> Result {
+    let Some(refusal) = report.refusals.get(place) else {
+        return Ok(());
     };
-    match &image.request {
-        Request::None => false,
-        Request::Damaged => refusal.reason == Reason::Damaged,
-        Request::Entry(entry) => holds_of(table, before, refusal, image, entry),
-    }
-}
-
-/// Whether a reason to refuse an intact request holds after the refusals `before`.
-fn holds_of(
-    table: &Table,
-    before: &[Refusal],
-    refusal: &Refusal,
-    image: &Image,
-    entry: &Entry,
-) -> bool {
-    let best = Versions::at_best(table, before, refusal.image);
-    match &refusal.reason {
-        Reason::Damaged => false,
-        Reason::Older => entry.version < image.running.version,
-        Reason::Counter => entry.counter < image.floor,
-        Reason::NoSuchImage(number) => best.of(*number).is_none() && depends_on(entry, *number),
-        Reason::Needs(number, minimum) => {
-            let need = Dependency {
-                image: *number,
-                minimum: *minimum,
-            };
-            entry.dependencies.contains(&need) && best.of(*number).is_some() && !best.meet(&need)
-        }
-        Reason::NeedsOne(group) => entry.groups.contains(group) && !best.meet_one(group),
-    }
-}
-
-/// Whether an entry depends on an image, in any version.
-fn depends_on(entry: &Entry, number: u8) -> bool {
-    for need in entry.dependencies.iter() {
-        if need.image == number {
-            return true;
-        }
-    }
-    false
+    let line = line_of(report, place);
+    let (image, reason) = (refusal.image, &refusal.reason);
+    notes.add(format_args!(
+        "report line {line}: `{reason}` is no reason to refuse image {image} after the lines before"
+    ))
 }
