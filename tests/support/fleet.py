@@ -7,7 +7,7 @@ import sys
 from typing import NamedTuple
 
 from support.files import EXAMPLES
-from test_choose import BAD_LINES, BAD_TABLES
+from commands.test_choose import BAD_LINES, BAD_TABLES
 from test_random_tables import (
     greatest_set, images_of, is_valid, report_text, standard_refusals, table_at_random, table_text, version_text
 )
