@@ -1,20 +1,20 @@
-"""What sweep_parts.py prints, also after an interrupt."""
+"""What examples/fleet/sweep_parts.py prints, also after an interrupt."""
 
 import contextlib
 import os
 import pty
-import re
 import signal
 import subprocess
 import sys
 
 from support.dask import LIMIT, DaskTest
 from support.files import EXAMPLES, ONE, PAIR, ROOT, read
-from support.fleet import FLEET
-from support.program import short
+from support.fleet import FLEET, write_script
+from support.printed import error
 
-SWEEP_PARTS = f"{FLEET}/sweep_parts.py"
+SWEEP_PARTS = [sys.executable, "-B", f"{FLEET}/sweep_parts.py"]
 FILES = [PAIR, f"{EXAMPLES}/scripts/reverted.txt", ONE, ONE]
+PICTURE = read(f"{ROOT}/docs/sweep.svg")
 
 
 def is_running(number):
@@ -25,70 +25,80 @@ def is_running(number):
         return False
 
 
-class PartedSweepTest(DaskTest):
-    """Sweeps that a program parts among workers."""
-
+class SweepPartsTest(DaskTest):
     runs_once = True
+
+    def setUp(self):
+        super().setUp()
+        self.file("boot", b"boot\n")
+        self.files = [PAIR, "boot", ONE, ONE]
 
     def swept(self, *arguments):
         """Runs sweep_parts.py, and returns its status and what it prints."""
-        words = [sys.executable, "-B", SWEEP_PARTS, *arguments, "--program", self.program]
-        done = subprocess.run(words, stdin=subprocess.DEVNULL, capture_output=True, cwd=self.folder, timeout=LIMIT)
+        if not any(it.startswith("--program=") for it in arguments):
+            arguments = [*arguments, f"--program={self.program}"]
+        streams = {"stdin": subprocess.DEVNULL, "capture_output": True, "timeout": LIMIT}
+        done = subprocess.run([*SWEEP_PARTS, *arguments], cwd=self.folder, **streams)
         return done.returncode, done.stdout, done.stderr
 
-    def test_processes(self):
-        """Parts by several processes add up to the sweep of one, with its picture."""
+    def start(self, *arguments, **streams):
+        """Starts sweep_parts.py, which ends with the test."""
+        ran = subprocess.Popen([*SWEEP_PARTS, *arguments], cwd=self.folder, **streams)
+        self.addCleanup(ran.wait)
+        self.addCleanup(ran.kill)
+        return ran
+
+    def at_terminal(self, *arguments):
+        """Starts it with a terminal as standard error, and returns the process and the other end of the terminal."""
+        ours, theirs = pty.openpty()
+        self.addCleanup(os.close, ours)
+        ran = self.start(*arguments, stdout=subprocess.PIPE, stderr=theirs)
+        os.close(theirs)
+        return ran, ours
+
+    def test_parts_add_up_to_the_sweep_of_one_process(self):
         # Second cuts of the complete script would take too long.
         self.file("upgrade.txt", b"".join(read(FILES[1]).splitlines(True)[:7]))
         for options in ([], ["--twice"], ["--sample=40", "--seed=3"]):
-            files = [PAIR, "upgrade.txt", ONE, ONE] if "--twice" in options else FILES
-            whole = self.run_program(["sweep", "--svg=whole.svg", *options, *files])
-            got = self.swept(*files, *options, "--processes=2", "--parts=5", "--svg=parts.svg")
-            is_same = read(f"{self.folder}/whole.svg") == read(f"{self.folder}/parts.svg")
-            self.case(f"sweep_parts.py {' '.join(options)}", [] if got == whole and is_same else [short(got)])
+            with self.subTest(f"{options}"):
+                files = [PAIR, "upgrade.txt", ONE, ONE] if "--twice" in options else FILES
+                whole = self.run_program(["sweep", "--svg=whole.svg", *options, *files])
+                self.assertEqual(whole, self.swept(*files, *options, "--processes=2", "--parts=5", "--svg=parts.svg"))
+                self.assertEqual(read(f"{self.folder}/whole.svg"), read(f"{self.folder}/parts.svg"))
 
-    def test_fault(self):
-        """An input that is wrong ends with the program's error, and no output."""
-        got, wanted = self.swept(PAIR, "none", ONE, ONE), (1, b"", b"error: cannot read none\n")
-        self.case("sweep_parts.py: a wrong input", [] if got == wanted else [short(got)])
+    def test_faults(self):
+        self.assertEqual(error("cannot read none"), self.swept(PAIR, "none", ONE, ONE))
         status, out, err = self.swept(*FILES, "--parts=0")
-        is_good = (status, out) == (2, b"") and b"--parts: invalid positive value: '0'\n" in err
-        self.case("sweep_parts.py: no parts", [] if is_good else [short((status, out, err))])
+        self.assertEqual((2, b""), (status, out))
+        self.assertIn(b"--parts: invalid positive value: '0'\n", err)
 
-    def test_picture(self):
-        """A picture never replaces an input. If it can't be written, the output is printed nevertheless."""
+    def test_picture_that_is_not_made(self):
+        """It is refused before a program runs, and no input and no other file is replaced."""
         self.file("device.json", read(PAIR))
-        got, wanted = self.swept("device.json", *FILES[1:], "--svg=./device.json"), (1, b"", b"error: picture is an input\n")
-        faults = [] if got == wanted and read(f"{self.folder}/device.json") == read(PAIR) else [short(got)]
-        self.case("sweep_parts.py: a picture over an input", faults)
         self.file("names", b"boot\naccept abc\n")
         self.file("abc", b"abc")
+        self.file("notes", b"notes\n")
         os.link(f"{self.folder}/abc", f"{self.folder}/abc-second")
         os.symlink("abc", f"{self.folder}/abc-link")
         os.symlink("nowhere", f"{self.folder}/dangling")
         os.mkfifo(f"{self.folder}/pipe")
-        self.file("notes", b"notes\n")
         for name, message in [
-            ("abc", b"picture is an input"), ("abc-second", b"picture is an input"), ("abc-link", b"picture is an input"),
-            ("names", b"picture is an input"), ("notes", b"notes is no picture"), ("none/svg", b"cannot write none/svg"),
-            (".", b"cannot write ."), ("pipe", b"cannot write pipe"), ("dangling", b"cannot write dangling"),
+            *((it, "picture is an input") for it in ("./device.json", "abc", "abc-second", "abc-link", "names")),
+            *((it, f"cannot write {it}") for it in ("none/svg", ".", "pipe", "dangling")),
+            ("notes", "notes is no picture"),
         ]:
-            # A program that is run would end with another error.
-            got = self.swept("device.json", "names", ONE, ONE, f"--svg={name}", "--program=false")
-            wanted = (1, b"", b"error: %s\n" % message)
-            kept = read(f"{self.folder}/abc"), read(f"{self.folder}/notes")
-            faults = [] if got == wanted and kept == (b"abc", b"notes\n") else [short(got)]
-            self.case(f"sweep_parts.py: a picture that isn't made: {name}", faults)
+            with self.subTest(name):
+                got = self.swept("device.json", "names", ONE, ONE, f"--svg={name}", "--program=false")
+                self.assertEqual(error(message), got)
+        self.assertEqual((b"abc", b"notes\n"), (read(f"{self.folder}/abc"), read(f"{self.folder}/notes")))
 
     def drawn(self, name, meanwhile, *options):
-        """Sweeps a script of one event with a picture, and changes files in the middle. Returns the status and the errors."""
-        self.file("boot", b"boot\n")
-        script = f'case "$*" in *--part*) touch began; while [ -e began ]; do sleep 0.05; done;; esac; exec {self.program} "$@"'
-        self.file("waits", f"#!/bin/sh\n{script}\n".encode())
-        os.chmod(f"{self.folder}/waits", 0o755)
-        words = [sys.executable, "-B", SWEEP_PARTS, PAIR, "boot", ONE, ONE, "--parts=1", "--program=./waits", f"--svg={name}"]
-        ran = subprocess.Popen([*words, *options], stdout=subprocess.PIPE, stderr=subprocess.PIPE, cwd=self.folder)
-        self.addCleanup(ran.kill)
+        """Sweeps a script of one event with a picture, and changes files in the middle. Returns the status and the
+        errors."""
+        waits = 'case "$*" in *--part*) touch began; while [ -e began ]; do sleep 0.05; done;; esac'
+        program = write_script(self, "waits", f'{waits}; exec {self.program} "$@"')
+        pipes = {"stdout": subprocess.PIPE, "stderr": subprocess.PIPE}
+        ran = self.start(*self.files, "--parts=1", program, f"--svg={name}", *options, **pipes)
         self.waited(lambda: os.path.exists(f"{self.folder}/began") or ran.poll() is not None)
         meanwhile()
         with contextlib.suppress(FileNotFoundError):
@@ -96,65 +106,50 @@ class PartedSweepTest(DaskTest):
         _, err = ran.communicate(timeout=LIMIT)
         return ran.returncode, err
 
-    def test_held_picture(self):
-        """The name of a picture is looked up once, before the first part. What another program makes there stays."""
+    def test_name_of_a_picture_is_looked_up_once(self):
+        """It is before the first part. What another program makes there stays."""
         path = lambda name: f"{self.folder}/{name}"
-        ours = read(f"{ROOT}/docs/sweep.svg")
-        self.file("picture", ours)
+        self.file("picture", PICTURE)
         os.chmod(path("picture"), 0o640)
         self.file("device.json", read(PAIR))
         os.symlink("picture", path("link"))
+
         def turn():
             os.remove(path("link"))
             os.symlink("device.json", path("link"))
-        got = self.drawn("link", turn)
-        is_right = got == (0, b"") and read(path("device.json")) == read(PAIR) and os.stat(path("picture")).st_mode & 0o777 == 0o640
-        is_right = is_right and read(path("picture")) != ours and read(path("picture")).startswith(ours[:40])
-        self.case("sweep_parts.py: a link that is changed meanwhile", [] if is_right else [short(got)])
+
+        self.assertEqual((0, b""), self.drawn("link", turn))
+        self.assertEqual((read(PAIR), 0o640), (read(path("device.json")), os.stat(path("picture")).st_mode & 0o777))
+        self.assertNotEqual(PICTURE, read(path("picture")))
         got = self.drawn("new", lambda: self.file("new", b"another program's"))
-        is_right = got == (1, b"error: cannot write new\n") and read(path("new")) == b"another program's"
-        self.case("sweep_parts.py: a file that is made meanwhile", [] if is_right else [short(got)])
+        self.assertEqual(((1, b"error: cannot write new\n"), b"another program's"), (got, read(path("new"))))
         self.file("notes", b"notes\n")
-        got = self.drawn("notes", lambda: None, "--force")
-        is_right = got == (0, b"") and read(path("notes")).startswith(ours[:40])
-        self.case("sweep_parts.py: --force", [] if is_right else [short(got)])
-        left = [it for it in os.listdir(self.folder) if it.startswith(".bootswap-")]
-        self.case("sweep_parts.py: nothing else is left", left)
+        self.assertEqual((0, b""), self.drawn("notes", lambda: None, "--force"))
+        for name in ("picture", "notes"):
+            self.assertTrue(read(path(name)).startswith(PICTURE[:40]), name)
+        self.assertEqual([], [it for it in os.listdir(self.folder) if it.startswith(".bootswap-")])
 
-    def test_interrupt(self):
-        """An interrupt ends with the sum of the parts that have ended, and ends the others."""
-        first = self.run_program(["sweep", "--part=1/3", *FILES])
+    def test_interrupt_prints_the_sum_so_far(self):
+        """It ends the parts that have not ended."""
+        _, first, _ = self.run_program(["sweep", "--part=1/3", *FILES])
+        # The other parts take too long.
+        lines = f'case "$*" in *--part=1/*|*--merge*) exec {self.program} "$@";; *) exec sleep 1000;; esac'
+        program = write_script(self, "slow", lines)
         for number in (signal.SIGINT, signal.SIGTERM):
-            # The other parts take too long.
-            script = f'case "$*" in *--part=1/*|*--merge*) exec {self.program} "$@";; *) exec sleep 1000;; esac'
-            self.file("slow", f"#!/bin/sh\n{script}\n".encode())
-            os.chmod(f"{self.folder}/slow", 0o755)
-            words = [sys.executable, "-B", SWEEP_PARTS, *FILES, "--processes=2", "--parts=3", "--program=./slow"]
-            ours, theirs = pty.openpty()
-            ran = subprocess.Popen(words, stdout=subprocess.PIPE, stderr=theirs, cwd=self.folder)
-            self.addCleanup(ran.kill)
-            os.close(theirs)
-            shown = b""
-            while b"1 of 3 parts" not in shown:
-                shown += os.read(ours, 4096)
-            ran.send_signal(number)
-            out, _ = ran.communicate(timeout=LIMIT)
-            shown += os.read(ours, 4096)
-            os.close(ours)
-            faults = [] if (ran.returncode, out) == (130, first[1]) else [f"{ran.returncode} {short(out)}"]
-            faults += [] if b"sweep_parts.py: interrupted: the sum of 1 parts\r\n" in shown else [short(shown)]
-            self.case(f"sweep_parts.py: an interrupt by {number.name}", faults)
+            with self.subTest(number.name):
+                ran, ours = self.at_terminal(*FILES, "--processes=2", "--parts=3", program)
+                shown = b""
+                while b"1 of 3 parts" not in shown:
+                    shown += os.read(ours, 4096)
+                ran.send_signal(number)
+                out, _ = ran.communicate(timeout=LIMIT)
+                self.assertEqual((130, first), (ran.returncode, out))
+                self.assertIn(b"sweep_parts.py: interrupted: the sum of 1 parts\r\n", shown + os.read(ours, 4096))
 
-    def test_kill(self):
-        """A killed sweep leaves no process of its parts."""
-        script = 'echo $$ >> began; exec sleep 1000'
-        self.file("slow", f"#!/bin/sh\n{script}\n".encode())
+    def test_kill_leaves_no_process(self):
         self.file("began", b"")
-        os.chmod(f"{self.folder}/slow", 0o755)
-        words = [sys.executable, "-B", SWEEP_PARTS, *FILES, "--processes=3", "--program=./slow"]
-        ran = subprocess.Popen(words, cwd=self.folder, stderr=subprocess.DEVNULL)
-        self.addCleanup(ran.wait)
-        self.addCleanup(ran.kill)
+        program = write_script(self, "slow", "echo $$ >> began; exec sleep 1000")
+        ran = self.start(*FILES, "--processes=3", program, stderr=subprocess.DEVNULL)
         numbers = lambda: [int(it) for it in read(f"{self.folder}/began").split()]
         self.waited(lambda: len(numbers()) == 3)
         ran.kill()
@@ -167,37 +162,24 @@ class PartedSweepTest(DaskTest):
 
     def test_stopped_worker(self):
         """A part whose process is stopped is done once more, if there is a limit."""
-        script = f'mkdir stopped 2>/dev/null && kill -STOP $$; exec {self.program} "$@"'
-        self.file("stops", f"#!/bin/sh\n{script}\n".encode())
-        os.chmod(f"{self.folder}/stops", 0o755)
-        self.file("boot", b"boot\n")
-        files = [PAIR, "boot", ONE, ONE]
-        got = self.swept(*files, "--parts=2", "--limit=5", "--program=./stops")
-        wanted = self.run_program(["sweep", *files])
-        self.case("sweep_parts.py: a worker that is stopped", [] if got == wanted else [short(got)])
+        program = write_script(self, "stops", f'mkdir stopped 2>/dev/null && kill -STOP $$; exec {self.program} "$@"')
+        wanted = self.run_program(["sweep", *self.files])
+        self.assertEqual(wanted, self.swept(*self.files, "--parts=2", "--limit=5", program))
 
-    def test_progress(self):
+    def test_progress_within_a_part(self):
         """A terminal shows the share of the cuts that are done, also within a part, and the time that is left."""
-        script = "printf '\\rsweep: cuts 3 of 4, 19 runs, 2 s left\\033[K' >&2; sleep 1; printf '\\r\\033[K' >&2"
-        self.file("shows", f'#!/bin/sh\ncase "$*" in *--part*) {script};; esac; exec {self.program} "$@"\n'.encode())
-        os.chmod(f"{self.folder}/shows", 0o755)
-        self.file("boot", b"boot\n")
-        words = [sys.executable, "-B", SWEEP_PARTS, PAIR, "boot", ONE, ONE, "--processes=1", "--parts=2", "--program=./shows"]
-        ours, theirs = pty.openpty()
-        ran = subprocess.Popen(words, stdout=subprocess.PIPE, stderr=theirs, cwd=self.folder)
-        self.addCleanup(ran.kill)
-        os.close(theirs)
+        shows = "printf '\\rsweep: cuts 3 of 4, 19 runs, 2 s left\\033[K' >&2; sleep 1; printf '\\r\\033[K' >&2"
+        program = write_script(self, "shows", f'case "$*" in *--part*) {shows};; esac; exec {self.program} "$@"')
+        ran, ours = self.at_terminal(*self.files, "--processes=1", "--parts=2", program)
         out, _ = ran.communicate(timeout=LIMIT)
-        shown = os.read(ours, 1 << 16)
-        os.close(ours)
-        whole = self.run_program(["sweep", PAIR, "boot", ONE, ONE])
+        self.assertEqual(self.run_program(["sweep", *self.files])[:2], (ran.returncode, out))
         # Of two equal parts a first one that is at 3 of 4 is 3/8 of all, and a second one 7/8.
-        lines = [rb"\r\x1b\[K0 of 2 parts, 37\.5 % of the cuts, \d+ s left", rb"\r\x1b\[K1 of 2 parts, 87\.5 % of the cuts, \d+ s left"]
-        faults = [] if (ran.returncode, out) == whole[:2] else [short(out)]
-        faults += [] if re.search(b".*".join(lines), shown) and shown.endswith(b"\r\x1b[K") else [short(shown)]
-        self.case("sweep_parts.py: the progress within a part", faults)
+        line = rb"\r\x1b\[K%d of 2 parts, %s %% of the cuts, \d+ s left"
+        shown = os.read(ours, 1 << 16)
+        self.assertRegex(shown, line % (0, rb"37\.5") + b".*" + line % (1, rb"87\.5"))
+        self.assertTrue(shown.endswith(b"\r\x1b[K"))
 
     def test_dask(self):
         """A worker of dask dies in the middle, and the output is that of one process."""
-        words = [SWEEP_PARTS, *FILES, "--parts=20"]
-        self.expect_of_dask("a worker of dask dies in a sweep", words, self.run_program(["sweep", *FILES])[:2])
+        wanted = self.run_program(["sweep", *FILES])[:2]
+        self.expect_of_dask("a worker of dask dies in a sweep", [SWEEP_PARTS[-1], *FILES, "--parts=20"], wanted)
