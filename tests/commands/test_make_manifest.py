@@ -8,345 +8,250 @@ from support.builders import component, device, image, manifest, version
 from support.commands import make_manifest
 from support.files import EXAMPLES, ONE, PAIR, read
 from support.flashes import flash_of
-from support.printed import OF_ABC
-from support.program import ProgramTest, short
+from support.printed import OF_ABC, error, note_lines, refused
+from support.program import ProgramTest
 from support.stories import IMAGES, UPLOADED, flash_in, new_device, run_of
 
 NEEDING, PARTNER = f"{EXAMPLES}/images/needing.img", f"{EXAMPLES}/images/partner.img"
+NO_IMAGE = note_lines(b"abc is no intact image: 1 Short")
+BOTH_KINDS = note_lines(b"a boot tries these images as a set: those of --permanent revert too unless each is confirmed")
 
 
-def digest_of(file):
-    return hashlib.sha256(read(file)).hexdigest()
-
-
-def digest_of_example(name):
-    """The digest of an image of the examples, from its description."""
-    lines = read(f"{EXAMPLES}/descriptions/{name}.txt").decode().splitlines()
-    return next(it.split()[1] for it in lines if it.startswith("digest "))
-
-
-NO_IMAGE = b"note: abc is no intact image: 1 Short\n"
-
-# The note for a manifest with test images and permanent ones.
-BOTH_KINDS = b"note: a boot tries these images as a set: those of --permanent revert too unless each is confirmed\n"
-
-
-def expect_value(test, name, arguments, value, err=b"", **how):
-    """A case: the run prints a JSON text of this value, and `manifest` accepts it."""
-    status, out, message = test.run_program(arguments, **how)
-    is_right = (status, message) == (0, err) and json.loads(out) == json.loads(value)
-    test.case(name, [] if is_right else [f"{status} {short(out)} {short(message)}"])
-    return test.file("made.json", out)
+def digest_of(whole):
+    return hashlib.sha256(whole).hexdigest()
 
 
 class MakeManifestTest(ProgramTest):
-    """Manifests that `make-manifest` makes."""
+    def assert_makes(self, value, notes, arguments, **how):
+        """The run prints a JSON text of this value, which is returned, and these notes."""
+        status, out, err = self.run_program(arguments, **how)
+        self.assertEqual((0, json.loads(value), notes), (status, json.loads(out), err))
+        return self.file("made.json", out)
 
-    def test_new_manifests(self):
-        """`make-manifest` prints the manifests of the format that its options ask for."""
+    def test_text_of_a_manifest(self):
         self.file("abc", b"abc")
-        arguments = make_manifest("--permanent", "1=abc", sequence=7)
-        self.expect("make-manifest: its text", arguments, 0, OF_ABC, NO_IMAGE)
-        from_input = NO_IMAGE.replace(b"abc", b"-")
-        arguments = make_manifest("--permanent=1=-", sequence=7)
-        self.expect("make-manifest: a file as -", arguments, 0, OF_ABC, from_input, given=b"abc")
-        arguments = make_manifest("--permanent=1=abc", of="-", sequence=7)
-        self.expect("make-manifest: the device as -", arguments, 0, OF_ABC, NO_IMAGE, given=read(PAIR))
-        pair = ["--test", f"0={NEEDING}", "--test", f"1={PARTNER}"]
-        value = read(f"{EXAMPLES}/manifests/trial.json")
-        made = expect_value(self, "make-manifest: that of the upgrade", make_manifest(*pair), value)
-        message = read(f"{EXAMPLES}/listings/trial.txt")
-        self.expect("make-manifest: what it says to the device", ["manifest", PAIR, made], 0, message)
-        kinds = [component(component_id=1), component(kind="permanent")]
+        self.assertEqual((0, OF_ABC, NO_IMAGE), self.run_program(make_manifest("--permanent=1=abc", sequence=7)))
+        end = (0, OF_ABC, NO_IMAGE.replace(b"abc", b"-"))
+        self.assertEqual(end, self.run_program(make_manifest("--permanent=1=-", sequence=7), given=b"abc"))
+
+    def test_manifest_of_the_example(self):
+        arguments = make_manifest(f"--test=0={NEEDING}", f"--test=1={PARTNER}")
+        made = self.assert_makes(read(f"{EXAMPLES}/manifests/trial.json"), b"", arguments)
+        self.assertEqual((0, read(f"{EXAMPLES}/listings/trial.txt"), b""), self.run_program(["manifest", PAIR, made]))
+
+    def test_files_for_a_test_come_first(self):
+        self.file("abc", b"abc")
         self.file("a=b", b"abc")
+        value = manifest(components=[component(component_id=1), component(kind="permanent")], sequence_number=2**32 - 1)
+        notes = NO_IMAGE + NO_IMAGE.replace(b"abc is", b"a=b is") + BOTH_KINDS
         arguments = make_manifest("--permanent=0=a=b", "--test=1=abc", sequence=2**32 - 1)
-        message = NO_IMAGE + NO_IMAGE.replace(b"abc is", b"a=b is") + BOTH_KINDS
-        value = manifest(components=kinds, sequence_number=2**32 - 1)
-        expect_value(self, "make-manifest: those for a test come first", arguments, value, message)
-        empty = self.file("empty", b"")
-        nothing = hashlib.sha256(b"").hexdigest()
-        value = manifest(components=[component(size=0, payload_digest=nothing)])
-        message = b"note: empty is no intact image: 1 Short\n"
-        expect_value(self, "make-manifest: a file of no bytes", make_manifest(f"--test=0={empty}"), value, message)
+        self.assert_makes(value, notes, arguments)
+
+    def test_file_for_each_of_eight_images(self):
         eight = self.file("eight.json", device(sectors=8 * [2]))
-        several = [component(component_id=it, payload_digest=digest_of(ONE), size=76) for it in range(8)]
+        several = [component(component_id=it, payload_digest=digest_of(read(ONE)), size=76) for it in range(8)]
         arguments = make_manifest(*(f"--test={it}={ONE}" for it in range(8)), of=eight)
-        expect_value(self, "make-manifest: a file for each of eight images", arguments, manifest(components=several))
+        self.assert_makes(manifest(components=several), b"", arguments)
 
     def test_precursors(self):
-        """With a flash, a manifest names the running images, and only a device that runs them accepts the files."""
-        flash_of(self)
-        usual = {"size": 96, "precursor_digest": digest_of_example("one")}
-        pair = [(0, NEEDING), (1, PARTNER)]
-        wanted = [component(component_id=it, payload_digest=digest_of(file), **usual) for it, file in pair]
-        files = [f"--test=0={NEEDING}", f"--test=1={PARTNER}"]
-        arguments = make_manifest("--precursor", "flash", *files)
-        value = manifest(components=wanted)
-        made = expect_value(self, "make-manifest: what has to run", arguments, value)
-        whole = read(f"{self.folder}/flash")
-        arguments = make_manifest("--precursor", "-", *files)
-        expect_value(self, "make-manifest: the flash as -", arguments, value, given=whole)
-        upload = f"boot\naccept {made}\npiece 0 {NEEDING}\npiece 1 {PARTNER}\nfinish 0\nfinish 1\n"
-        upload += "boot\nconfirm 0\nconfirm 1\n"
-        boots = b"1 plain\nrun 0 1.0.0+0\nrun 1 1.0.0+0\n2 done\n3 done\n4 done\n5 done\n6 done\n"
-        boots += b"7 trial\ntake 0 2.0.0+0\ntake 1 2.0.0+0\n8 done\n9 done\n"
-        script = self.file("script", upload.encode())
-        self.expect("make-manifest: a device that runs it takes the files", ["run", PAIR, "flash", script], 0, boots)
-        again = f"boot\naccept {made}\n".encode()
-        message = b"1 plain\nrun 0 2.0.0+0\nrun 1 2.0.0+0\n2 refused upload 8 WrongPrecursor\n"
-        self.expect(
-            "make-manifest: one that runs another doesn't", ["run", PAIR, "flash", "-"], 1, message, given=again
-        )
-
-    def test_damaged_precursors(self):
-        """A flash whose image is damaged, that has another length, or that another program writes, is no precursor."""
+        """With a flash, a manifest names the running images, and only a device that runs them accepts it."""
         whole = flash_of(self)
-        files = [f"--test=0={NEEDING}", f"--test=1={PARTNER}"]
-        changed = bytearray(whole)
-        changed[1536 + 40] ^= 1
-        self.file("damaged", changed)
+        asked = {"size": 96, "precursor_digest": read(f"{EXAMPLES}/descriptions/one.txt").split()[7].decode()}
+        digests = map(digest_of, map(read, (NEEDING, PARTNER)))
+        wanted = [component(component_id=at, payload_digest=it, **asked) for at, it in enumerate(digests)]
+        files = f"--test=0={NEEDING}", f"--test=1={PARTNER}"
+        made = self.assert_makes(manifest(components=wanted), b"", make_manifest("--precursor=flash", *files))
+        self.assert_makes(manifest(components=wanted), b"", make_manifest("--precursor=-", *files), given=whole)
+        upload = f"boot, accept {made}, piece 0 {NEEDING}, piece 1 {PARTNER}, finish 0, finish 1, boot"
+        self.assertEqual(0, run_of(self, f"{upload}, confirm 0, confirm 1")[0])
+        out = run_of(self, f"boot, accept {made}")[1]
+        self.assertTrue(out.endswith(b"\n2 refused upload 8 WrongPrecursor\n"))
+
+    def test_flash_that_is_no_precursor(self):
+        whole = flash_of(self)
+        files = f"--test=0={NEEDING}", f"--test=1={PARTNER}"
+        self.file("damaged", whole[:1576] + b"x" + whole[1577:])
         arguments = make_manifest("--precursor=damaged", *files)
-        self.expect("make-manifest: what has to run is damaged", arguments, 1, b"refused boot 5 RunningDamaged 1\n")
-        usual = {"size": 96, "precursor_digest": digest_of_example("one")}
-        value = manifest(components=[component(payload_digest=digest_of(NEEDING), **usual)])
-        arguments = make_manifest("--precursor=damaged", files[0])
-        expect_value(self, "make-manifest: another image is damaged", arguments, value)
-        for name, bytes in [("short", whole[:-1]), ("long", whole + b"x")]:
-            arguments = make_manifest(f"--precursor={self.file(name, bytes)}", f"--test=0={ONE}")
-            self.expect(f"make-manifest: a flash that is too {name}", arguments, 1, err=b"error: flash size\n")
+        self.assertEqual(refused("boot 5 RunningDamaged 1"), self.run_program(arguments))
+        # Image 0 is intact.
+        self.assertEqual(0, self.run_program(make_manifest("--precursor=damaged", files[0]))[0])
+        for name, contents in [("short", whole[:-1]), ("long", whole + b"x")]:
+            arguments = make_manifest(f"--precursor={self.file(name, contents)}", files[0])
+            self.assertEqual(error("flash size"), self.run_program(arguments))
         with open(f"{self.folder}/flash", "rb") as held:
             fcntl.flock(held, fcntl.LOCK_EX)
-            arguments = make_manifest("--precursor=flash", f"--test=0={ONE}")
-            self.expect("make-manifest: a flash that is written", arguments, 1, err=b"error: flash in use\n")
+            self.assertEqual(error("flash in use"), self.run_program(make_manifest("--precursor=flash", files[0])))
 
-
-USAGE = """
-
-Usage: bootswap make-manifest [OPTIONS] --sequence <N> <DEVICE>
-
-For more information, try '--help'.
-"""
-
-# The sentences that report options that can't be read, and such options.
-UNREADABLE = {
-    "`--sequence` is a number, in digits, below 4294967296": [
-        ["--sequence="], ["--sequence=4294967296"], ["--sequence=-1"], ["--sequence=01"], ["--sequence=1.0"],
-    ],
-    "`--test` is the number of an image and its file: 0=a.img": [
-        ["--test="], ["--test=a.img"], ["--test==a.img"], ["--test=256=a.img"], ["--test=00=a.img"], ["--test=0 =a"],
-    ],
-    "`--permanent` is the number of an image and its file: 0=a.img": [["--permanent=a.img"], ["--permanent=x=a.img"]],
-    "give one to eight files that may come, by `--test I=FILE` or `--permanent I=FILE`": [
-        [], ["--precursor=flash"], 9 * ["--test=0=a"], [*4 * ["--test=0=a"], *5 * ["--permanent=0=a"]],
-    ],
-    "standard input, `-`, can be read for one file only": [
-        ["--test=0=-", "--test=1=-"], ["--precursor=-", "--test=0=-"], ["--test=0=-", "--permanent=1=-"],
-    ],
-}
-
-
-class RefusedNewManifestTest(ProgramTest):
-    """Files and options that make no manifest."""
-
-    def test_refused_manifests(self):
-        """`make-manifest` refuses what makes no manifest for the device before it reads a file."""
-        bad, small = self.file("bad", b"{}"), self.file("small", device(sector=64))
-        one_too_high, twice = b"refused 6 NoComponent\n", b"refused 7 RepeatedComponent\n"
-        absent, again = b"error: cannot read absent\n", ["--test=0=a", "--test=0=a"]
-        for name, arguments, out, err in [
-            ("an image that the device doesn't have", make_manifest("--test=2=absent"), one_too_high, b""),
-            ("an image twice", make_manifest("--test=0=absent", "--permanent=0=absent"), twice, b""),
-            ("an image twice, and one too high", make_manifest(*again, "--test=255=a"), one_too_high, b""),
-            ("an image twice, and no flash", make_manifest(*again, "--precursor=absent"), twice, b""),
-            ("a file that isn't there", make_manifest("--test=0=absent"), b"", absent),
-            ("the second file isn't there", make_manifest(f"--test=0={ONE}", "--test=1=absent"), b"", absent),
-            (
-                "a flash that isn't there",
-                make_manifest("--precursor=gone", "--test=0=absent"),
-                b"",
-                b"error: cannot read gone\n",
-            ),
-            ("a device file that isn't there", make_manifest("--test=9=a", of="absent"), b"", absent),
-            ("no device file", make_manifest("--test=9=a", of=bad), b"", b"error: device file\n"),
-            ("a refused map", make_manifest("--test=9=a", of=small), b"refused map 1 BadSector\n", b""),
+    def test_images_that_no_manifest_may_have(self):
+        """They are refused before a file is read."""
+        again = ["--test=0=a", "--permanent=0=a"]
+        for options, end in [
+            (["--test=2=absent"], refused("6 NoComponent")),
+            ([*again, "--test=255=a"], refused("6 NoComponent")),
+            ([*again, "--precursor=absent"], refused("7 RepeatedComponent")),
+            ([f"--test=0={ONE}", "--test=1=absent"], error("cannot read absent")),
         ]:
-            self.expect(f"make-manifest: {name}", arguments, 1, out, err)
-
-    def test_notes_of_files(self):
-        """`make-manifest` notes a file that the device won't take. Its status is 1 if an output can't be written."""
-        full, more = self.file("full", image([], body=952 * b"x")), self.file("more", image([], body=953 * b"x"))
-        changed = self.file("changed\n", read(ONE)[:-1] + b"x")
-        for name, file, size, err in [
-            ("as long as its slot", full, 1024, b""),
-            ("longer than its slot", more, 1025, b"note: more has 1025 bytes, and the slots of image 0 1024\n"),
-            (
-                "damaged, with a line feed in its name",
-                changed,
-                76,
-                b"note: changed\\n is no intact image: 10 BadDigest\n",
-            ),
-        ]:
-            value = manifest(components=[component(size=size, payload_digest=digest_of(f"{self.folder}/{file}"))])
-            expect_value(self, f"make-manifest: a file that is {name}", make_manifest(f"--test=0={file}"), value, err)
-        with open("/dev/full", "wb") as stream:
-            status, _, err = self.run_program(make_manifest("--test=0=full"), stdout=stream)
-            is_right = (status, err) == (1, b"")
-            self.case("make-manifest: it can't be written", [] if is_right else [f"{status} {short(err)}"])
-            status, out, _ = self.run_program(make_manifest("--test=0=more"), stderr=stream)
-            is_right = status == 1 and json.loads(out)["components"][0]["size"] == 1025
-            self.case("make-manifest: its note can't be written", [] if is_right else [f"{status} {short(out)}"])
-
-    def test_unreadable_options(self):
-        """`make-manifest` reports each option that it can't read by a sentence of its own."""
-        for message, several in UNREADABLE.items():
-            for options in several:
-                more = [] if any(it.startswith("--sequence") for it in options) else ["--sequence=1"]
-                more += ["--test=0=a"] if options and options[0].startswith("--sequence") else []
-                arguments = ["make-manifest", PAIR, *options, *more]
-                self.expect(
-                    f"make-manifest: {' '.join(options)}", arguments, 2, b"", f"error: {message}{USAGE}".encode()
-                )
-        err = f"error: standard input, `-`, can be read for one file only{USAGE}".encode()
-        self.expect("make-manifest: the device and a file as -", make_manifest("--test=0=-", of="-"), 2, b"", err)
+            with self.subTest(" ".join(options)):
+                self.assertEqual(end, self.run_program(make_manifest(*options)))
 
 
 # The notes on the state of a device.
-TRYING = b"note: a set of images is on trial: the device takes no uploads until a boot ends the trial\n"
-LOWER = b"note: the device accepted a manifest of sequence number %d, and refuses a lower one\n"
+TRYING = note_lines(b"a set of images is on trial: the device takes no uploads until a boot ends the trial")
+LOWER = "note: the device accepted a manifest of sequence number %d, and refuses a lower one\n"
 
 # Events that request image 0, and events that raise its floor to 5.
 FIRST_COMES = "boot, accept first.json, piece 0 needing.img, finish 0"
-
 FLOOR_RAISED = "boot, accept patched.json, piece 0 patched.img, finish 0, boot"
 
 
 def own_note(name, number):
     """The note on a file whose image needs the image that it is."""
-    name = name.encode()
-    return (
-        b"note: %s is for image %d and needs image %d, which is itself: it may be the file of another image\n"
-        % (name, number, number)
-    )
+    text = f"{name} is for image {number} and needs image {number}, which is itself: it may be the file of another"
+    return note_lines(f"{text} image".encode())
 
 
 def refused_note(number, reason):
     """The note for an image that the next boot of the flash would refuse."""
-    return f"note: a boot would refuse image {number}: {reason}\n".encode()
+    return note_lines(f"a boot would refuse image {number}: {reason}".encode())
 
+
+def on(number, major=1):
+    """The entry of a dependency on an image from a version on."""
+    return 0x40, bytes([number, 0, 0, 0, major, 0, 0, 0, 0, 0, 0, 0])
+
+
+def one_of(*numbers):
+    """The entry of a group of images, each from version 1.0.0+0 on."""
+    return 0xA0, b"".join(on(it)[1] for it in numbers)
+
+
+# What image 0 of two needs, whether it needs this image, and why no boot can take it.
+NEVER_TAKEN = [
+    ([on(2)], False, "no-such-image 2"),
+    ([on(1), on(255), on(2)], False, "no-such-image 255"),
+    ([on(0, 3)], True, "needs 0 3.0.0+0"),
+    ([one_of(1, 0), one_of(2, 7)], True, "needs-one 2 1.0.0+0 7 1.0.0+0"),
+    ([on(0, 2)], True, None),
+    ([on(1, 255)], False, None),
+    ([one_of(2, 1)], False, None),
+]
 
 # Requests on the flash of a device, files that could come next, and the notes for them.
 NEXT_BOOTS = [
-    ("it needs another that doesn't come", "", ["--test=0=needing.img"], refused_note(0, "needs 1 2.0.0+0")),
-    ("both come", "", ["--test=0=needing.img", "--permanent=1=partner.img"], BOTH_KINDS),
-    ("both stay", "", ["--permanent=0=needing.img", "--permanent=1=partner.img"], b""),
-    ("the other one needs it, and runs on", "", ["--test=1=partner.img"], refused_note(1, "needs 0 2.0.0+0")),
-    ("the other one is requested already", f"{FIRST_COMES}, accept second.json", ["--test=1=partner.img"], b""),
-    ("it takes the place of what is requested", FIRST_COMES, ["--test=0=one.img"], b""),
-    ("an older one", "", ["--test=0=older.img"], refused_note(0, "older")),
-    ("a counter below the floor", FLOOR_RAISED, ["--test=0=stale.img"], refused_note(0, "counter")),
-    ("a damaged file", "", ["--test=0=abc"], NO_IMAGE),
-    ("both on a trial", f"{UPLOADED}, boot", ["--test=0=older.img"], TRYING),
+    ("", ["--test=0=needing.img"], refused_note(0, "needs 1 2.0.0+0")),
+    ("", ["--test=0=needing.img", "--permanent=1=partner.img"], BOTH_KINDS),
+    ("", ["--permanent=0=needing.img", "--permanent=1=partner.img"], b""),
+    ("", ["--test=0=older.img"], refused_note(0, "older")),
+    ("", ["--test=0=abc"], NO_IMAGE),
+    (f"{FIRST_COMES}, accept second.json", ["--test=1=partner.img"], b""),
+    (FIRST_COMES, ["--test=0=one.img"], b""),
+    (FLOOR_RAISED, ["--test=0=stale.img"], refused_note(0, "counter")),
+    (f"{UPLOADED}, boot", ["--test=0=older.img"], TRYING),
 ]
 
 # Events, a sequence number, the notes, and the device's reply to the manifest after its next boot.
 STATES = [
-    ("a lower number", "boot, accept for-good.json", 6, LOWER % 7, "refused upload 1 OldSequence"),
-    ("the same number", "boot, accept for-good.json", 7, b"", "done"),
-    ("a higher number", "boot, accept for-good.json", 8, b"", "done"),
-    ("a trial", f"{UPLOADED}, boot", 1, TRYING, "refused upload 8 WrongPrecursor"),
-    ("a trial, and a lower number", f"{UPLOADED}, boot", 0, LOWER % 1 + TRYING, "refused upload 1 OldSequence"),
-    ("a trial that is confirmed", f"{UPLOADED}, boot, confirm 0, confirm 1", 1, TRYING, "done"),
-    ("after a trial", f"{UPLOADED}, boot, boot", 1, b"", "done"),
+    ("boot, accept for-good.json", 6, LOWER % 7, "refused upload 1 OldSequence"),
+    ("boot, accept for-good.json", 7, "", "done"),
+    (f"{UPLOADED}, boot", 1, TRYING.decode(), "refused upload 8 WrongPrecursor"),
+    (f"{UPLOADED}, boot", 0, LOWER % 1 + TRYING.decode(), "refused upload 1 OldSequence"),
+    (f"{UPLOADED}, boot, confirm 0, confirm 1", 1, TRYING.decode(), "done"),
+    (f"{UPLOADED}, boot, boot", 1, "", "done"),
 ]
 
 
-class NoteOfManifestTest(ProgramTest):
-    """What `make-manifest` notes of files that a device won't take."""
+class NoteTest(ProgramTest):
+    """Notes on files that a device won't take."""
 
-    def test_both_kinds(self):
-        """If a test image and a permanent one come together, the device tries and reverts both, as the note
-        says, though neither needs the other. If both are permanent, it tries none."""
-        new = {it: self.file(f"new-{it}.img", image([], own=version(2, it))) for it in (0, 1)}
-        for kinds, note, replies in [
-            (("test", "permanent"), BOTH_KINDS, ["plain", "trial", "reverted"]),
-            (("permanent", "test"), BOTH_KINDS, ["plain", "trial", "reverted"]),
-            (("permanent", "permanent"), b"", ["plain", "permanent", "plain"]),
-            (("test", "test"), b"", ["plain", "trial", "reverted"]),
+    def notes(self, *options, **how):
+        """Returns the notes of a run that prints a manifest."""
+        status, out, err = self.run_program(make_manifest(*options, **how))
+        self.assertEqual((0, b"{"), (status, out[:1]))
+        self.file("made.json", out)
+        return err
+
+    def test_file_that_does_not_fit_or_is_damaged(self):
+        self.file("full", image([], body=952 * b"x"))
+        self.file("more", image([], body=953 * b"x"))
+        self.file("changed\n", read(ONE)[:-1] + b"x")
+        self.assertEqual(b"", self.notes("--test=0=full"))
+        self.assertEqual(note_lines(b"more has 1025 bytes, and the slots of image 0 1024"), self.notes("--test=0=more"))
+        self.assertEqual(note_lines(b"changed\\n is no intact image: 10 BadDigest"), self.notes("--test=0=changed\n"))
+        with open("/dev/full", "wb") as full:
+            self.assertEqual(1, self.run_program(make_manifest("--test=0=more"), stderr=full)[0])
+
+    def test_image_that_no_boot_takes(self):
+        """It is noted once, with a flash and without one."""
+        flash_of(self)
+        for needs, is_own, reason in NEVER_TAKEN:
+            with self.subTest(f"{needs}"):
+                self.file("one", image(needs, own=version(2)))
+                wanted = (own_note("one", 0) if is_own else b"") + (refused_note(0, reason) if reason else b"")
+                self.assertEqual(wanted, self.notes("--test=0=one"))
+                if reason:
+                    self.assertEqual(wanted, self.notes("--test=0=one", "--precursor=flash"))
+
+    def test_file_of_another_image(self):
+        new_device(self)
+        for options, note in [
+            (("--test=0=partner.img", "--test=1=needing.img"), own_note("partner.img", 0) + own_note("needing.img", 1)),
+            (("--test=0=needing.img", "--test=1=partner.img"), b""),
         ]:
-            flash_of(self)
-            arguments = make_manifest(*(f"--{kind}={number}={new[number]}" for number, kind in enumerate(kinds)))
-            status, out, err = self.run_program(arguments)
-            self.file("made.json", out)
-            script = f"boot\naccept made.json\npiece 0 {new[0]}\npiece 1 {new[1]}\nfinish 0\nfinish 1\nboot\nboot\n"
-            message = self.run_program(["run", PAIR, "flash", "-"], given=script.encode())[1].decode().splitlines()
-            got = [it.split()[1] for it in message if it.split()[0] in ("1", "7", "8")]
-            faults = [] if (status, err) == (0, note) else [f"{status} {short(err)}"]
-            faults += [] if got == replies else [f"{got}"]
-            self.case(f"make-manifest: {' and '.join(kinds)}: what is noted, and what the device does", faults)
+            self.assertEqual(note, self.notes(*options))
+            self.assertEqual(note, self.notes(*options, "--precursor=flash"))
+        # What runs doesn't fit, so nothing is said of the next boot.
+        self.file("flash", IMAGES["needing.img"] + flash_in(self)[96:])
+        self.assertEqual(own_note("needing.img", 1), self.notes("--test=1=needing.img", "--precursor=flash"))
 
     def test_next_boot(self):
-        """With a flash, `make-manifest` notes which files the next boot would refuse, and why. Without one, it
-        notes nothing."""
-        for name, events, options, note in NEXT_BOOTS:
-            new_device(self)
-            self.file("older.img", image([], own=version(0, 9)))
-            status = run_of(self, events)[0] if events else 0
-            got = self.run_program(make_manifest(*options, "--precursor=flash", sequence=9))
-            alone = self.run_program(make_manifest(*options, sequence=9))[2]
-            wanted = (0, 0, note, note if note in (NO_IMAGE, BOTH_KINDS) else b"")
-            found = (status, got[0], got[2], alone)
-            faults = [] if found == wanted else [f"{short(found)}, and not {short(wanted)}"]
-            self.case(f"make-manifest: the next boot: {name}", faults)
-        new_device(self)
-        self.file("flash", IMAGES["needing.img"] + flash_in(self)[96:])
-        status, _, err = self.run_program(make_manifest("--test=1=needing.img", "--precursor=flash"))
-        faults = [] if (status, err) == (0, own_note("needing.img", 1)) else [f"{status} {short(err)}"]
-        self.case("make-manifest: the next boot: what runs doesn't fit", faults)
+        """With a flash it is noted which files the next boot would refuse, and why. Without one nothing is."""
+        for events, options, note in NEXT_BOOTS:
+            with self.subTest(f"{events}: {' '.join(options)}"):
+                new_device(self)
+                self.file("older.img", image([], own=version(0, 9)))
+                if events:
+                    self.assertEqual(0, run_of(self, events)[0])
+                self.assertEqual(note, self.notes(*options, "--precursor=flash", sequence=9))
+                self.assertEqual(note if note in (NO_IMAGE, BOTH_KINDS) else b"", self.notes(*options, sequence=9))
 
-    def test_states(self):
-        """With a flash, `make-manifest` notes that its device accepted a higher sequence number, and that it is on
-        trial. The device replies as the note says."""
-        for name, events, sequence, note, reply in STATES:
-            new_device(self)
-            run_of(self, events)
-            got = self.run_program(make_manifest("--test=0=newer.img", "--precursor=flash", sequence=sequence))
-            alone = self.run_program(make_manifest("--test=0=newer.img", sequence=sequence))
-            faults = [] if (got[0], got[2]) == (0, note) and alone[::2] == (0, b"") else [short((got, alone))]
-            self.file("made.json", got[1])
-            out = self.run_program(["run", PAIR, "flash", "-"], given=b"boot\naccept made.json\n")[1]
-            faults += [] if out.decode().splitlines()[-1] == f"2 {reply}" else [short(out)]
-            self.case(f"make-manifest: the state of the device: {name}", faults)
+    def test_state_of_the_device(self):
+        """With a flash it is noted that its device accepted a higher sequence number, and that it is on trial. The
+        device replies as the note says."""
+        for events, sequence, notes, reply in STATES:
+            with self.subTest(f"{sequence} after {events}"):
+                new_device(self)
+                run_of(self, events)
+                self.assertEqual(b"", self.notes("--test=0=newer.img", sequence=sequence))
+                got = self.notes("--test=0=newer.img", "--precursor=flash", sequence=sequence)
+                self.assertEqual(notes.encode(), got)
+                out = run_of(self, "boot, accept made.json")[1]
+                self.assertEqual(f"2 {reply}", out.decode().splitlines()[-1])
 
-    def test_changed_places(self):
-        """`make-manifest` notes a file whose image needs the image that it is for, as those of two images that
-        changed places do."""
-        new_device(self)
-        for name, options, note in [
-            ("changed", ["--test=0=partner.img", "--test=1=needing.img"],
-             own_note("partner.img", 0) + own_note("needing.img", 1)),
-            ("right", ["--test=0=needing.img", "--test=1=partner.img"], b""),
+    def test_both_kinds(self):
+        """If a test image and a permanent one come together, the device tries and reverts both, as the note says,
+        though neither needs the other. If both are permanent, it tries none."""
+        for number in (0, 1):
+            self.file(f"new{number}", image([], own=version(2, number)))
+        for kinds, note, replies in [
+            ("permanent test", BOTH_KINDS, ["trial", "reverted"]),
+            ("permanent permanent", b"", ["permanent", "plain"]),
+            ("test test", b"", ["trial", "reverted"]),
         ]:
-            for more in ([], ["--precursor=flash"]):
-                status, _, err = self.run_program(make_manifest(*options, *more))
-                faults = [] if (status, err) == (0, note) else [short((status, err))]
-                self.case(f"make-manifest: the places of two images: {name} {more}", faults)
+            with self.subTest(kinds):
+                flash_of(self)
+                self.assertEqual(note, self.notes(*(f"--{kind}={at}=new{at}" for at, kind in enumerate(kinds.split()))))
+                upload = "boot, accept made.json, piece 0 new0, piece 1 new1, finish 0, finish 1, boot, boot"
+                out = run_of(self, upload)[1].decode()
+                self.assertEqual(replies, [it.split()[1] for it in out.splitlines() if it[0] in "78"])
 
     def test_strict(self):
         """With `--strict`, the status is 1 if there is a note. Nothing else changes."""
         new_device(self)
-        self.file("abc", b"abc")
-        self.file("long.img", image([], body=bytes(1024)))
         both = ["--test=0=needing.img", "--permanent=1=partner.img"]
-        for name, options, status in [
-            ("a damaged file", ["--test=0=abc"], 1),
-            ("a file longer than its slot", ["--test=0=long.img"], 1),
-            ("a file that the next boot would refuse", ["--test=0=needing.img", "--precursor=flash"], 1),
-            ("files of both kinds", both, 1),
-            ("files of both kinds that the next boot takes", [*both, "--precursor=flash"], 1),
-            ("a file for a test", ["--test=0=one.img"], 0),
+        for options, status in [
+            (["--test=0=abc"], 1), (["--test=0=long.img"], 1), (["--test=0=needing.img", "--precursor=flash"], 1),
+            (both, 1), ([*both, "--precursor=flash"], 1), (["--test=0=one.img"], 0),
         ]:
-            plain, strict = (self.run_program(make_manifest(*options, *more)) for more in ([], ["--strict"]))
-            wanted = (status, *plain[1:])
-            faults = [] if (plain[0], strict) == (0, wanted) else [f"{short(strict)}, and not {short(wanted)}"]
-            faults += [] if plain[1].startswith(b"{") else [short(plain[1])]
-            self.case(f"make-manifest --strict: {name}", faults)
+            with self.subTest(" ".join(options)):
+                usual = self.run_program(make_manifest(*options))
+                self.assertEqual((status, *usual[1:]), self.run_program(make_manifest(*options, "--strict")))
