@@ -3,15 +3,14 @@
 import os
 import subprocess
 
-from support.files import EXAMPLES, ONE, PAIR, ROOT
+from support.every_command import EVERY
+from support.files import EXAMPLES, ONE, PAIR, ROOT, read
+from support.printed import error
 from support.program import LIMIT, ProgramTest, shown
 
 SCRIPT = f"{EXAMPLES}/scripts/interrupted.txt"
-THREE = f"{EXAMPLES}/tables/three.txt"
-NOT_OF_CORE = (1, b"", b"error: not in the core of bootswap\n")
 
-# What both answer alike, with the standard input: each command of the core, with good and bad files; help; wrong
-# arguments.
+# What both answer alike, with the standard input: commands of the core, with good and bad files; help; wrong arguments.
 ALIKE = [
     (["provision", PAIR, "flash", ONE, ONE], b""),
     (["run", PAIR, "flash", SCRIPT], b""),
@@ -24,48 +23,22 @@ ALIKE = [
     (["run", PAIR, ONE, "-"], b"boot\n"),
     (["provision", PAIR, "other", ONE], b""),
     (["provision", PAIR, "other", "-", "nowhere"], b"no image"),
-    (["--version"], b""),
-    (["--help"], b""),
-    (["-h"], b""),
+    *(([it], b"") for it in ("--version", "--help", "-h", "nothing")),
+    *(([it.name, "--help"], b"") for it in EVERY),
     (["help", "slots"], b""),
-    (["sweep", "--help"], b""),
-    (["choose", "-h"], b""),
-    (["run", "--help"], b""),
-    (["nothing"], b""),
     (["show", PAIR], b""),
     (["run", PAIR, "flash"], b""),
     (["run", PAIR, "flash", SCRIPT, "more"], b""),
     (["provision", PAIR, "-", ONE, ONE], b""),
-    (["provision", PAIR, "other"], b""),
     (["run", PAIR, "flash\x1b", "--all\x1b"], b""),
 ]
 
-# What the core refuses.
-MORE = [
-    ["choose", THREE],
-    ["check", THREE, "-"],
-    ["check", "-", "-"],
-    ["plan", "-"],
-    ["plan", "--merge", "absent"],
-    ["image", ONE],
-    ["manifest", PAIR, f"{EXAMPLES}/manifests/both.json"],
-    ["show", PAIR, "flash"],
-    ["slots", PAIR, "flash"],
-    ["codes"],
-    ["make-device", "--sector", "512", "--slots", "2,2", "--vendor", "example.com", "--class", "one"],
-    ["make-image", "own", ONE, "--version", "1"],
-    ["make-manifest", PAIR, "--sequence", "1", "--test", f"0={ONE}"],
-    ["extract", PAIR, "flash", "0", "primary", "own"],
-    ["sweep", PAIR, SCRIPT, ONE, ONE],
-    ["sweep", PAIR, SCRIPT, ONE, "--sample", "many"],
-    ["run", PAIR, "flash", SCRIPT, "--explain"],
-    ["run", PAIR, "flash", SCRIPT, "--json"],
-]
+# What the core refuses besides: wrong arguments of other commands, and options.
+MORE = [["check", "-", "-"], ["sweep", PAIR, SCRIPT, ONE, "--sample", "many"]]
+MORE += [["run", PAIR, "flash", SCRIPT, "--explain"], ["run", PAIR, "flash", SCRIPT, "--json"]]
 
 
 class CoreTest(ProgramTest):
-    """The core, beside the complete program: each in a folder of its own."""
-
     runs_once = True
 
     def setUp(self):
@@ -73,33 +46,24 @@ class CoreTest(ProgramTest):
         self.core = os.environ.get("BOOTSWAP_CORE") or f"{ROOT}/out/bootswap_core"
         if not os.access(self.core, os.X_OK):
             self.skipTest(f"there is no {self.core}: `./bootswap help` builds it in a clone in which nothing is built")
-        self.folders = [self.folder_of(name) for name in ("whole", "core")]
 
-    def folder_of(self, name):
-        """Makes the folder of a program, from which scripts name the examples as from the root of the repository."""
-        folder = f"{self.folder}/{name}"
-        os.mkdir(folder)
-        os.symlink(EXAMPLES, f"{folder}/examples")
-        return folder
+    def end_of(self, program, arguments, given=b""):
+        """Runs a program in a folder of its own, and returns how it ends and the contents of the flash after that."""
+        folder = f"{self.folder}/{os.path.basename(program)}"
+        if not os.path.exists(folder):
+            os.mkdir(folder)
+            # Scripts name files relative to the root of the repository.
+            os.symlink(EXAMPLES, f"{folder}/examples")
+        ran = subprocess.run([program, *arguments], input=given, capture_output=True, cwd=folder, timeout=LIMIT)
+        flash = f"{folder}/flash"
+        return (ran.returncode, ran.stdout, ran.stderr), read(flash) if os.path.exists(flash) else None
 
-    def test_answers_as_the_whole(self):
+    def test_answers_as_the_complete_program(self):
         for arguments, given in ALIKE:
-            whole, core = (end_of(it, arguments, given, at) for it, at in zip((self.program, self.core), self.folders))
-            faults = [] if whole == core else [f"{core[:3]}, and the complete program {whole[:3]}"]
-            self.case(f"the core as the whole: {shown(arguments)}{f', given {given!r}' if given else ''}", faults)
+            with self.subTest(f"{shown(arguments)} {given}"):
+                self.assertEqual(*(self.end_of(it, arguments, given) for it in (self.program, self.core)))
 
     def test_refuses_other_commands(self):
-        for arguments in MORE:
-            *got, _ = end_of(self.core, arguments, b"", self.folders[1])
-            self.case(f"not of the core: {shown(arguments)}", [] if tuple(got) == NOT_OF_CORE else [f"{got}"])
-
-
-def end_of(program, arguments, given, folder):
-    """Runs a program in a folder, and returns its exit status, its outputs, and the contents of the flash after that."""
-    ran = subprocess.run([program, *arguments], input=given, capture_output=True, cwd=folder, timeout=LIMIT)
-    try:
-        with open(f"{folder}/flash", "rb") as it:
-            flash = it.read()
-    except FileNotFoundError:
-        flash = None
-    return ran.returncode, ran.stdout, ran.stderr, flash
+        for arguments in [*(it.arguments() for it in EVERY if it.name not in ("provision", "run")), *MORE]:
+            with self.subTest(shown(arguments)):
+                self.assertEqual((error("not in the core of bootswap"), None), self.end_of(self.core, arguments))
