@@ -1,5 +1,6 @@
 """The arguments of commands that several tests run."""
 
+from support.every_command import EVERY
 from support.files import EXAMPLES, ONE, PAIR, read
 
 
@@ -10,8 +11,7 @@ def make_device(sector, slots, vendor, name, *boots):
     return arguments + [it for many in boots for it in ("--trial-boots", str(many))]
 
 
-COMMANDS = ("choose", "check", "plan", "image", "manifest", "make-device", "make-image", "make-manifest", "provision")
-COMMANDS += ("extract", "show", "slots", "run", "sweep", "codes")
+COMMANDS = tuple(it.name for it in EVERY)
 
 
 def make_manifest(*options, of=PAIR, sequence=1):

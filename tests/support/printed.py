@@ -1,50 +1,27 @@
-"""Texts that several tests expect: error lines, notes and usages."""
+"""How runs end, and other texts that several tests expect."""
 
 from support.builders import ABC, CLASS, VENDOR
-
-# The sentences that report options of `make-image` that can't be read, and such options.
-UNREADABLE = {
-    "`--version` is `major.minor.revision+build`, such as 1.4.2+7, up to 255.255.65535+4294967295; last parts may be left"
-    " out": ["--version=", "--version=1.0.0.0", "--version=256", "--version=300.0.0", "--version=01", "--version=v1"],
-    "`--counter` is a number, in digits, below 4294967296": [
-        "--counter=", "--counter=4294967296", "--security-counter=+1", "--counter=0x1"
-    ],
-    "`--header-size` is a number of bytes, 32 to 65535, such as 512, 0x200 or 1k": [
-        "--header-size=65536", "--header-size=x", "--header-size=64k", "--header-size=0x10000", "--header-size=1M",
-    ],
-    "`--load-address` is an address, 0 to 4294967295, such as 131072, 0x20000 or 128k": [
-        "--load-address=4294967296", "--load-addr=4096M", "--load-address=0x100000000", "--load-addr=4194304k",
-        "--load-address=0x", "--load-address=",
-    ],
-    "`--flags` is a number, 0 to 4294967295, such as 16 or 0x10": ["--flags=00", "--flags=0x1g", "--flags=-1"],
-    "`--needs` is the number of an image and a version, in one word: '1 2.0.0'": [
-        "--needs=", "--needs=1", "--needs=1 ", "--needs=1  2.0.0", "--needs= 1 2.0.0", "--needs=256 2.0.0",
-        "--needs=1 2.0.0 2 2.0.0", "--needs=1 2.0.x", "--needs=1,2.0.0",
-    ],
-    "`--dependencies` is the number of an image and a version, in brackets: '(1, 2.0.0)'": [
-        "--dependencies=", "--dependencies=()", "--dependencies=1, 2.0.0", "--dependencies=(1, 2.0.0",
-        "--dependencies=1, 2.0.0)", "--dependencies=(1,  2.0.0)", "--dependencies=(1 2.0.0)", "--dependencies=( 1,2)",
-        "--dependencies=(256, 2.0.0)", "--dependencies=(1, 2.0.x)", "--dependencies=(1, 2.0.0)(2, 2.0.0)",
-    ],
-    "`--needs-one` is numbers of images, each with a version, in one word: '1 2.0.0 2 2.0.0'": [
-        "--needs-one=", "--needs-one=1 2.0.0 2", "--needs-one=1 2.0.0 2 2.0.0 ", "--needs-one=1 2.0.0 x 2.0.0",
-        "--needs-one=1 2.0.0 2 65536.0",
-    ],
-}
-
-IMAGE_USAGE = """
-
-Usage: bootswap make-image [OPTIONS] --version <VERSION> <OUT> <BODY>
-
-For more information, try '--help'.
-"""
-
-RUN_USAGE = "run [OPTIONS] <DEVICE> <FLASH> <SCRIPT>"
 
 # Error lines.
 CANNOT_MAKE = b"error: flash file\n"
 IN_USE = b"error: flash in use\n"
 ABSENT = b"error: cannot read absent\n"
+
+
+# How a run ends: its status, its output, and its errors.
+DONE = (0, b"done\n", b"")
+
+
+def error(text, status=1):
+    return status, b"", f"error: {text}\n".encode()
+
+
+def refused(text):
+    return 1, f"refused {text}\n".encode(), b""
+
+
+def wrong_usage(fault, usage):
+    return error(f"{fault}\n\nUsage: bootswap {usage}\n\nFor more information, try '--help'.", 2)
 
 
 def note_lines(*lines):

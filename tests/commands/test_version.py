@@ -7,10 +7,11 @@ import subprocess
 import sys
 import tempfile
 import time
+import unittest
 import unittest.mock
 
 from support.files import ROOT, read
-from support.program import CaseTest, ProgramTest, short
+from support.program import ProgramTest
 
 sys.path.insert(0, f"{ROOT}/tools")
 
@@ -45,48 +46,45 @@ def text_of(file):
     return read(f"{ROOT}/{file}").decode()
 
 
-class VersionTest(CaseTest):
+class VersionTest(unittest.TestCase):
     """The version in files of the repository."""
 
-    def test_places(self):
-        """The version of the header is in each of these places."""
+    def test_places_have_the_version_of_the_header(self):
         for file, before, after in PLACES:
-            wanted = before + version() + after
-            self.case(f"the version in {file}", [] if wanted in text_of(file) else [f"no {wanted}"])
+            with self.subTest(file):
+                self.assertIn(before + version() + after, text_of(file))
         shared = re.search(r'^SHARED_NAME = "(.*)"$', text_of("bindings/python/bootswap.py"), re.MULTILINE)[1]
-        self.case("Python's name of the library", [shared] * (shared != f"libbootswap.so.{major()}"))
+        self.assertEqual(f"libbootswap.so.{major()}", shared)
 
-    def test_changelog(self):
-        """The last release of the changelog is this version, on the day that manual pages have."""
-        day = re.search(r'^const EDITION: &str = " 1 (\S*) ', text_of("crates/arguments/src/manual/page.rt"), re.MULTILINE)[1]
+    def test_last_release_is_that_of_the_changelogs(self):
+        """Its day is that of the manual pages."""
+        page = text_of("crates/arguments/src/manual/page.rt")
+        day = re.search(r'^const EDITION: &str = " 1 (\S*) ', page, re.MULTILINE)[1]
         last = re.search(r"^## \[\d.*$", text_of("CHANGELOG.md"), re.MULTILINE)[0]
-        self.case("the last release", [last] * (last != f"## [{version()}] - {day}"))
+        self.assertEqual(f"## [{version()}] - {day}", last)
         entry = text_of("debian/changelog").partition("\n\nbootswap ")[0]
-        version_of, day_of = re.fullmatch(r"bootswap \((.*)\) .*>  (.*) 00:00:00 \+0000", entry, re.DOTALL).groups()
-        wanted = f"{version()}-1", time.strftime("%a, %d %b %Y", time.strptime(day, "%Y-%m-%d"))
-        self.case("that of Debian's packages", [f"{version_of}, {day_of}"] * ((version_of, day_of) != wanted))
+        found = re.fullmatch(r"bootswap \((.*)\) .*>  (.*) 00:00:00 \+0000", entry, re.DOTALL).groups()
+        self.assertEqual((f"{version()}-1", time.strftime("%a, %d %b %Y", time.strptime(day, "%Y-%m-%d"))), found)
 
 
 class PrintedVersionTest(ProgramTest):
-    """The version that the program prints."""
-
-    def test_printed(self):
-        """`--version` prints the version and the commit in the program, and a manual page the version alone."""
+    def test_program_prints_its_version_and_commit(self):
         printed = self.version()
-        known = re.fullmatch(re.escape(version()) + r"[ +]\([0-9a-f]{12}\)", printed)
-        self.case("the version in the program", [] if known else [printed])
+        self.assertRegex(printed, r"\A" + re.escape(version()) + r"[ +]\([0-9a-f]{12}\)\Z")
         for word in ("--version", "-V"):
-            self.expect(f"bootswap {word}", [word], 0, f"bootswap {printed}\n".encode())
-        _, page, _ = self.run_program(["help", "man"])
-        self.case("the version of the page", [] if f' "bootswap {version()}"\n'.encode() in page else [short(page[:100])])
+            self.assertEqual((0, f"bootswap {printed}\n".encode(), b""), self.run_program([word]))
+
+    def test_manual_page_has_the_version_alone(self):
+        self.assertIn(f' "bootswap {version()}"\n'.encode(), self.run_program(["help", "man"])[1])
 
 
-class WrittenCommitTest(CaseTest):
+class WrittenCommitTest(unittest.TestCase):
     """A commit that is written into a program."""
 
     def setUp(self):
-        self.folder = tempfile.mkdtemp(prefix="bootswap-test-")
-        self.addCleanup(shutil.rmtree, self.folder, ignore_errors=True)
+        folder = tempfile.TemporaryDirectory()
+        self.addCleanup(folder.cleanup)
+        self.folder = folder.name
 
     def program(self, text):
         """Makes a file with a text between other bytes."""
@@ -94,39 +92,36 @@ class WrittenCommitTest(CaseTest):
             it.write(b"\x7fELF\x00(" + text + b"\x00\xff")
         return it.name
 
-    def test_written(self):
-        """The commit is written in the one place, over zeros or an earlier commit, and nothing else changes."""
+    def test_commit_replaces_zeros_or_another(self):
+        """Nothing else is changed."""
         for before in (b"1.0.0 (000000000000)", b"1.0.0 (ba9876543210)", b"1.0.0+(ba9876543210)"):
             for differs, after in ((False, b"1.0.0 (0123456789ab)"), (True, b"1.0.0+(0123456789ab)")):
-                program = self.program(before)
-                done = write_commit(program, COMMIT, differs)
-                got = read(program)
-                wanted = b"\x7fELF\x00(" + after + b"\x00\xff"
-                self.case(f"{before} to {after}", [] if done and got == wanted else [f"{done} {short(got)}"])
-                self.case(f"{after} is read", [] if version_in(program) == after.decode() else [version_in(program)])
+                with self.subTest(f"{before} to {after}"):
+                    program = self.program(before)
+                    self.assertTrue(write_commit(program, COMMIT, differs))
+                    self.assertEqual(b"\x7fELF\x00(" + after + b"\x00\xff", read(program))
+                    self.assertEqual(after.decode(), version_in(program))
 
-    def test_no_place(self):
-        """A program without a place, or with two, isn't changed."""
+    def test_program_without_one_place_is_not_changed(self):
         place = b"1.0.0 (000000000000)"
         for text in (b"", b"1.0.0", b"1.0.0 (00000000000)", b"1.0.0 (0000000000000)", b"000000000000", place + place):
-            program = self.program(text)
-            before = read(program)
-            done = write_commit(program, COMMIT)
-            self.case(f"without one place: {text}", [] if not done and read(program) == before else [short(read(program))])
+            with self.subTest(f"{text}"):
+                program = self.program(text)
+                before = read(program)
+                self.assertFalse(write_commit(program, COMMIT))
+                self.assertEqual(before, read(program))
 
-    def test_linked(self):
-        """A build writes its commit into the program that it links, and fails if there is no place. Outside a clone it
-        writes nothing."""
+    def test_build_writes_its_commit(self):
+        """It fails if the program has no place for it. Outside a clone it writes nothing."""
         zeros = b"1.0.0 (000000000000)"
         for commit, linked, wanted in [
             ((COMMIT, False), zeros, (0, b"1.0.0 (0123456789ab)")),
             ((COMMIT, True), zeros, (0, b"1.0.0+(0123456789ab)")),
             (None, zeros, (0, zeros)),
-            (None, b"", (0, b"")),
             ((COMMIT, False), b"", (1, b"")),
         ]:
-            status, program = self.link(commit, linked)
-            self.case(f"{linked} of {commit}", [] if (status, program) == wanted else [f"{status} {short(program)}"])
+            with self.subTest(f"{linked} of {commit}"):
+                self.assertEqual(wanted, self.link(commit, linked))
 
     def link(self, commit, linked):
         """Has a build of a commit link a program, for which the linker writes this, and returns the status and the
@@ -146,13 +141,13 @@ class WrittenCommitTest(CaseTest):
         return status, read(f"{self.folder}/a_program")
 
 
-class CommitTest(CaseTest):
+class CommitTest(unittest.TestCase):
     """What the tools know of the commit of a clone."""
 
     def setUp(self):
-        self.folder = tempfile.mkdtemp(prefix="bootswap-test-")
-        self.addCleanup(shutil.rmtree, self.folder, ignore_errors=True)
-        self.clone = f"{self.folder}/clone"
+        folder = tempfile.TemporaryDirectory()
+        self.addCleanup(folder.cleanup)
+        self.clone = f"{folder.name}/clone"
         for name in ("tools/commits.py", "docs/page", "crates/one/src/lib.rt", "crates.txt", ".gitignore"):
             self.write(name, text_of(name) if name.startswith("tools/") else "out/\n")
 
@@ -167,31 +162,37 @@ class CommitTest(CaseTest):
         done = subprocess.run(["git", "-C", self.clone, *author, *words], check=True, capture_output=True, text=True)
         return done.stdout.strip()
 
-    def expect(self, case, wanted, **how):
-        """A case: the tools know this."""
+    def known(self, **how):
         words = [sys.executable, "-c", ASKS]
-        got = subprocess.run(words, cwd=self.clone, capture_output=True, text=True, **how).stdout.strip()
-        self.case(case, [got] * (got != str(wanted)))
+        return subprocess.run(words, cwd=self.clone, capture_output=True, text=True, **how).stdout.strip()
 
-    def test_commit(self):
-        """The commit is known, and whether the crates differ from it. That of a folder around the clone doesn't count."""
-        self.expect("no clone", None)
+    def commit(self):
         self.git("init", "--quiet")
-        self.expect("no commit", None)
         self.git("add", "--all")
         self.git("commit", "--quiet", "--message", "all")
-        commit = self.git("rev-parse", "HEAD")
-        self.expect("a clone", (commit, False))
-        self.expect("without git", None, env={"PATH": self.folder})
-        self.write("docs/page", "another\n")
-        self.write("crates/one/out/library", "built\n")
-        self.expect("another page, and something built", (commit, False))
-        for name in ("crates/one/src/lib.rt", "crates/one/src/more.rt", "crates.txt"):
-            self.write(name, "another\n")
-            self.expect(f"another {name}", (commit, True))
-            self.git("stash", "--quiet", "--include-untracked")
-        os.remove(f"{self.clone}/crates.txt")
-        self.expect("a file less", (commit, True))
+        return self.git("rev-parse", "HEAD")
+
+    def test_no_commit_is_known(self):
+        """There is no clone, no commit in it, no git, or the clone is around this folder."""
+        self.assertEqual("None", self.known())
+        self.git("init", "--quiet")
+        self.assertEqual("None", self.known())
+        self.commit()
+        self.assertEqual("None", self.known(env={"PATH": self.clone}))
         around, self.clone = self.clone, f"{self.clone}/inside"
         shutil.copytree(f"{around}/tools", f"{self.clone}/tools")
-        self.expect("a folder of a clone", None)
+        self.assertEqual("None", self.known())
+
+    def test_crates_differ_from_the_commit(self):
+        """A page, or something built, makes no difference."""
+        commit = self.commit()
+        self.write("docs/page", "another\n")
+        self.write("crates/one/out/library", "built\n")
+        self.assertEqual(f"{(commit, False)}", self.known())
+        for name in ("crates/one/src/lib.rt", "crates/one/src/more.rt", "crates.txt"):
+            with self.subTest(name):
+                self.write(name, "another\n")
+                self.assertEqual(f"{(commit, True)}", self.known())
+                self.git("stash", "--quiet", "--include-untracked")
+        os.remove(f"{self.clone}/crates.txt")
+        self.assertEqual(f"{(commit, True)}", self.known())

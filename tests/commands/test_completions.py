@@ -1,17 +1,15 @@
-"""Completion scripts, asked in each shell."""
+"""The words that the completion scripts offer in each shell."""
 
+import contextlib
 import os
+import re
 import shutil
 import subprocess
 
-from support.commands import COMMANDS
-from support.program import ProgramTest, short
-
-SHELLS = ("bash", "zsh", "fish")
-TOPICS = (*COMMANDS, "man", "completions")
+from support.files import read
+from support.program import ProgramTest
 
 # What is offered for the last of these words, in a folder with the files `one.img`, `two.img` and the folder `made`.
-FILES = ("made/", "one.img", "two.img")
 OFFERED = {
     ("ch",): ("check", "choose"),
     ("p",): ("plan", "provision"),
@@ -63,8 +61,6 @@ zpty -d shell
 
 
 class CompletionsTest(ProgramTest):
-    """The completion scripts."""
-
     def setUp(self):
         super().setUp()
         os.remove(f"{self.folder}/examples")
@@ -74,11 +70,13 @@ class CompletionsTest(ProgramTest):
             with open(f"{self.place}/{name}", "wb"):
                 pass
 
-    def script(self, shell):
+    def write_script(self, shell):
         """Writes the script of a shell to the file `script`, out of sight of the completions of files."""
+        if not shutil.which(shell):
+            self.skipTest(f"there is no {shell}")
         status, out, err = self.run_program(["help", "completions", shell])
-        self.assertEqual((status, err), (0, b""), shell)
-        return self.file("script", out)
+        self.assertEqual((0, b""), (status, err))
+        self.file("script", out)
 
     def asked(self, words):
         """Runs a shell where files are completed, and returns what it prints."""
@@ -93,57 +91,46 @@ class CompletionsTest(ProgramTest):
         )
         return ran.stdout.decode(), ran.stderr.decode()
 
-    def need(self, shell):
-        if not shutil.which(shell):
-            self.skipTest(f"there is no {shell}")
+    def assert_offered(self, offered, found):
+        self.assertEqual({it.rstrip("/") for it in offered}, {it.rstrip("/") for it in found.split("\n") if it})
 
     def test_bash(self):
-        """bash offers these words."""
-        self.need("bash")
-        self.script("bash")
+        self.write_script("bash")
         for words, offered in OFFERED.items():
-            out, err = self.asked(["bash", "--norc", "-c", BASH, "bash", *words])
-            found = tuple(sorted(it for it in out.split("\n") if it))
-            expected = tuple(it.rstrip("/") for it in offered)
-            self.case(f"bash: {words}", [] if (found, err) == (expected, "") else [found, err])
+            with self.subTest(f"{words}"):
+                out, err = self.asked(["bash", "--norc", "-c", BASH, "bash", *words])
+                self.assertEqual("", err)
+                self.assert_offered(offered, out)
 
     def test_fish(self):
-        """fish offers these words."""
-        self.need("fish")
-        self.script("fish")
+        self.write_script("fish")
         for words, offered in OFFERED.items():
-            if words[0] == "nonsense":
-                continue
-            line = " ".join(["bootswap", *words])
-            out, err = self.asked(["fish", "--no-config", "-c", f"source ../script; complete -C '{line}'"])
-            found = tuple(sorted(it.partition("\t")[0] for it in out.split("\n") if it))
-            self.case(f"fish: {words}", [] if (found, err) == (offered, "") else [found, err])
+            if words[0] != "nonsense":
+                with self.subTest(f"{words}"):
+                    line = " ".join(["bootswap", *words])
+                    out, err = self.asked(["fish", "--no-config", "-c", f"source ../script; complete -C '{line}'"])
+                    self.assertEqual("", err)
+                    self.assert_offered(offered, re.sub(r"\t.*", "", out))
 
     def test_zsh(self):
-        """zsh offers these words."""
-        self.need("zsh")
-        self.script("zsh")
-        self.case("zsh reads the script", [it for it in self.asked(["zsh", "-n", "../script"]) if it])
+        self.write_script("zsh")
+        self.assertEqual(("", ""), self.asked(["zsh", "-n", "../script"]))
         for words, offered in OFFERED.items():
-            for name in ("ready", "asked", "offered"):
-                self.file(name, b"")
-                os.remove(f"{self.folder}/{name}")
-            _, err = self.asked(["zsh", "-f", "-c", ZSH, "zsh", " ".join(words)])
-            with open(f"{self.folder}/offered", encoding="utf-8") as it:
-                found = tuple(sorted({it for it in it.read().split("\n") if it}))
-            expected = tuple(it.rstrip("/") for it in offered)
-            self.case(f"zsh: {words}", [] if (found, err) == (expected, "") else [found, err])
+            with self.subTest(f"{words}"):
+                for name in ("ready", "asked", "offered"):
+                    with contextlib.suppress(FileNotFoundError):
+                        os.remove(f"{self.folder}/{name}")
+                _, err = self.asked(["zsh", "-f", "-c", ZSH, "zsh", " ".join(words)])
+                self.assertEqual("", err)
+                self.assert_offered(offered, read(f"{self.folder}/offered").decode())
 
-    def test_unknown(self):
-        """A shell that there isn't is answered as a command is that there isn't. So is a word too many."""
+    def test_other_shell_is_refused_as_another_command_is(self):
         for arguments, wrong in [(["nonsense"], "nonsense"), (["BASH"], "BASH"), (["zsh", "more"], "more")]:
-            ends = self.run_program(["help", "completions", *arguments])
-            expected = self.run_program(["help", wrong])
-            fine = ends == expected and ends[:2] == (2, b"")
-            self.case(f"no script: {arguments}", [] if fine else [short(ends[2]), short(expected[2])])
+            end = self.run_program(["help", "completions", *arguments])
+            self.assertEqual((2, b""), end[:2])
+            self.assertEqual(self.run_program(["help", wrong]), end)
 
-    def test_no_shell(self):
-        """Without a shell the fault names those that there are."""
+    def test_shells_are_named_if_none_is(self):
         status, out, err = self.run_program(["help", "completions"])
-        fine = (status, out) == (2, b"") and b"bash, zsh or fish" in err
-        self.case("no shell", [] if fine else [f"{status} {short(err)}"])
+        self.assertEqual((2, b""), (status, out))
+        self.assertIn(b"bash, zsh or fish", err)

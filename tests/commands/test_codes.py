@@ -1,10 +1,10 @@
-"""That `codes` lists each refusal that the code and docs/FORMATS.md have."""
+"""The list of `codes`, beside those of the source and of docs/FORMATS.md."""
 
 import os
 import re
 
 from support.files import ROOT, read
-from support.program import ProgramTest, short
+from support.program import ProgramTest
 
 
 def words_of(text):
@@ -43,25 +43,21 @@ def numbers_of(crate, kind):
 
 
 class CodesTest(ProgramTest):
-    """The list of `codes`."""
+    def setUp(self):
+        super().setUp()
+        status, self.out, err = self.run_program(["codes"])
+        self.assertEqual((0, b""), (status, err))
 
-    def test_codes_of_the_formats(self):
-        """docs/FORMATS.md has the lists that `codes` and its help print, and no other."""
-        status, out, err = self.run_program(["codes"])
-        self.case("codes: its status", [] if (status, err) == (0, b"") else [f"{status} {short(err)}"])
-        lists = {words_of(it.partition("\n")[2]) for it in out.decode().split("\n\n")[1:]}
-        self.case("codes: its lists", [] if len(lists) == 7 else [f"{len(lists)} lists"])
-        self.case("codes: those of docs/FORMATS.md", sorted(lists ^ lists_of_the_formats()))
-        status, help_text, err = self.run_program(["help", "codes"])
-        is_right = (status, err) == (0, b"") and out in help_text
-        self.case("help codes", [] if is_right else [f"{status} {short(help_text)}"])
+    def test_formats_and_help_have_the_lists(self):
+        lists = {words_of(it.partition("\n")[2]) for it in self.out.decode().split("\n\n")[1:]}
+        self.assertEqual(7, len(lists))
+        self.assertEqual(lists_of_the_formats(), lists)
+        self.assertIn(self.out, self.run_program(["help", "codes"])[1])
 
-    def test_codes_of_the_source(self):
-        """`codes` lists each refusal of the source in ascending order, and no other."""
-        out = self.run_program(["codes"])[1].decode()
+    def test_refusals_of_the_source_are_listed_in_order(self):
         for head, (crate, kind) in LISTS.items():
-            listed = re.search(rf"^{head}[,: ].*\n((?:.+\n)*)", out, re.MULTILINE)
-            rows = re.findall(r"^ {2,3}(\d+) (\w+) ", listed[1] if listed else "", re.MULTILINE)
-            found, wanted = [(int(number), name) for number, name in rows], numbers_of(crate, kind)
-            is_so = wanted and found == wanted
-            self.case(f"codes: all of {kind}, in order", [] if is_so else [f"{found}, and not {wanted}"])
+            with self.subTest(kind):
+                listed = re.search(rf"^{head}[,: ].*\n((?:.+\n)*)", self.out.decode(), re.MULTILINE)
+                rows = re.findall(r"^ {2,3}(\d+) (\w+) ", listed[1], re.MULTILINE)
+                self.assertTrue(rows)
+                self.assertEqual(numbers_of(crate, kind), [(int(number), name) for number, name in rows])

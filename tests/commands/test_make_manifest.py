@@ -1,0 +1,257 @@
+"""Which manifests `make-manifest` prints, and what it notes and refuses."""
+
+import fcntl
+import hashlib
+import json
+
+from support.builders import component, device, image, manifest, version
+from support.commands import make_manifest
+from support.files import EXAMPLES, ONE, PAIR, read
+from support.flashes import flash_of
+from support.printed import OF_ABC, error, note_lines, refused
+from support.program import ProgramTest
+from support.stories import IMAGES, UPLOADED, flash_in, new_device, run_of
+
+NEEDING, PARTNER = f"{EXAMPLES}/images/needing.img", f"{EXAMPLES}/images/partner.img"
+NO_IMAGE = note_lines(b"abc is no intact image: 1 Short")
+BOTH_KINDS = note_lines(b"a boot tries these images as a set: those of --permanent revert too unless each is confirmed")
+
+
+def digest_of(whole):
+    return hashlib.sha256(whole).hexdigest()
+
+
+class MakeManifestTest(ProgramTest):
+    def assert_makes(self, value, notes, arguments, **how):
+        """The run prints a JSON text of this value, which is returned, and these notes."""
+        status, out, err = self.run_program(arguments, **how)
+        self.assertEqual((0, json.loads(value), notes), (status, json.loads(out), err))
+        return self.file("made.json", out)
+
+    def test_text_of_a_manifest(self):
+        self.file("abc", b"abc")
+        self.assertEqual((0, OF_ABC, NO_IMAGE), self.run_program(make_manifest("--permanent=1=abc", sequence=7)))
+        end = (0, OF_ABC, NO_IMAGE.replace(b"abc", b"-"))
+        self.assertEqual(end, self.run_program(make_manifest("--permanent=1=-", sequence=7), given=b"abc"))
+
+    def test_manifest_of_the_example(self):
+        arguments = make_manifest(f"--test=0={NEEDING}", f"--test=1={PARTNER}")
+        made = self.assert_makes(read(f"{EXAMPLES}/manifests/trial.json"), b"", arguments)
+        self.assertEqual((0, read(f"{EXAMPLES}/listings/trial.txt"), b""), self.run_program(["manifest", PAIR, made]))
+
+    def test_files_for_a_test_come_first(self):
+        self.file("abc", b"abc")
+        self.file("a=b", b"abc")
+        value = manifest(components=[component(component_id=1), component(kind="permanent")], sequence_number=2**32 - 1)
+        notes = NO_IMAGE + NO_IMAGE.replace(b"abc is", b"a=b is") + BOTH_KINDS
+        arguments = make_manifest("--permanent=0=a=b", "--test=1=abc", sequence=2**32 - 1)
+        self.assert_makes(value, notes, arguments)
+
+    def test_file_for_each_of_eight_images(self):
+        eight = self.file("eight.json", device(sectors=8 * [2]))
+        several = [component(component_id=it, payload_digest=digest_of(read(ONE)), size=76) for it in range(8)]
+        arguments = make_manifest(*(f"--test={it}={ONE}" for it in range(8)), of=eight)
+        self.assert_makes(manifest(components=several), b"", arguments)
+
+    def test_precursors(self):
+        """With a flash, a manifest names the running images, and only a device that runs them accepts it."""
+        whole = flash_of(self)
+        asked = {"size": 96, "precursor_digest": read(f"{EXAMPLES}/descriptions/one.txt").split()[7].decode()}
+        digests = map(digest_of, map(read, (NEEDING, PARTNER)))
+        wanted = [component(component_id=at, payload_digest=it, **asked) for at, it in enumerate(digests)]
+        files = f"--test=0={NEEDING}", f"--test=1={PARTNER}"
+        made = self.assert_makes(manifest(components=wanted), b"", make_manifest("--precursor=flash", *files))
+        self.assert_makes(manifest(components=wanted), b"", make_manifest("--precursor=-", *files), given=whole)
+        upload = f"boot, accept {made}, piece 0 {NEEDING}, piece 1 {PARTNER}, finish 0, finish 1, boot"
+        self.assertEqual(0, run_of(self, f"{upload}, confirm 0, confirm 1")[0])
+        out = run_of(self, f"boot, accept {made}")[1]
+        self.assertTrue(out.endswith(b"\n2 refused upload 8 WrongPrecursor\n"))
+
+    def test_flash_that_is_no_precursor(self):
+        whole = flash_of(self)
+        files = f"--test=0={NEEDING}", f"--test=1={PARTNER}"
+        self.file("damaged", whole[:1576] + b"x" + whole[1577:])
+        arguments = make_manifest("--precursor=damaged", *files)
+        self.assertEqual(refused("boot 5 RunningDamaged 1"), self.run_program(arguments))
+        # Image 0 is intact.
+        self.assertEqual(0, self.run_program(make_manifest("--precursor=damaged", files[0]))[0])
+        for name, contents in [("short", whole[:-1]), ("long", whole + b"x")]:
+            arguments = make_manifest(f"--precursor={self.file(name, contents)}", files[0])
+            self.assertEqual(error("flash size"), self.run_program(arguments))
+        with open(f"{self.folder}/flash", "rb") as held:
+            fcntl.flock(held, fcntl.LOCK_EX)
+            self.assertEqual(error("flash in use"), self.run_program(make_manifest("--precursor=flash", files[0])))
+
+    def test_images_that_no_manifest_may_have(self):
+        """They are refused before a file is read."""
+        again = ["--test=0=a", "--permanent=0=a"]
+        for options, end in [
+            (["--test=2=absent"], refused("6 NoComponent")),
+            ([*again, "--test=255=a"], refused("6 NoComponent")),
+            ([*again, "--precursor=absent"], refused("7 RepeatedComponent")),
+            ([f"--test=0={ONE}", "--test=1=absent"], error("cannot read absent")),
+        ]:
+            with self.subTest(" ".join(options)):
+                self.assertEqual(end, self.run_program(make_manifest(*options)))
+
+
+# The notes on the state of a device.
+TRYING = note_lines(b"a set of images is on trial: the device takes no uploads until a boot ends the trial")
+LOWER = "note: the device accepted a manifest of sequence number %d, and refuses a lower one\n"
+
+# Events that request image 0, and events that raise its floor to 5.
+FIRST_COMES = "boot, accept first.json, piece 0 needing.img, finish 0"
+FLOOR_RAISED = "boot, accept patched.json, piece 0 patched.img, finish 0, boot"
+
+
+def own_note(name, number):
+    """The note on a file whose image needs the image that it is."""
+    text = f"{name} is for image {number} and needs image {number}, which is itself: it may be the file of another"
+    return note_lines(f"{text} image".encode())
+
+
+def refused_note(number, reason):
+    """The note for an image that the next boot of the flash would refuse."""
+    return note_lines(f"a boot would refuse image {number}: {reason}".encode())
+
+
+def on(number, major=1):
+    """The entry of a dependency on an image from a version on."""
+    return 0x40, bytes([number, 0, 0, 0, major, 0, 0, 0, 0, 0, 0, 0])
+
+
+def one_of(*numbers):
+    """The entry of a group of images, each from version 1.0.0+0 on."""
+    return 0xA0, b"".join(on(it)[1] for it in numbers)
+
+
+# What image 0 of two needs, whether it needs this image, and why no boot can take it.
+NEVER_TAKEN = [
+    ([on(2)], False, "no-such-image 2"),
+    ([on(1), on(255), on(2)], False, "no-such-image 255"),
+    ([on(0, 3)], True, "needs 0 3.0.0+0"),
+    ([one_of(1, 0), one_of(2, 7)], True, "needs-one 2 1.0.0+0 7 1.0.0+0"),
+    ([on(0, 2)], True, None),
+    ([on(1, 255)], False, None),
+    ([one_of(2, 1)], False, None),
+]
+
+# Requests on the flash of a device, files that could come next, and the notes for them.
+NEXT_BOOTS = [
+    ("", ["--test=0=needing.img"], refused_note(0, "needs 1 2.0.0+0")),
+    ("", ["--test=0=needing.img", "--permanent=1=partner.img"], BOTH_KINDS),
+    ("", ["--permanent=0=needing.img", "--permanent=1=partner.img"], b""),
+    ("", ["--test=0=older.img"], refused_note(0, "older")),
+    ("", ["--test=0=abc"], NO_IMAGE),
+    (f"{FIRST_COMES}, accept second.json", ["--test=1=partner.img"], b""),
+    (FIRST_COMES, ["--test=0=one.img"], b""),
+    (FLOOR_RAISED, ["--test=0=stale.img"], refused_note(0, "counter")),
+    (f"{UPLOADED}, boot", ["--test=0=older.img"], TRYING),
+]
+
+# Events, a sequence number, the notes, and the device's reply to the manifest after its next boot.
+STATES = [
+    ("boot, accept for-good.json", 6, LOWER % 7, "refused upload 1 OldSequence"),
+    ("boot, accept for-good.json", 7, "", "done"),
+    (f"{UPLOADED}, boot", 1, TRYING.decode(), "refused upload 8 WrongPrecursor"),
+    (f"{UPLOADED}, boot", 0, LOWER % 1 + TRYING.decode(), "refused upload 1 OldSequence"),
+    (f"{UPLOADED}, boot, confirm 0, confirm 1", 1, TRYING.decode(), "done"),
+    (f"{UPLOADED}, boot, boot", 1, "", "done"),
+]
+
+
+class NoteTest(ProgramTest):
+    """Notes on files that a device won't take."""
+
+    def notes(self, *options, **how):
+        """Returns the notes of a run that prints a manifest."""
+        status, out, err = self.run_program(make_manifest(*options, **how))
+        self.assertEqual((0, b"{"), (status, out[:1]))
+        self.file("made.json", out)
+        return err
+
+    def test_file_that_does_not_fit_or_is_damaged(self):
+        self.file("full", image([], body=952 * b"x"))
+        self.file("more", image([], body=953 * b"x"))
+        self.file("changed\n", read(ONE)[:-1] + b"x")
+        self.assertEqual(b"", self.notes("--test=0=full"))
+        self.assertEqual(note_lines(b"more has 1025 bytes, and the slots of image 0 1024"), self.notes("--test=0=more"))
+        self.assertEqual(note_lines(b"changed\\n is no intact image: 10 BadDigest"), self.notes("--test=0=changed\n"))
+        with open("/dev/full", "wb") as full:
+            self.assertEqual(1, self.run_program(make_manifest("--test=0=more"), stderr=full)[0])
+
+    def test_image_that_no_boot_takes(self):
+        """It is noted once, with a flash and without one."""
+        flash_of(self)
+        for needs, is_own, reason in NEVER_TAKEN:
+            with self.subTest(f"{needs}"):
+                self.file("one", image(needs, own=version(2)))
+                wanted = (own_note("one", 0) if is_own else b"") + (refused_note(0, reason) if reason else b"")
+                self.assertEqual(wanted, self.notes("--test=0=one"))
+                if reason:
+                    self.assertEqual(wanted, self.notes("--test=0=one", "--precursor=flash"))
+
+    def test_file_of_another_image(self):
+        new_device(self)
+        for options, note in [
+            (("--test=0=partner.img", "--test=1=needing.img"), own_note("partner.img", 0) + own_note("needing.img", 1)),
+            (("--test=0=needing.img", "--test=1=partner.img"), b""),
+        ]:
+            self.assertEqual(note, self.notes(*options))
+            self.assertEqual(note, self.notes(*options, "--precursor=flash"))
+        # What runs doesn't fit, so nothing is said of the next boot.
+        self.file("flash", IMAGES["needing.img"] + flash_in(self)[96:])
+        self.assertEqual(own_note("needing.img", 1), self.notes("--test=1=needing.img", "--precursor=flash"))
+
+    def test_next_boot(self):
+        """With a flash it is noted which files the next boot would refuse, and why. Without one nothing is."""
+        for events, options, note in NEXT_BOOTS:
+            with self.subTest(f"{events}: {' '.join(options)}"):
+                new_device(self)
+                self.file("older.img", image([], own=version(0, 9)))
+                if events:
+                    self.assertEqual(0, run_of(self, events)[0])
+                self.assertEqual(note, self.notes(*options, "--precursor=flash", sequence=9))
+                self.assertEqual(note if note in (NO_IMAGE, BOTH_KINDS) else b"", self.notes(*options, sequence=9))
+
+    def test_state_of_the_device(self):
+        """With a flash it is noted that its device accepted a higher sequence number, and that it is on trial. The
+        device replies as the note says."""
+        for events, sequence, notes, reply in STATES:
+            with self.subTest(f"{sequence} after {events}"):
+                new_device(self)
+                run_of(self, events)
+                self.assertEqual(b"", self.notes("--test=0=newer.img", sequence=sequence))
+                got = self.notes("--test=0=newer.img", "--precursor=flash", sequence=sequence)
+                self.assertEqual(notes.encode(), got)
+                out = run_of(self, "boot, accept made.json")[1]
+                self.assertEqual(f"2 {reply}", out.decode().splitlines()[-1])
+
+    def test_both_kinds(self):
+        """If a test image and a permanent one come together, the device tries and reverts both, as the note says,
+        though neither needs the other. If both are permanent, it tries none."""
+        for number in (0, 1):
+            self.file(f"new{number}", image([], own=version(2, number)))
+        for kinds, note, replies in [
+            ("permanent test", BOTH_KINDS, ["trial", "reverted"]),
+            ("permanent permanent", b"", ["permanent", "plain"]),
+            ("test test", b"", ["trial", "reverted"]),
+        ]:
+            with self.subTest(kinds):
+                flash_of(self)
+                self.assertEqual(note, self.notes(*(f"--{kind}={at}=new{at}" for at, kind in enumerate(kinds.split()))))
+                upload = "boot, accept made.json, piece 0 new0, piece 1 new1, finish 0, finish 1, boot, boot"
+                out = run_of(self, upload)[1].decode()
+                self.assertEqual(replies, [it.split()[1] for it in out.splitlines() if it[0] in "78"])
+
+    def test_strict(self):
+        """With `--strict`, the status is 1 if there is a note. Nothing else changes."""
+        new_device(self)
+        both = ["--test=0=needing.img", "--permanent=1=partner.img"]
+        for options, status in [
+            (["--test=0=abc"], 1), (["--test=0=long.img"], 1), (["--test=0=needing.img", "--precursor=flash"], 1),
+            (both, 1), ([*both, "--precursor=flash"], 1), (["--test=0=one.img"], 0),
+        ]:
+            with self.subTest(" ".join(options)):
+                usual = self.run_program(make_manifest(*options))
+                self.assertEqual((status, *usual[1:]), self.run_program(make_manifest(*options, "--strict")))

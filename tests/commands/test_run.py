@@ -1,0 +1,113 @@
+"""What `run` prints for scripts: the replies of a device."""
+
+import os
+import resource
+import subprocess
+import time
+
+from support.files import EXAMPLES, PAIR, names_in, read
+from support.flashes import flash_of
+from support.program import LIMIT, ProgramTest
+from support.stories import UPLOADED, flash_in, new_device, run_of, script_of
+from support.worked import NEEDS, NO_SESSION, NOT_UP, PLAIN, numbered
+
+# How many boots a long script has. Their replies are far longer than a pipe's buffer.
+MANY = 20_000
+
+# One of two images that need each other is requested.
+HALF_AN_UPLOAD = "boot, accept trial.json, piece 1 partner.img, finish 1, boot"
+
+# Events on a new device, their replies, the status, and that with `--strict`.
+LAST_REPLIES = [
+    ("boot, piece 2 abc", [PLAIN, NO_SESSION], 1, 1),
+    ("finish 0, boot, reset", [NOT_UP, PLAIN, "done"], 0, 1),
+    ("cut 1 keep, finish 0, boot, accept trial.json", [NOT_UP, PLAIN, "cut"], 3, 3),
+    ("cut 1 keep, finish 0, boot, accept trial.json, boot", [NOT_UP, PLAIN, "cut", PLAIN], 0, 1),
+    ("cut 1 keep, boot, accept trial.json, boot", [PLAIN, "cut", PLAIN], 0, 0),
+    ("cut 1 keep, boot, accept trial.json, finish 0", [PLAIN, "cut", NOT_UP], 1, 1),
+    ("reset, reset", ["done", "done"], 0, 0),
+    # A boot whose report refuses a request: the device runs on, and only `--strict` ends with 1.
+    (HALF_AN_UPLOAD, [PLAIN, *3 * ["done"], NEEDS], 0, 1),
+    (f"{HALF_AN_UPLOAD}, withdraw 1, boot", [PLAIN, *3 * ["done"], NEEDS, "done", PLAIN], 0, 1),
+    (f"cut 6 keep, {HALF_AN_UPLOAD}, accept second.json", [PLAIN, *3 * ["done"], NEEDS, "cut"], 3, 3),
+]
+
+# Events on a new device, and the last reply.
+REPLIES = [
+    ("boot, reset, finish 0", NOT_UP),
+    (f"{UPLOADED}, boot, accept old.json", "refused boot 2 OnTrial"),
+    ("boot, accept abc", "refused manifest 1 NotJson"),
+    ("boot, accept other-vendor.json", "refused manifest 4 WrongVendor"),
+    ("boot, accept absent-image.json", "refused manifest 6 NoComponent"),
+    ("boot, accept second.json, reset, boot, accept second.json", "done"),
+    ("boot, accept text.json, reset, boot, finish 0", NO_SESSION),
+    ("boot, accept text.json, piece 0 abc, finish 0, finish 0", NO_SESSION),
+    ("boot, accept first.json, piece 0 needing.img, boot, finish 0", NO_SESSION),
+    ("boot, accept first.json, piece 0 needing.img, finish 0, withdraw 0", "done"),
+]
+
+def status_after(output):
+    """The status of a run with this output, by its last reply."""
+    kinds = [line.split()[1] for line in output.decode().splitlines() if line[0].isdigit()]
+    return {"refused": 1, "cut": 3}.get(kinds[-1], 0)
+
+
+class RunTest(ProgramTest):
+    def test_example_scripts(self):
+        """Each script of the examples prints its output, and leaves a flash with its state."""
+        for name in names_in("scripts"):
+            own = f"{EXAMPLES}/devices/{name}.json"
+            of = own if os.path.exists(own) else PAIR
+            wanted, state = read(f"{EXAMPLES}/outputs/{name}.txt"), read(f"{EXAMPLES}/states/{name}.txt")
+            for options in ([], ["--durable"]):
+                with self.subTest(f"{name} {options}"):
+                    flash_of(self, device=of)
+                    arguments = ["run", *options, of, "flash", f"{EXAMPLES}/scripts/{name}.txt"]
+                    self.assertEqual((status_after(wanted), wanted, b""), self.run_program(arguments))
+                    self.assertEqual((0, state, b""), self.run_program(["show", of, "flash"]))
+
+    def test_reply_is_written_before_the_next_event(self):
+        """A killed run has printed a prefix of whole lines."""
+        whole = new_device(self)
+        self.file("script", MANY * b"boot\n" + script_of("accept trial.json, piece 0 needing.img"))
+        output = numbered([*MANY * [PLAIN], "done", "done"])
+        command = [self.program, "run", PAIR, "flash", "script"]
+        with subprocess.Popen(command, cwd=self.folder, stdout=subprocess.PIPE) as ran:
+            first = ran.stdout.readline()
+            # The pipe is full long before the last event, which writes the flash. The run waits then.
+            time.sleep(1)
+            ran.kill()
+            got = first + ran.stdout.read()
+        self.assertTrue(output.startswith(got) and got.endswith(b"\n") and len(got) < len(output))
+        self.assertEqual(whole, flash_in(self))
+        self.assertEqual((0, output, b""), self.run_program(["run", PAIR, "flash", "script"]))
+        self.assertNotEqual(whole, flash_in(self))
+
+    def test_long_run_takes_little_memory(self):
+        new_device(self)
+        self.file("script", MANY * b"boot\n")
+        most = 10 << 20
+        limited = {"preexec_fn": lambda: resource.setrlimit(resource.RLIMIT_AS, (most, most)), "timeout": LIMIT}
+        command = [self.program, "run", PAIR, "flash", "script", "--json", "--explain"]
+        ran = subprocess.run(command, cwd=self.folder, capture_output=True, **limited)
+        self.assertEqual((0, MANY), (ran.returncode, ran.stdout.count(b"\n")))
+
+    def test_last_reply_decides_the_status(self):
+        for events, replies, *statuses in LAST_REPLIES:
+            for options, status in zip(([], ["--strict"]), statuses):
+                with self.subTest(f"{events} {options}"):
+                    new_device(self)
+                    self.assertEqual((status, numbered(replies), b""), run_of(self, events, options=options))
+
+    def test_replies(self):
+        for events, reply in REPLIES:
+            with self.subTest(events):
+                new_device(self)
+                status, out, err = run_of(self, events)
+                self.assertEqual((int(reply != "done"), b""), (status, err))
+                self.assertEqual(f"{events.count(',') + 1} {reply}", out.decode().splitlines()[-1])
+
+    def test_damaged_image_is_not_booted(self):
+        whole = new_device(self)
+        self.file("flash", whole[:32] + b"Z" + whole[33:])
+        self.assertEqual((1, b"1 refused boot 5 RunningDamaged 0\n", b""), run_of(self, "boot"))
