@@ -9,12 +9,11 @@ import subprocess
 import sys
 import tempfile
 import time
+import unittest
 from unittest import mock
 
 from support.files import ROOT
-from support.program import CaseTest, short
-
-sys.path.insert(0, f"{ROOT}/tools")
+import support.program  # tools/ is on the path from here on
 
 import unchanged
 
@@ -88,7 +87,7 @@ CHANGES = {
 }
 
 
-class UnchangedTest(CaseTest):
+class UnchangedTest(unittest.TestCase):
     """Changes after a program was found to be current."""
 
     def setUp(self):
@@ -109,49 +108,44 @@ class UnchangedTest(CaseTest):
                 it.write(text)
             os.chmod(path, 0o755 if text.startswith("#!") else 0o644)
 
-    def test_each_change(self):
-        """Each change is noticed, also if the size and the time of a file are the same after it."""
+    def remembered(self, after):
+        """Records the program as current, N nanoseconds from now, and returns what is then recorded for `codes`."""
+        unchanged.remember("bootswap", unchanged.lines_now("bootswap"), time.time_ns() + after)
+        return unchanged.unchanged_for(["codes"])
+
+    def test_each_change_is_noticed_also_if_size_and_time_of_the_file_stay(self):
         with mock.patch.object(unchanged, "ROOT", self.top), mock.patch.dict(os.environ, self.environment):
             for name, change in CHANGES.items():
-                self.start()
-                unchanged.remember("bootswap", unchanged.lines_now("bootswap"), time.time_ns() + 2 * unchanged.MARGIN)
-                before = unchanged.unchanged_for(["codes"])
-                time.sleep(TICK)
-                change(self.top)
-                after = unchanged.unchanged_for(["codes"])
-                wanted = f"{self.top}/out/bootswap", None
-                self.case(f"noticed: {name}", [f"{before}, then {after}"] * ((before, after) != wanted))
+                with self.subTest(name):
+                    self.start()
+                    self.assertEqual(f"{self.top}/out/bootswap", self.remembered(2 * unchanged.MARGIN))
+                    time.sleep(TICK)
+                    change(self.top)
+                    self.assertIsNone(unchanged.unchanged_for(["codes"]))
 
-    def test_young_files(self):
-        """Nothing is recorded if a file changed shortly before: it might change again within a step of the clock."""
+    def test_files_that_were_just_written_are_not_recorded(self):
+        """They might change again within a step of the clock."""
         self.start()
         with mock.patch.object(unchanged, "ROOT", self.top), mock.patch.dict(os.environ, self.environment):
-            unchanged.remember("bootswap", unchanged.lines_now("bootswap"), time.time_ns())
-            self.case("files just written", ["recorded"] * os.path.exists(f"{self.top}/out/bootswap.seen"))
+            self.assertIsNone(self.remembered(0))
 
-    def call(self):
-        """Returns what `./bootswap codes` prints, and whether it built the program first."""
-        words = [f"{self.top}/bootswap", "codes"]
-        done = subprocess.run(words, env=self.environment, stdin=subprocess.DEVNULL, capture_output=True, text=True)
-        return done.stdout, "proving and building the program" in done.stderr, done.stderr
-
-    def test_calls(self):
-        """The first call builds. A later one doesn't, and its record is used by the next. After a change it is built again."""
+    def test_the_first_call_builds_and_one_after_a_change(self):
         self.start()
         shutil.rmtree(f"{self.top}/out")
-        record = f"{self.top}/out/bootswap.seen"
-        for name, is_building in (("the first call", True), ("the second", False), ("the third", False)):
-            printed, is_built, said = self.call()
-            is_right = (printed, is_built, os.path.exists(record)) == ("answers codes\n", is_building, not is_building)
-            self.case(name, [] if is_right else [short(printed), short(said)])
-            time.sleep(2.2 if is_building else 0)
-        rewrite(f"{self.top}/crates/common/src/lib.rt", b"1", b"2")
-        printed, is_built, said = self.call()
-        self.case("after a change", [] if (printed, is_built) == ("answers codes\n", True) else [short(printed), short(said)])
+        for name, is_building in (("first", True), ("second", False), ("third", False), ("after a change", True)):
+            if name == "after a change":
+                rewrite(f"{self.top}/crates/common/src/lib.rt", b"1", b"2")
+            words, streams = [f"{self.top}/bootswap", "codes"], {"stdin": subprocess.DEVNULL, "capture_output": True}
+            done = subprocess.run(words, env=self.environment, text=True, **streams)
+            with self.subTest(name):
+                self.assertEqual("answers codes\n", done.stdout, done.stderr)
+                self.assertEqual(is_building, "proving and building the program" in done.stderr)
+                # Files that were just written aren't recorded.
+                self.assertEqual(name != "first", os.path.exists(f"{self.top}/out/bootswap.seen"))
+            time.sleep(2.2 if name == "first" else 0)
 
-    def test_imports(self):
-        """What each call asks first takes no module that is slow to import."""
+    def test_no_call_imports_a_slow_module_before_it_asks(self):
         asks = "import sys; sys.path.insert(0, 'tools'); import unchanged; print(*sys.modules)"
-        done = subprocess.run([sys.executable, "-SBc", asks], cwd=ROOT, capture_output=True, text=True)
-        slow = {"builder", "hashlib", "json", "re", "shutil", "subprocess", "typing"} & {*done.stdout.split()}
-        self.case("none of them", [done.stderr, *sorted(slow)] if done.returncode or slow else [])
+        done = subprocess.run([sys.executable, "-SBc", asks], cwd=ROOT, capture_output=True, text=True, check=True)
+        slow = {"builder", "hashlib", "json", "re", "shutil", "subprocess", "typing"}
+        self.assertEqual(set(), slow & {*done.stdout.split()})
