@@ -11,11 +11,10 @@ import subprocess
 import sys
 import tempfile
 import time
+import unittest
 
 from support.files import EXAMPLES, ROOT, read
-from support.program import CaseTest, short
-
-sys.path.insert(0, f"{ROOT}/tools")
+from support.program import short
 
 from unproved import hint_for
 
@@ -74,7 +73,7 @@ PASSED = [
 ]
 
 
-class UnprovedTest(CaseTest):
+class UnprovedTest(unittest.TestCase):
     """A folder with the examples, in which `./bootswap --unproved` runs."""
 
     def setUp(self):
@@ -83,14 +82,10 @@ class UnprovedTest(CaseTest):
         os.symlink(EXAMPLES, f"{self.folder}/examples")
         for it in ("bin", "temporary", "below"):
             os.mkdir(f"{self.folder}/{it}")
-        for name, text in (("script", "piece 0 -\n"), ("above", ""), ("stdin", ""), ("a=b", "")):
-            self.write(name, text)
-        self.write("bin/rt", RT)
+        for name, text in (("script", "piece 0 -\n"), ("above", ""), ("stdin", ""), ("a=b", ""), ("bin/rt", RT)):
+            with open(f"{self.folder}/{name}", "w", encoding="utf-8") as it:
+                it.write(text)
         os.chmod(f"{self.folder}/bin/rt", 0o755)
-
-    def write(self, name, text):
-        with open(f"{self.folder}/{name}", "w", encoding="utf-8") as it:
-            it.write(text)
 
     def started(self, words, says=ENDED.format(0), at=".", **more):
         """Starts a command over the pretended toolchain."""
@@ -101,66 +96,64 @@ class UnprovedTest(CaseTest):
         return subprocess.Popen(words, cwd=f"{self.folder}/{at}", env=environment, **streams)
 
     def ended(self, words, given="", **how):
-        """Runs a command, and returns its status and outputs, and the notes of the pretended toolchain."""
+        """Runs a command. Returns its status, its outputs, without the line of the start, and the toolchain's notes."""
         ran = self.started(words, **how)
         out, err = ran.communicate(given.encode(), timeout=LIMIT)
-        notes = f"{self.folder}/notes"
-        noted = json.loads(read(notes)) if os.path.exists(notes) else None
-        if noted:
+        notes, noted = f"{self.folder}/notes", None
+        if os.path.exists(notes):
+            noted = json.loads(read(notes))
             os.remove(notes)
-        return ran.returncode, out, err, noted
+        if err.startswith(STARTED):
+            err = err.partition(b"\n")[2]
+        return ran.returncode, out, err.decode(), noted
 
-    def test_passes_files(self):
+    def test_files_of_the_arguments_are_passed(self):
         for words, given, names, wanted in PASSED:
-            *_, noted = self.ended(words, given)
-            data = [it for name in names for it in ("--data", f"{name}={self.folder}/{name}")]
-            passed = ["try", "--steps", "1", "--seconds", "86400", *data, "--", *words], given if wanted is None else wanted
-            faults = [] if noted and tuple(noted[:2]) == passed else [f"{short(noted)}, and not {short(passed)}"]
-            self.case(f"--unproved {' '.join(words)}", faults)
-        self.case("--unproved leaves no file", os.listdir(f"{self.folder}/temporary"))
+            with self.subTest(" ".join(words)):
+                *_, noted = self.ended(words, given)
+                data = [it for name in names for it in ("--data", f"{name}={self.folder}/{name}")]
+                passed = ["try", "--steps", "1", "--seconds", "86400", *data, "--", *words]
+                self.assertEqual([passed, given if wanted is None else wanted], noted[:2])
+        self.assertEqual([], os.listdir(f"{self.folder}/temporary"))
 
-    def test_reads_no_other_input(self):
+    def test_a_command_without_input_does_not_wait_for_its_end(self):
         ran = self.started(["codes"])
-        status = ran.wait(LIMIT)
+        self.assertEqual(0, ran.wait(LIMIT))
         ran.communicate()
-        self.case("--unproved codes doesn't wait for the end of standard input", [status] * (status != 0))
 
-    def test_passes_status(self):
+    def test_status_and_notes_are_passed_on(self):
         for status in (0, 1, 2, 3):
-            says = f"note: of the program\n{STOPPED}{ENDED.format(status)}"
-            got = self.ended(["choose", "nowhere"], says=says)[:3]
-            wanted = status, b"answer\n", b"%s`./bootswap choose nowhere` proves and builds it\nnote: of the program\n" % STARTED
-            self.case(f"--unproved ends with status {status}", [] if got == wanted else [short(got)])
+            ran = self.started(["choose", "nowhere"], says=f"note: of the program\n{STOPPED}{ENDED.format(status)}")
+            says = STARTED + b"`./bootswap choose nowhere` proves and builds it\nnote: of the program\n"
+            self.assertEqual((b"answer\n", says), ran.communicate(timeout=LIMIT))
+            self.assertEqual(status, ran.returncode)
 
-    def test_says_why_it_has_no_answer(self):
-        for name, says, wanted in (
-            ("a fault", FAULT, f"{FAULT}bootswap: `rt try` ended without an answer of the program\n"),
-            ("an answer of more than 1 MiB", TOO_LONG, "bootswap: the answer is longer than 1 MiB, and --unproved "
-             "prints no more: `./bootswap codes` prints all of it\n"),
+    def test_a_missing_answer_is_explained(self):
+        too_long = "bootswap: the answer is longer than 1 MiB, and --unproved prints no more: "
+        for says, wanted in (
+            (FAULT, f"{FAULT}bootswap: `rt try` ended without an answer of the program\n"),
+            (TOO_LONG, f"{too_long}`./bootswap codes` prints all of it\n"),
         ):
             status, _, err, _ = self.ended(["codes"], says=says)
-            err = err.partition(b"\n")[2].decode()
-            self.case(f"--unproved says so: {name}", [] if (status, err) == (125, wanted) else [status, short(err)])
+            self.assertEqual((125, wanted), (status, err))
 
-    def test_refuses(self):
+    def test_what_writes_a_file_is_refused(self):
         for what, words in REFUSED.items():
             typed = " ".join(words).replace("a script", "'a script'")
             wanted = f"bootswap: --unproved writes no file, and {what} does: `./bootswap {typed}` proves and builds the program, and runs it\n"
-            got = self.ended(words)
-            self.case(f"--unproved refuses {what}", [] if got == (2, b"", wanted.encode(), None) else [short(got)])
+            self.assertEqual((2, b"", wanted, None), self.ended(words))
+
+    def test_a_name_that_cannot_be_passed_is_refused(self):
         for name, at in (("../above", "below"), ("stdin", "."), ("a=b", ".")):
-            status, out, err, noted = self.ended(["choose", name], at=at)
-            wanted = f"bootswap: --unproved can't pass a file by the name {name}: type its full path\n".encode()
-            is_right = (status, out, err.partition(b"\n")[2], noted) == (2, b"", wanted, None)
-            self.case(f"--unproved refuses the name {name}", [] if is_right else [status, short(err)])
+            wanted = f"bootswap: --unproved can't pass a file by the name {name}: type its full path\n"
+            self.assertEqual((2, b"", wanted, None), self.ended(["choose", name], at=at))
 
-    def test_needs_rt(self):
+    def test_without_rt_it_says_so(self):
         os.remove(f"{self.folder}/bin/rt")
-        got = self.ended(["choose", "nowhere"])
-        wanted = b"bootswap: the Rattle toolchain's command rt is not on the PATH; it compiles the program\n"
-        self.case("--unproved without rt", [] if got == (127, b"", wanted, None) else [short(got)])
+        wanted = "bootswap: the Rattle toolchain's command rt is not on the PATH; it compiles the program\n"
+        self.assertEqual((127, b"", wanted, None), self.ended(["choose", "nowhere"]))
 
-    def test_ends_by_signals(self):
+    def test_a_signal_ends_it_and_leaves_no_file(self):
         for number, wanted in ((signal.SIGINT, 130), (signal.SIGTERM, 128 + signal.SIGTERM)):
             ran = self.started(["codes"], PRETENDED_HANGS="")
             until = time.monotonic() + LIMIT
@@ -169,11 +162,9 @@ class UnprovedTest(CaseTest):
                 time.sleep(0.02)
             ran.send_signal(number)
             ran.communicate(timeout=LIMIT)
-            left = os.listdir(f"{self.folder}/temporary")
-            faults = [ran.returncode] * (ran.returncode != wanted) + left
-            self.case(f"--unproved ends by {signal.Signals(number).name}, and leaves no file", faults)
+            self.assertEqual((wanted, []), (ran.returncode, os.listdir(f"{self.folder}/temporary")))
 
-    def test_points_to_a_first_look(self):
+    def test_a_build_begins_with_a_hint(self):
         for words, shown in (
             (["choose", "a table"], "choose 'a table'"),
             (["provision", "device", "flash", "image"], " ".join(SWEEP)),
@@ -181,14 +172,12 @@ class UnprovedTest(CaseTest):
             (["run", "--help"], "run --help"),
         ):
             wanted = f"`./bootswap --unproved {shown}` answers in about a minute, without a proof"
-            self.case(f"a build for {' '.join(words)} begins with a hint", [] if hint_for(words) == wanted else [hint_for(words)])
+            self.assertEqual(wanted, hint_for(words))
 
-    def test_real_run(self):
-        if not shutil.which("rt"):
-            self.skipTest("the Rattle toolchain's command rt is not on the PATH")
+    @unittest.skipUnless(shutil.which("rt"), "the Rattle toolchain's command rt is not on the PATH")
+    def test_the_toolchain_answers(self):
         words = [f"{ROOT}/bootswap", "--unproved", "choose", "examples/tables/three.txt"]
-        ran = subprocess.run(words, cwd=self.folder, stdin=subprocess.DEVNULL, capture_output=True, timeout=REAL_LIMIT)
-        err = ran.stderr.partition(b"\n")
-        is_right = (ran.returncode, ran.stdout) == (0, read(f"{EXAMPLES}/reports/three.txt"))
-        is_right = is_right and err[0].startswith(STARTED) and not err[2]
-        self.case("--unproved choose over the toolchain", [] if is_right else [ran.returncode, short(ran.stdout), short(ran.stderr)])
+        streams = {"stdin": subprocess.DEVNULL, "capture_output": True}
+        ran = subprocess.run(words, cwd=self.folder, timeout=REAL_LIMIT, **streams)
+        self.assertEqual((0, read(f"{EXAMPLES}/reports/three.txt")), (ran.returncode, ran.stdout), short(ran.stderr))
+        self.assertRegex(ran.stderr, rb"\A" + STARTED + rb".*\n\Z")
