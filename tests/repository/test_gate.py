@@ -1,34 +1,27 @@
 """That signals end `./gate` and `./mutants`, and all that these started.
 
 A copy of the gate runs in a small repository, with a toolchain that only pretends. At one step of it a command starts
-processes that would run for minutes, some in sessions of their own. At the first step one of them ignores signals. When the
-step is reached, the test sends a signal. Five seconds later no process may be left, and no temporary file.
+processes that would run for minutes, some in sessions of their own. At the first step one of them ignores signals. When
+the step is reached, the test sends a signal. Five seconds later no process may be left, and no temporary file.
 """
 
 import contextlib
-import itertools
 import os
 import shutil
 import signal
 import subprocess
-import sys
 import tempfile
 import time
+import unittest
 
 from support.files import ROOT, read
 from support.page import MISSING
-from support.program import CaseTest
-
-sys.path.insert(0, f"{ROOT}/tools")
 
 from builder import LIBRARY
 from ending import adopt_orphans, forget_ended
 
-# How many seconds the gate may take to reach a step, which other tests slow down, to end, and for all cases here.
-REACHED, ENDED, LIMIT = 60, 5, 240
-
-# How many processes are shown that are left.
-MOST_SHOWN = 8
+# How many seconds the gate may take to reach a step, and to end.
+REACHED, ENDED = 60, 5
 
 # What runs at the step: processes that would run on, and a file that shows that they are started.
 HANG = """#!/bin/sh
@@ -68,15 +61,22 @@ done
     "hang": HANG,
 }
 
-# The small repository's crates, and a mutant.
+# The small repository's crates, a mutant, and a test of the program.
 CRATES = f"common:\nbootswap: common\n{LIBRARY} staticlib: common\n"
 EDIT = "file: src/lib.rt\nfunction: one\nold: 1\nnew: 2\n"
+TEST = """from support.program import ProgramTest
+
+class ChooseTest(ProgramTest):
+    def test_choose(self):
+        self.run_program(["choose"])
+"""
 FILES = {
     "crates.txt": CRATES,
     "crates/common/src/lib.rt": "fn one() -> u8 {\n    1\n}\n",
     "crates/common/must-fail/two.edit": EDIT,
     "crates/bootswap/src/main.rt": "fn main() {}\n",
     f"crates/{LIBRARY}/src/lib.rt": "",
+    "tests/test_choose.py": TEST,
 }
 
 # Each step: the commands, of which the last one is ended, and which command of the toolchain hangs there. The library of the
@@ -90,61 +90,36 @@ STEPS = {
     "./mutants": ([["./mutants"]], "must-fail"),
 }
 
-# Each way to send a signal: to the whole group, as a terminal does, or to the gate's process alone.
-WAYS = [(signal.SIGTERM, os.killpg), (signal.SIGTERM, os.kill), (signal.SIGINT, os.killpg)]
+COPIED = ("tools", "tests/support", "tests/library/__init__.py", "tests/library/test_page.py")
+COPIED += ("web", "examples", "bindings", "gate", "mutants")
+LEFT_OUT = shutil.ignore_patterns("__pycache__", "target")
 
-COPIED = ("tools", "tests", "web", "examples", "bindings")
 
-
-class GateTest(CaseTest):
-    """Signals, each sent in each way at each step."""
-
+class GateTest(unittest.TestCase):
     def setUp(self):
-        self.pretended = Pretended(tempfile.mkdtemp(prefix="bootswap-gate-"))
-        self.addCleanup(shutil.rmtree, self.pretended.folder, ignore_errors=True)
+        """Makes a small repository with the files of the gate, and a toolchain that only pretends."""
+        self.folder = tempfile.mkdtemp(prefix="bootswap-gate-")
+        self.addCleanup(shutil.rmtree, self.folder, ignore_errors=True)
+        self.files, self.repository = f"{self.folder}/files", f"{self.folder}/repository"
+        for it in (self.files, self.repository):
+            os.mkdir(it)
+        for name in COPIED:
+            if os.path.isdir(f"{ROOT}/{name}"):
+                shutil.copytree(f"{ROOT}/{name}", f"{self.repository}/{name}", ignore=LEFT_OUT)
+            else:
+                os.makedirs(os.path.dirname(f"{self.repository}/{name}"), exist_ok=True)
+                shutil.copy(f"{ROOT}/{name}", f"{self.repository}/{name}")
+        # A check of the pretended toolchain takes no memory.
+        builder = read(f"{ROOT}/tools/builder.py").decode().replace("\nMEMORY = 2_300_000_000\n", "\nMEMORY = 1\n")
+        places = {f"repository/{name}": text for name, text in {**FILES, "tools/builder.py": builder}.items()}
+        for name, text in {**places, **{f"bin/{name}": text for name, text in COMMANDS.items()}}.items():
+            os.makedirs(os.path.dirname(f"{self.folder}/{name}"), exist_ok=True)
+            with open(f"{self.folder}/{name}", "w", encoding="utf-8") as it:
+                it.write(text)
+            os.chmod(f"{self.folder}/{name}", 0o755)
         # What is left below this process is what the gate started.
         adopt_orphans()
         self.addCleanup(adopt_orphans, False)
-
-    def test_signals(self):
-        until = time.monotonic() + LIMIT
-        for step, (number, send) in itertools.product(STEPS, WAYS):
-            to = "the group" if send is os.killpg else "the process alone"
-            name = f"{signal.Signals(number).name} to {to} ends {step}"
-            if step == "the page" and MISSING:
-                with self.subTest(name):
-                    self.skipTest(f"there is no {' and no '.join(MISSING)}")
-            elif time.monotonic() > until:
-                self.case(name, [f"not tried within {LIMIT} seconds"])
-            else:
-                self.case(name, faults_of(self.pretended, step, number, send))
-
-
-class Pretended:
-    """A small repository with the files of the gate, and a toolchain that only pretends."""
-
-    def __init__(self, folder):
-        self.folder, self.files = folder, f"{folder}/files"
-        self.repository = f"{folder}/repository"
-        os.mkdir(self.files)
-        for name in COPIED:
-            shutil.copytree(f"{ROOT}/{name}", f"{self.repository}/{name}", ignore=shutil.ignore_patterns("__pycache__"))
-        for name in ("gate", "mutants"):
-            shutil.copy(f"{ROOT}/{name}", self.repository)
-        # A check of the pretended toolchain takes no memory.
-        changed = read(f"{ROOT}/tools/builder.py").replace(b"\nMEMORY = 2_300_000_000\n", b"\nMEMORY = 1\n")
-        self.write(f"{self.repository}/tools/builder.py", changed)
-        for name, text in FILES.items():
-            self.write(f"{self.repository}/{name}", text.encode())
-        for name, text in COMMANDS.items():
-            self.write(f"{folder}/bin/{name}", text.encode())
-            os.chmod(f"{folder}/bin/{name}", 0o755)
-
-    @staticmethod
-    def write(path, contents):
-        os.makedirs(os.path.dirname(path), exist_ok=True)
-        with open(path, "wb") as it:
-            it.write(contents)
 
     def start(self, commands, step):
         """Runs commands in the repository, and starts the last one as the first process of a group."""
@@ -154,18 +129,54 @@ class Pretended:
         environment.update(PRETENDED_FOLDER=self.folder, PRETENDED_STEP=step or "")
         # What the pretended toolchain makes doesn't belong with what was proved.
         environment.pop("BOOTSWAP_PROVED", None)
-        streams = {"stdin": subprocess.DEVNULL, "stdout": subprocess.DEVNULL, "stderr": subprocess.DEVNULL}
-        how = {"cwd": self.repository, "env": environment, **streams}
+        streams = dict.fromkeys(("stdin", "stdout", "stderr"), subprocess.DEVNULL)
         for it in commands[:-1]:
-            subprocess.run(it, check=True, **how)
-        return subprocess.Popen(commands[-1], start_new_session=True, **how)
+            subprocess.run(it, check=True, cwd=self.repository, env=environment, **streams)
+        return subprocess.Popen(commands[-1], start_new_session=True, cwd=self.repository, env=environment, **streams)
 
-    def is_reached(self, of_page):
+    def is_reached(self, name):
         """Returns whether what is started at the step runs: the browser with its page, or what a command hangs with."""
-        if of_page:
-            lines = [it for _, it in running_below(os.getpid())]
-            return all(any(word in it for it in lines) for word in (b"--type=renderer", b"web/serve"))
-        return os.path.exists(f"{self.folder}/reached")
+        if name != "the page":
+            return os.path.exists(f"{self.folder}/reached")
+        lines = [words for _, words in running_below(os.getpid())]
+        return all(any(word in it for it in lines) for word in (b"--type=renderer", b"web/serve"))
+
+    def clear(self, ran):
+        """Ends what the gate left, and removes its files, so that the next step begins without them."""
+        until = time.monotonic() + ENDED
+        while (left := running_below(os.getpid())) and time.monotonic() < until:
+            for pid, _ in left:
+                with contextlib.suppress(ProcessLookupError):
+                    os.kill(pid, signal.SIGKILL)
+            ran.poll()
+        ran.wait(ENDED)
+        forget_ended()
+        for it in (self.files, f"{self.repository}/out", f"{self.repository}/crates/bootswap/out"):
+            shutil.rmtree(it, ignore_errors=True)
+        os.mkdir(self.files)
+
+    def expect_end(self, name, number, send):
+        """A signal at a step ends the command, all that it started, and removes its files."""
+        ran = self.start(*STEPS[name])
+        try:
+            is_soon(lambda: self.is_reached(name) or ran.poll() is not None, REACHED)
+            self.assertTrue(self.is_reached(name), f"it isn't reached, and the status is {ran.poll()}")
+            self.assertIsNone(ran.poll(), "it ended before the signal")
+            send(ran.pid, number)
+            is_soon(lambda: ran.poll() is not None and not running_below(os.getpid()), ENDED)
+            self.assertEqual([], [words[:120] for _, words in running_below(os.getpid())][:8])
+            self.assertEqual((128 + number, []), (ran.poll(), os.listdir(self.files)))
+        finally:
+            self.clear(ran)
+
+    def test_a_signal_ends_each_step(self):
+        """Ctrl-C in a terminal goes to the whole group."""
+        for name in STEPS:
+            for number, send in ((signal.SIGTERM, os.kill), (signal.SIGINT, os.killpg)):
+                with self.subTest(f"{signal.Signals(number).name} ends {name}"):
+                    if name == "the page" and MISSING:
+                        self.skipTest(f"there is no {' and no '.join(MISSING)}")
+                    self.expect_end(name, number, send)
 
 
 def running():
@@ -189,46 +200,7 @@ def running_below(top):
 
 
 def is_soon(holds, seconds):
-    """Returns whether something holds within N seconds."""
+    """Waits until something holds, for N seconds at most."""
     until = time.monotonic() + seconds
-    while not holds():
-        if time.monotonic() > until:
-            return False
+    while not holds() and time.monotonic() < until:
         time.sleep(0.05)
-    return True
-
-
-def faults_of(pretended, step, number, send):
-    """Sends a signal to the command of a step, and returns what is wrong with how it ends."""
-    ran = pretended.start(*STEPS[step])
-    try:
-        if not is_soon(lambda: pretended.is_reached(step == "the page") or ran.poll() is not None, REACHED):
-            return [f"it isn't reached after {REACHED} seconds"]
-        if ran.poll() is not None:
-            return [f"before the signal it ended with status {ran.poll()}"]
-        send(ran.pid, number)
-        ended = is_soon(lambda: ran.poll() is not None and not running_below(os.getpid()), ENDED)
-        left = [words.decode(errors="replace")[:120] for _, words in running_below(os.getpid())]
-        faults = [f"after {ENDED} seconds there is left: {it}" for it in left[:MOST_SHOWN]]
-        if ended and ran.poll() != 128 + number:
-            faults.append(f"its status is {ran.poll()}, and not {128 + number}")
-        left = sorted(os.listdir(pretended.files))
-        return faults + [f"a temporary file is left: {it}" for it in left]
-    finally:
-        clear(pretended, ran)
-
-
-def clear(pretended, ran):
-    """Ends what the gate left, and removes its files, so that the next step begins without them."""
-    until = time.monotonic() + ENDED
-    while (left := running_below(os.getpid())) and time.monotonic() < until:
-        for pid, _ in left:
-            with contextlib.suppress(ProcessLookupError):
-                os.kill(pid, signal.SIGKILL)
-        ran.poll()
-    ran.wait(ENDED)
-    forget_ended()
-    for it in os.listdir(pretended.files):
-        shutil.rmtree(f"{pretended.files}/{it}", ignore_errors=True)
-    for it in ("out", "crates/bootswap/out"):
-        shutil.rmtree(f"{pretended.repository}/{it}", ignore_errors=True)
