@@ -40,5 +40,3 @@ class IndependenceTest(unittest.TestCase):
         self.assertEqual([], re.findall(r"\bcheck\b.*|\bchecking\b.*", text))
 
 
-if __name__ == "__main__":
-    unittest.main()

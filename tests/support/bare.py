@@ -5,7 +5,7 @@ import subprocess
 from dataclasses import dataclass
 
 from support.files import ROOT
-from support.libraries import ran
+from support.libraries import output_of
 
 BARE = f"{ROOT}/tests/support/c/bare"
 FREESTANDING = ["-std=c11", "-Wall", "-Wextra", "-Werror", "-ffreestanding", "-nostdlib", "-DBARE", "-I", BARE]
@@ -27,11 +27,11 @@ class Machine:
         """Returns what is needed for it and isn't installed."""
         return " and ".join(it for it in (f"{self.prefix}gcc", self.emulator[0]) if not shutil.which(it))
 
-    def compiled(self, words, program):
-        """Compiles a program with the machine's start and the functions of C. Returns what is wrong."""
+    def compile(self, words, program):
+        """Compiles a program with the machine's start and the functions of C, which has to succeed."""
         files = [f"{BARE}/{self.start}.c", f"{BARE}/memory.c", "-T", f"{BARE}/{self.start}.ld"]
-        return ran([f"{self.prefix}gcc", *self.flags, *FREESTANDING, *self.includes(), *files, *words, self.helpers(), "-o",
-                    program])[0]
+        flags = [*self.flags, *FREESTANDING, *self.includes()]
+        output_of([f"{self.prefix}gcc", *flags, *files, *words, self.helpers(), "-o", program])
 
     def includes(self):
         """Returns where the compiler's own headers are, and no others: a compiler for RISC-V may come without a library."""
@@ -44,9 +44,9 @@ class Machine:
         words = [f"{self.prefix}gcc", *(it.removesuffix("_zicsr") for it in self.flags), "-print-libgcc-file-name"]
         return subprocess.run(words, capture_output=True, text=True, check=True).stdout.strip()
 
-    def ran(self, program):
-        """Runs a program, and returns what is wrong and what it printed."""
-        return ran([*self.emulator, "-display", "none", "-monitor", "none", "-kernel", program])
+    def output_of(self, program):
+        """Runs a program, which has to succeed, and returns what it prints."""
+        return output_of([*self.emulator, "-display", "none", "-monitor", "none", "-kernel", program])
 
 
 SEMIHOSTING = ("-semihosting-config", "enable=on,target=native", "-serial", "none")

@@ -9,7 +9,8 @@ import weakref
 
 from support.driven import INCLUDE, STRICT, Library
 from support.files import ROOT
-from support.libraries import ran
+from support.libraries import output_of
+from support.processors import OnArm, OnSmallArm
 
 # A call of support/c/called.c, a message of it, and the answer to one.
 CALL, MESSAGE, ANSWER = struct.Struct("<12Q"), struct.Struct("<5Q"), struct.Struct("<i")
@@ -58,9 +59,7 @@ class Emulated(Library):
         program, shared = f"{folder}/called", f"{folder}/shared"
         files = [f"{ROOT}/tests/support/c/called.c", f"{ROOT}/bindings/c/driver.c"]
         words = [*STRICT, "-O1", *INCLUDE, *files, "-Wl,--whole-archive", *parts, "-Wl,--no-whole-archive", "-o", program]
-        faults = self.processor.compiled(words)
-        if faults:
-            raise AssertionError(f"the calls over a driver compile: {faults[0]}")
+        self.processor.compile(words)
         self.memory = Memory(shared, next(self.addresses))
         self.functions, self.flashes = self.functions_of(program), weakref.WeakValueDictionary()
         words = [*self.processor.runner, program, shared, str(self.memory.start), str(Memory.LENGTH)]
@@ -70,8 +69,7 @@ class Emulated(Library):
 
     def functions_of(self, program):
         """Returns the addresses of the functions of a program by their names."""
-        _, output = ran([self.processor.nm, "--format=posix", program])
-        rows = [line.split() for line in output.decode().splitlines()]
+        rows = [line.split() for line in output_of([self.processor.nm, "--format=posix", program]).decode().splitlines()]
         return {row[0]: int(row[2], 16) for row in rows if row[1] == "T"}
 
     def close(self):
@@ -182,3 +180,15 @@ class EmulatedSmall(Emulated):
         """Returns an argument as the word that holds it. The caller extends a shorter type (AAPCS32, "Parameter passing")."""
         address = address_of(argument)
         return argument.value if address is None else address
+
+
+class DrivenOnArm(OnArm):
+    """A test of driver.c that runs on 64-bit ARM too, in front of the class of its tests."""
+
+    library_class = Emulated
+
+
+class DrivenOnSmallArm(OnSmallArm):
+    """A test of driver.c that runs on 32-bit ARM too, in front of the class of its tests."""
+
+    library_class = EmulatedSmall

@@ -4,16 +4,19 @@ Tests don't prove it anew. They take what `bindings/build` and `web/build` built
 needs it builds it, over the libraries of the crates below it that `rt ci` proved in the folder BOOTSWAP_PROVED.
 """
 
+import ctypes
 import fcntl
+import importlib.util
 import os
+import re
 import subprocess
 import sys
 import unittest
+from unittest import mock
 
-from support.files import ROOT
+from support.files import ROOT, read
 from support.program import short
 
-sys.path.insert(0, f"{ROOT}/tools")
 sys.path.append(f"{ROOT}/bindings")
 
 from builder import ARM_TARGET, LIBRARY, MANIFEST_LIBRARY, TARGET, WEB_TARGET, asked_of_rt, library_crates, link_for_web
@@ -75,6 +78,30 @@ def c_folder(folder):
     """Leaves the library as one file of C in a folder, as `bindings/build --c` does. Skips the tests that need it if it isn't
     built."""
     write_folder(archive_for(WEB_TARGET), folder)
+
+
+def python_module(shared=None):
+    """Loads bindings/python/bootswap.py, over this library or one that does nothing."""
+    spec = importlib.util.spec_from_file_location("bootswap", f"{ROOT}/bindings/python/bootswap.py")
+    module = importlib.util.module_from_spec(spec)
+    library = {} if shared else {"CDLL": mock.DEFAULT}
+    with mock.patch.dict(os.environ, BOOTSWAP_LIBRARY=shared or ""), mock.patch.dict(sys.modules, {spec.name: module}):
+        with mock.patch.multiple(ctypes, **library):
+            spec.loader.exec_module(module)
+    return module
+
+
+def fenced(path, language):
+    """Returns the blocks of a page in Markdown that are in a language."""
+    return re.findall(rf"^```{language}\n(.*?)^```$", read(f"{ROOT}/{path}").decode(), re.MULTILINE | re.DOTALL)
+
+
+def output_of(arguments, **how):
+    """Runs a command, which has to succeed, and returns what it prints."""
+    faults, output = ran(arguments, **how)
+    if faults:
+        raise AssertionError(f"{short(arguments)}: {faults[0]}")
+    return output
 
 
 def ran(arguments, **how):

@@ -8,7 +8,7 @@ import tempfile
 import unittest
 from dataclasses import dataclass
 
-from support.libraries import ARM_TARGET, TARGET, archive_for, c_folder, manifest_archive_for, ran
+from support.libraries import ARM_TARGET, TARGET, archive_for, c_folder, manifest_archive_for, output_of, ran
 
 
 @dataclass(frozen=True)
@@ -31,6 +31,14 @@ class Processor:
     def manifest_archive(self):
         """Returns the file of its library for manifests, as `archive`."""
         return manifest_archive_for(self.target)
+
+    def compile(self, words):
+        """Runs its compiler, which has to succeed."""
+        output_of([*self.compiler, *words])
+
+    def output_of(self, program, *words):
+        """Runs a program for it, which has to succeed, and returns what it prints."""
+        return output_of([*self.runner, program, *words])
 
     def compiled(self, words):
         """Runs its compiler, and returns what is wrong."""
@@ -78,14 +86,8 @@ class OnArm:
 
     processor = ARM
 
-    def case(self, name, faults):
-        super().case(f"{name}, on 64-bit ARM", faults)
-
 
 class OnSmallArm:
     """A test that runs on 32-bit ARM too, in front of the class of its tests."""
 
     processor = SMALL_ARM
-
-    def case(self, name, faults):
-        super().case(f"{name}, on 32-bit ARM", faults)

@@ -27,50 +27,22 @@ static uint32_t answer(struct bootswap_result *result) {
 }
 
 #define BEGIN const struct bootswap_setup *setup, const uint8_t *flash, size_t flash_length
-#define DEVICE BEGIN, struct bootswap_saved_state *saved, uint8_t *journal, size_t journal_capacity
-#define RESULT struct bootswap_result *result
-#define UNUSED (void)setup, (void)flash, (void)flash_length, (void)journal, (void)journal_capacity
+#define DEVICE BEGIN, struct bootswap_saved_state *saved
+#define END uint8_t *journal, size_t journal_capacity
+#define CALL(name, ...) \
+    uint32_t bootswap_journal_##name(__VA_ARGS__, struct bootswap_result *result) { \
+        return answer(result); \
+    }
+#pragma GCC diagnostic ignored "-Wunused-parameter"
 
-uint32_t bootswap_journal_provision(BEGIN, uint8_t *journal, size_t journal_capacity, RESULT) {
-    UNUSED;
-    return answer(result);
-}
-
-uint32_t bootswap_journal_boot(DEVICE, RESULT) {
-    UNUSED, (void)saved;
-    return answer(result);
-}
-
-uint32_t bootswap_journal_boot_with_texts(DEVICE, char *table, size_t table_capacity, char *report,
-                                          size_t report_capacity, RESULT) {
-    UNUSED, (void)saved, (void)table, (void)table_capacity, (void)report, (void)report_capacity;
-    return answer(result);
-}
-
-uint32_t bootswap_journal_accept(DEVICE, const struct bootswap_manifest *manifest, RESULT) {
-    UNUSED, (void)saved, (void)manifest;
-    return answer(result);
-}
-
-uint32_t bootswap_journal_piece(DEVICE, uint8_t image, const uint8_t *bytes, size_t bytes_length, RESULT) {
-    UNUSED, (void)saved, (void)image, (void)bytes, (void)bytes_length;
-    return answer(result);
-}
-
-uint32_t bootswap_journal_finish(DEVICE, uint8_t image, RESULT) {
-    UNUSED, (void)saved, (void)image;
-    return answer(result);
-}
-
-uint32_t bootswap_journal_withdraw(DEVICE, uint8_t image, RESULT) {
-    UNUSED, (void)saved, (void)image;
-    return answer(result);
-}
-
-uint32_t bootswap_journal_confirm(DEVICE, uint8_t image, RESULT) {
-    UNUSED, (void)saved, (void)image;
-    return answer(result);
-}
+CALL(provision, BEGIN, END)
+CALL(boot, DEVICE, END)
+CALL(boot_with_texts, DEVICE, END, char *table, size_t table_capacity, char *report, size_t report_capacity)
+CALL(accept, DEVICE, END, const struct bootswap_manifest *manifest)
+CALL(piece, DEVICE, END, uint8_t image, const uint8_t *bytes, size_t bytes_length)
+CALL(finish, DEVICE, END, uint8_t image)
+CALL(withdraw, DEVICE, END, uint8_t image)
+CALL(confirm, DEVICE, END, uint8_t image)
 
 void bootswap_reset(struct bootswap_saved_state *saved) { memset(saved, 0, sizeof *saved); }
 

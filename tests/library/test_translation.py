@@ -13,33 +13,28 @@ from support import translated
 from support.compiled import needs_compiler
 from support.files import read
 from support.instruction_cases import DATA
-from support.libraries import ran
-from support.program import CaseTest
+from support.libraries import output_of, ran
 from support.wasm import Assembler, Data, Function, text, unsigned
 
 from c_file.archive import only_member
 from c_file.errors import NotTranslated
-from c_file.instructions import TABLE
+from c_file.instructions import TABLE, Decoder
 from c_file.translate import translated as translation
+from c_file.wasm_object import read_object
 
 STRICT = ["-std=c11", "-Wall", "-Wextra", "-Werror"]
 
-# A processor of 32 bits: its compiler, and what runs its programs.
-SMALL = ("arm-linux-gnueabihf-gcc", "-static"), ("qemu-arm",)
-
-# Programs that are tested: their names, the compiler and its arguments, and what runs them.
-BUILDS = [
-    ("gcc -O0", ["cc", "-O0"], []),
-    ("gcc -O1, and no undefined behaviour", ["cc", "-O1", "-fsanitize=undefined", "-fno-sanitize-recover"], []),
-    ("clang -O1", ["clang", "-O1"], []),
-    ("32-bit ARM, -O1", [*SMALL[0], "-O1"], [*SMALL[1]]),
-]
+# Programs that are tested: the compiler and its arguments, and what runs them. One is for words of 32 bits.
+BUILDS = {
+    "gcc -O0": (["cc", "-O0"], []),
+    "gcc -O1, and no undefined behaviour": (["cc", "-O1", "-fsanitize=undefined", "-fno-sanitize-recover"], []),
+    "clang -O1": (["clang", "-O1"], []),
+    "32-bit ARM, -O1": (["arm-linux-gnueabihf-gcc", "-static", "-O1"], ["qemu-arm"]),
+}
 
 
 @needs_compiler
-class CasesTest(CaseTest):
-    """The cases, as programs."""
-
+class CasesTest(unittest.TestCase):
     @classmethod
     def setUpClass(cls):
         cls.folder = tempfile.mkdtemp(prefix="bootswap-c-")
@@ -47,23 +42,18 @@ class CasesTest(CaseTest):
         cls.cases = translated.all_cases()
         translated.write_sources(cls.cases, cls.folder)
 
-    def compiled(self, words, files=("cases.c", "main.c")):
-        """Compiles files of the folder, and returns what is wrong and the program."""
-        program = f"{self.folder}/program"
-        return ran([*words, *STRICT, *(f"{self.folder}/{it}" for it in files), "-o", program])[0], program
-
-    def test_cases(self):
-        for name, words, runner in BUILDS:
+    def test_each_case_returns_what_the_specification_says(self):
+        program, files = f"{self.folder}/program", [f"{self.folder}/{it}.c" for it in ("cases", "main")]
+        for name, (words, runner) in BUILDS.items():
             with self.subTest(name):
                 missing = [it for it in (words[0], *runner) if not shutil.which(it)]
                 if missing:
                     self.skipTest(f"not installed: {' and '.join(missing)}")
-                faults, program = self.compiled(words)
-                self.case(name, faults or translated.ran([*runner, program], self.cases))
+                output_of([*words, *STRICT, *files, "-o", program])
+                self.assertEqual([], translated.ran([*runner, program], self.cases))
 
     @unittest.skipUnless(shutil.which("node"), "there is no `node`")
-    def test_node(self):
-        """`node` runs the functions of the cases as a module."""
+    def test_node_returns_the_same(self):
         module, script = f"{self.folder}/cases.wasm", f"{self.folder}/cases.js"
         with open(module, "wb") as it:
             it.write(translated.assembler_of(self.cases).module())
@@ -71,37 +61,29 @@ class CasesTest(CaseTest):
             it.write(translated.NODE % translated.PATTERN.hex())
         kinds = [",".join([str(it.result), *it.params]) for it in self.cases]
         words = ["node", "--experimental-wasm-memory64", script, module, *kinds]
-        self.case("node", translated.ran(words, self.cases))
+        self.assertEqual([], translated.ran(words, self.cases))
 
-    def test_each_instruction(self):
-        """Each instruction of the subset is in a function of a case."""
-        from c_file.instructions import Decoder
-        from c_file.wasm_object import read_object
-
+    def test_each_instruction_is_in_a_case(self):
         made, seen = read_object(translated.assembler_of(self.cases).object()), set()
         for function in range(len(made.functions)):
             decoder = Decoder(made, function)
             decoder.locals()
             seen.update(it.meaning.name for it in decoder.instructions())
-        self.case("all", sorted({it.name for it in TABLE.values()} - seen - {"select t"}))
+        self.assertEqual({"select t"}, {it.name for it in TABLE.values()} - seen)
 
-    def test_alignments(self):
-        """Data has the alignment of its segment."""
+    def test_data_has_the_alignment_of_its_segment(self):
         written = read(f"{self.folder}/cases.c").decode()
         for i, it in enumerate(DATA):
-            self.case(it.name, [] if f"struct BOOTSWAP_ALIGNED({it.alignment}) data_{i} {{" in written else ["another alignment"])
+            self.assertIn(f"struct BOOTSWAP_ALIGNED({it.alignment}) data_{i} {{", written)
 
-    def test_repeated(self):
-        """Two translations of the same object are the same text."""
+    def test_an_object_is_always_translated_to_the_same_text(self):
         made, header = translated.assembler_of(self.cases).object(), translated.header_of(self.cases)
         first, second = (translation(made, [("cases.h", header)], ["Twice."]) for _ in range(2))
-        self.case("twice", [] if first == second else ["two texts differ"])
+        self.assertEqual(first, second)
 
-    def test_big_endian(self):
-        """A compiler for a big-endian processor is refused."""
+    def test_a_compiler_for_a_big_endian_processor_is_refused(self):
         words = ["-D__BYTE_ORDER__=__ORDER_BIG_ENDIAN__", "-Wno-builtin-macro-redefined", "-fsyntax-only"]
-        faults, _ = ran(["cc", *words, f"{self.folder}/cases.c"])
-        self.case("big-endian", [] if faults and "little-endian" in faults[0] else ["it compiles"])
+        self.assertIn("little-endian", str(ran(["cc", *words, f"{self.folder}/cases.c"])[0]))
 
 
 # What is refused: the body of a function of one i64 with an i64 local, or other parts of an object, and a part of the error.
@@ -173,89 +155,88 @@ USES_OUTSIDE = {
 }
 
 
-class RefusedTest(CaseTest):
+# The declaration of a function of one i64, and functions that are refused for other reasons than their instructions.
+HEADER = "void bootswap_0(uint64_t a);\n"
+IDLE = Function("bootswap_0", [64], None, "nop", [64])
+USED = Function("bootswap_0", [64], None, "i64.const @it; i64.load 8 0; drop")
+NUMBERS = [Data("it", bytes(16))]
+PLACE = [*NUMBERS, Data("place", bytes(8), {0: ("it", 0)})]
+
+# What is in an archive before the bytes of a member.
+MEMBER = b"a.o/".ljust(48) + b"3".ljust(10) + b"`\n"
+
+
+def of(body, result=None):
+    return Function("bootswap_0", [64], result, body, [64])
+
+
+class RefusedTest(unittest.TestCase):
     """What isn't understood is refused, with an error that names it."""
 
-    def refused(self, name, wanted, function=None, **parts):
-        """A case: an object with a function is refused for this reason."""
-        function = function or Function("bootswap_0", [64], None, "nop", [64])
-        inner = {it: parts.pop(it) for it in ("data", "imports", "relocation_kinds") if it in parts}
-        header = parts.pop("header", "void bootswap_0(uint64_t a);\n")
-        try:
-            translation(Assembler([function], **inner).object(**parts), [("cases.h", header)], [])
-        except NotTranslated as error:
-            self.case(name, [] if wanted in str(error) else [f"the error is: {error}"])
-        else:
-            self.case(name, ["it is translated"])
+    def translate(self, function, header=HEADER, data=(), imports=None, kinds=None, **parts):
+        made = Assembler([function], data, imports, kinds).object(**parts)
+        return translation(made, [("cases.h", header)], [])
+
+    def refused(self, wanted, function=IDLE, **parts):
+        """An object with a function is refused for this reason."""
+        with self.subTest(f"{wanted} of {function.body}, {parts}"), self.assertRaises(NotTranslated) as caught:
+            self.translate(function, **parts)
+        self.assertIn(wanted, str(caught.exception))
 
     def test_instructions(self):
         for body, wanted in BODIES.items():
-            self.refused(body, wanted, Function("bootswap_0", [64], None, body, [64]))
-            if "opcode" in wanted:
-                self.refused(f"{body}: the function", "bootswap_0", Function("bootswap_0", [64], None, body, [64]))
+            self.refused(wanted, of(body))
+        self.refused("bootswap_0", of("i32.const 0; f32.add"))
 
-    def test_outside(self):
+    def test_places_outside_of_a_frame(self):
         for use, wanted in USES_OUTSIDE.items():
-            function = Function("bootswap_0", [64], None, f"{OUTSIDE}; {use}", [64])
             if wanted:
-                self.refused(use, wanted, function)
+                self.refused(wanted, of(f"{OUTSIDE}; {use}"))
             else:
-                translation(Assembler([function]).object(), [("cases.h", "void bootswap_0(uint64_t a);\n")], [])
-        function = Function("bootswap_0", [64], 64, OUTSIDE, [64])
-        self.refused("a result", "more than 32 bits", function, header="uint64_t bootswap_0(uint64_t a);\n")
+                self.translate(of(f"{OUTSIDE}; {use}"))
+        self.refused("more than 32 bits", of(OUTSIDE, 64), header="uint64_t bootswap_0(uint64_t a);\n")
         for number, is_taken in ((-1, False), (0, True), (16, True), (17, False)):
-            function = Function("bootswap_0", [64], None, f"i64.const @it+{number}; local.get 0; i64.eq; drop", [64])
-            inner = {"data": [Data("it", bytes(16))], "header": "void bootswap_0(uint64_t a);\n"}
+            function = of(f"i64.const @it+{number}; local.get 0; i64.eq; drop")
             if is_taken:
-                translation(Assembler([function], inner["data"]).object(), [("cases.h", inner["header"])], [])
+                self.translate(function, data=NUMBERS)
             else:
-                self.refused(f"data at {number}", "more than 32 bits", function, **inner)
+                self.refused("more than 32 bits", function, data=NUMBERS)
 
     def test_imports(self):
-        for kind, more in (("a table", b"\x01\x70\0\x01"), ("a global", b"\x03\x7f\0"), ("a function", None)):
-            if more:
-                self.refused(kind, "the import env.other", extra_imports=text("env") + text("other") + more, extra_import_count=1)
-        body = Function("bootswap_0", [64], None, "call other")
-        self.refused("a call of an imported function", "the imported function other", body, imports={"other": None})
-        self.refused("32-bit addresses", "32-bit addresses", extra_imports=text("env") + text("m") + b"\x02\0\x01",
-                     extra_import_count=1)
+        for more in (b"\x01\x70\0\x01", b"\x03\x7f\0"):
+            self.refused("the import env.other", extra_imports=text("env") + text("other") + more, extra_import_count=1)
+        self.refused("the imported function other", of("call other"), imports={"other": None})
+        self.refused("32-bit addresses", extra_imports=text("env") + text("m") + b"\x02\0\x01", extra_import_count=1)
 
     def test_sections(self):
         for kind in (4, 5, 6, 8, 9, 13):
-            self.refused(f"section {kind}", f"section {kind}", extra_section=bytes([kind]) + unsigned(1) + b"\0")
+            self.refused(f"section {kind}", extra_section=bytes([kind]) + unsigned(1) + b"\0")
 
     def test_relocations(self):
-        data, body = [Data("numbers", bytes(16))], Function("bootswap_0", [64], None, "i64.const @numbers; drop")
+        access = of("i64.const 0; i64.load 8 @it; drop")
         for kind in ("constant", "access", "data"):
             for number in (1, 2, 4, 11, 18, 26):
-                other = Function("bootswap_0", [64], None, "i64.const 0; i64.load 8 @numbers; drop") if kind == "access" else body
-                inner = [*data, Data("place", bytes(8), {0: ("numbers", 0)})]
-                self.refused(f"{kind} of kind {number}", "relocation", other, data=inner, relocation_kinds={kind: number})
-        self.refused("a relocation of another operand", "a relocation of kind 0", body, data=data,
-                     relocation_kinds={"constant": 0})
+                self.refused("relocation", access if kind == "access" else USED, data=PLACE, kinds={kind: number})
+        self.refused("a relocation of kind 0", USED, data=NUMBERS, kinds={"constant": 0})
 
     def test_data(self):
-        used = Function("bootswap_0", [64], None, "i64.const @it; i64.load 8 0; drop")
-        self.refused("data that is written", "it isn't constant", used, data=[Data("it", bytes(8), section=".data")])
-        outside = [Data("it", bytes(8), {0: ("it", 9)})]
-        self.refused("an address outside of its data", "outside of the data", used, data=outside)
+        self.refused("it isn't constant", USED, data=[Data("it", bytes(8), section=".data")])
+        self.refused("outside of the data", USED, data=[Data("it", bytes(8), {0: ("it", 9)})])
 
     def test_headers(self):
-        self.refused("a call that isn't exported", "bootswap_1", header="void bootswap_0(uint64_t a);\nvoid bootswap_1(void);\n")
-        self.refused("an export that isn't declared", "bootswap_0", header="")
-        self.refused("another type", "other types", header="void bootswap_0(uint32_t a);\n")
-        self.refused("an unknown type", "`float a`", header="void bootswap_0(float a);\n")
+        for header, wanted in (
+            (f"{HEADER}void bootswap_1(void);\n", "bootswap_1"),
+            ("", "bootswap_0"),
+            ("void bootswap_0(uint32_t a);\n", "other types"),
+            ("void bootswap_0(float a);\n", "`float a`"),
+        ):
+            self.refused(wanted, header=header)
 
     def test_files(self):
-        for name, contents in (("no archive", b"x"), ("an empty archive", b"!<arch>\n"), ("a part", b"!<arch>\nc_interface.o/")):
-            with self.assertRaises(NotTranslated, msg=name):
+        self.assertEqual(b"abc", only_member(b"!<arch>\n" + MEMBER + b"abc\n"))
+        for contents in (b"x", b"!<arch>\n", b"!<arch>\nc_interface.o/", b"!<arch>\n" + 2 * (MEMBER + b"abc\n")):
+            with self.subTest(contents), self.assertRaises(NotTranslated):
                 only_member(contents)
-        header = b"a.o/".ljust(48) + b"3".ljust(10) + b"`\n"
-        self.assertEqual(only_member(b"!<arch>\n" + header + b"abc\n"), b"abc")
-        with self.assertRaises(NotTranslated):
-            only_member(b"!<arch>\n" + 2 * (header + b"abc\n"))
-        for name, contents in (("no object", b"\x7fELF"), ("a short object", b"\0asm\1\0\0\0\1\x85")):
-            with self.assertRaises(NotTranslated, msg=name):
+        for contents in (b"\x7fELF", b"\0asm\1\0\0\0\1\x85"):
+            with self.subTest(contents), self.assertRaises(NotTranslated):
                 translation(contents, [], [])
-
-

@@ -1,21 +1,21 @@
-"""Wrong translations: edits of bindings/c_file that the cases of test_c_translation.py have to notice.
+"""Wrong translations: edits of bindings/c_file that the cases of test_translation.py have to notice.
 
 Each edit changes one place of a copy of the translator. The named cases are translated with the copy, compiled and run: at least
 one has to differ, or stop for undefined behaviour. The few edits after which nothing is translated, or nothing compiles, say so.
-Without an edit each case passes: test_c_translation.py has them all.
+Without an edit each case passes: test_translation.py has them all.
 """
 
 import os
 import shutil
 import sys
 import tempfile
+import unittest
 from dataclasses import dataclass
 
 from support import translated
 from support.compiled import needs_compiler
 from support.files import ROOT, read
 from support.libraries import ran
-from support.program import CaseTest
 
 SMALL = ["arm-linux-gnueabihf-gcc", "-static", "-O1"]
 HERE = ["cc", "-O1", "-fsanitize=address,undefined", "-fno-sanitize-recover"]
@@ -145,56 +145,36 @@ EDITS = [
 
 
 @needs_compiler
-class EditsTest(CaseTest):
-    @classmethod
-    def setUpClass(cls):
-        cls.folder = tempfile.mkdtemp(prefix="bootswap-c-edits-")
-        cls.addClassCleanup(shutil.rmtree, cls.folder, ignore_errors=True)
+class EditsTest(unittest.TestCase):
+    def test_each_edit_is_noticed(self):
+        with tempfile.TemporaryDirectory(prefix="bootswap-c-edits-") as folder:
+            for it in EDITS:
+                with self.subTest(f"{it.file}: {it.old} -> {it.new}"):
+                    words, runner = (SMALL, ["qemu-arm"]) if it.is_small else (HERE, [])
+                    if it.is_small and not all(map(shutil.which, (SMALL[0], "qemu-arm"))):
+                        self.skipTest("gcc for 32-bit ARM and qemu-arm aren't installed")
+                    self.write_copy(it, folder)
+                    step, faults = self.outcome(it, folder, words, runner)
+                    self.assertEqual((it.step, True), (step, bool(faults)), faults[:1])
 
-    def test_places(self):
-        """The text of each edit is in its file exactly once."""
-        for it in EDITS:
-            count = read(f"{ROOT}/bindings/c_file/{it.file}").decode().count(it.old)
-            self.case(f"{it.file}: {it.old}", [f"{count} times"] * (count != 1))
+    def write_copy(self, it, folder):
+        """Writes a copy of bindings/ with an edit, whose text is in its file exactly once."""
+        shutil.rmtree(f"{folder}/bindings", ignore_errors=True)
+        shutil.copytree(f"{ROOT}/bindings/c_file", f"{folder}/bindings/c_file")
+        text = read(f"{ROOT}/bindings/c_file/{it.file}").decode()
+        self.assertEqual(1, text.count(it.old))
+        with open(f"{folder}/bindings/c_file/{it.file}", "w", encoding="utf-8") as file:
+            file.write(text.replace(it.old, it.new))
 
-    @staticmethod
-    def builds():
-        return [(HERE, [])] + [(SMALL, ["qemu-arm"])] * all(shutil.which(it) for it in (SMALL[0], "qemu-arm"))
-
-    def test_edits(self):
-        builds = self.builds()
-        for it in EDITS:
-            with self.subTest(f"{it.file}: {it.old} -> {it.new}"):
-                if it.is_small and len(builds) < 2:
-                    self.skipTest("no processor of 32 bits: gcc for 32-bit ARM and qemu-arm aren't installed")
-                cases = translated.all_cases(it.cases)
-                self.assertTrue(cases, "no case has such a name")
-                step, faults = self.outcome(cases, it.cases, self.edited(it), *builds[it.is_small])
-                self.assertTrue(faults, "no case differs")
-                self.assertEqual(step, it.step, f"it isn't noticed there: {faults[0][:300]}")
-
-    def edited(self, it):
-        """Returns a copy of bindings/ with an edit."""
-        copy = f"{self.folder}/bindings"
-        shutil.rmtree(copy, ignore_errors=True)
-        shutil.copytree(f"{ROOT}/bindings/c_file", f"{copy}/c_file")
-        path = f"{copy}/c_file/{it.file}"
-        with open(path, "r+", encoding="utf-8") as file:
-            changed = file.read().replace(it.old, it.new)
-            file.seek(0)
-            file.truncate()
-            file.write(changed)
-        return copy
-
-    def outcome(self, cases, pattern, bindings, words, runner):
+    def outcome(self, it, folder, words, runner):
         """Translates, compiles and runs cases. Returns the step that was reached, and what is wrong."""
-        environment = {**os.environ, "BOOTSWAP_BINDINGS": bindings, "PYTHONDONTWRITEBYTECODE": "1"}
-        faults, _ = ran([sys.executable, "-m", "support.translated", pattern, self.folder], cwd=f"{ROOT}/tests", env=environment)
+        cases = translated.all_cases(it.cases)
+        self.assertTrue(cases, "no case has such a name")
+        environment = {**os.environ, "BOOTSWAP_BINDINGS": f"{folder}/bindings", "PYTHONDONTWRITEBYTECODE": "1"}
+        translator = [sys.executable, "-m", "support.translated", it.cases, folder]
+        faults, _ = ran(translator, cwd=f"{ROOT}/tests", env=environment)
         if faults:
             return "translate", faults
-        program = f"{self.folder}/program"
-        faults, _ = ran([*words, "-std=c11", "-Werror=shift-count-overflow", f"{self.folder}/cases.c", f"{self.folder}/main.c",
-                         "-o", program])
-        return ("compile", faults) if faults else ("run", translated.ran([*runner, program], cases))
-
-
+        files = [f"{folder}/cases.c", f"{folder}/main.c", "-o", f"{folder}/program"]
+        faults, _ = ran([*words, "-std=c11", "-Werror=shift-count-overflow", *files])
+        return ("compile", faults) if faults else ("run", translated.ran([*runner, f"{folder}/program"], cases))
