@@ -9,8 +9,8 @@ import tempfile
 import unittest
 
 from support.files import ROOT, read
-from support.libraries import TARGET, archive_for, c_folder, ran
-from support.program import ProgramTest, short
+from support.libraries import TARGET, archive_for, c_folder, output_of
+from support.program import ProgramTest
 from support.stories import STAYED
 from support.worked import NO_SESSION, NO_TRIAL, NOTHING_REQUESTED, NOT_UP, PLAIN, TRIED, numbered
 
@@ -75,15 +75,7 @@ UNREADABLE += [f"piece 1 {8193 * '5a'}", 40000 * "z", "accept 1"]
 UNREADABLE += [f"accept 4294967296 0 test 3 {DIGEST} -", f"accept 1 0 test 3 {DIGEST}"]
 UNREADABLE += [f"accept 1 0 test 3 {DIGEST}5a -", f"accept 1{9 * f' 0 test 3 {DIGEST} -'}"]
 
-SECTION = re.MULTILINE | re.DOTALL
-
 BAD_SCRIPTS = ["cut 1 keep\nboot\n", "boot\nfinish\n", "boot\npiece 0 absent.img\n", "finish 0\n"]
-
-
-def more_boots(replies):
-    """The boots that `run` needs at the end of a script for the same replies: one for each revert. All
-    are equal here: the events after a revert are boots."""
-    return "boot\n" * sum(it.startswith("reverted") for it in replies)
 
 
 class Board:
@@ -116,84 +108,64 @@ class Board:
         done = subprocess.run([*words, *arguments], input=given, timeout=LIMIT, **streams)
         return done.returncode, done.stdout, done.stderr
 
-    def test_scripts(self):
-        """The board answers as `bootswap run` does, and runs the images of each report."""
-        for name, events, replies, versions, status in RUNS:
-            script = "".join(f"{it}\n" for it in events).format(self.made)
-            ran = "".join(f"image {at % 2} version {it}.0.0\n" for at, it in enumerate(versions))
-            wanted = (status, numbered(replies).decode(), ran)
-            got = self.run_board("run", "-", "--out", self.made, given=script)
-            faults = [f"{short(got)}, and not {wanted}"] * (got != wanted)
-            self.case(f"{name} on {self.name}", faults)
-            self.expect_program(name, script + more_boots(replies), status, numbered(replies))
-
-    def expect_program(self, name, script, status, wanted):
-        """Cases: `bootswap run` prints the same, and leaves the same flash, on the same device."""
+    def test_it_answers_as_run_does_and_leaves_the_same_flash(self):
+        """It runs the images of each report. `run` needs a boot more at the end of a script for each revert: all events after
+        a revert are boots."""
         device = f"{ROOT}/board/device.json"
-        if name == "revert":
-            images = [f"{self.made}/old{it}.img" for it in (0, 1)]
-            self.expect("provision", ["provision", device, "flash", *images], 0, b"done\n")
-        arguments = ["run", device, "flash", "-"]
-        self.expect(f"{name} of `run`", arguments, status, wanted, given=script.encode())
-        on_board = self.platform.read_flash(f"{self.made}/flash")
-        same = read(f"{self.folder}/flash") == on_board
-        self.case(f"{name}: both leave the same flash", [] if same else ["they differ"])
+        for name, events, replies, versions, status in RUNS:
+            with self.subTest(name):
+                script = "".join(f"{it}\n" for it in events).format(self.made)
+                ran = "".join(f"image {at % 2} version {it}.0.0\n" for at, it in enumerate(versions))
+                got = self.run_board("run", "-", "--out", self.made, given=script)
+                self.assertEqual((status, numbered(replies).decode(), ran), got)
+                if name == "revert":
+                    images = [f"{self.made}/old{it}.img" for it in (0, 1)]
+                    self.assertEqual((0, b"done\n", b""), self.run_program(["provision", device, "flash", *images]))
+                script += "boot\n" * sum(it.startswith("reverted") for it in replies)
+                got = self.run_program(["run", device, "flash", "-"], given=script.encode())
+                self.assertEqual((status, numbered(replies), b""), got)
+                self.assertEqual(read(f"{self.folder}/flash"), self.platform.read_flash(f"{self.made}/flash"))
 
-    def test_kills(self):
-        """The board survives losing its power at random moments of upgrades and reverts."""
-        got = self.run_board("kill", str(self.kills), "--seed", "7", "--out", self.made)
-        is_right = got[0] == 0 and re.fullmatch(SUMMARY.format(self.kills), got[1]) and not got[2]
-        self.case(f"{self.kills} kills", [] if is_right else [short(got)])
+    def test_it_survives_kills_at_random_moments_of_upgrades_and_reverts(self):
+        status, out, err = self.run_board("kill", str(self.kills), "--seed", "7", "--out", self.made)
+        self.assertEqual((0, ""), (status, err))
+        self.assertRegex(out, rf"\A{SUMMARY.format(self.kills)}\Z")
 
-    def test_upgrade_script(self):
-        """The script of the machine's README is that of the others, with the names of its files."""
-        name = SCRIPTS[self.name]
-        folder = os.path.relpath(self.platform.out(), ROOT)
-        wanted = "\n".join([*UPGRADE, ""]).replace("{0}", folder)
-        got = read(f"{ROOT}/board/{name}").decode()
-        self.case(name, [f"{got!r}, and not {wanted!r}"] * (got != wanted))
+    def test_its_script_is_that_of_the_others(self):
+        """With the names of its files."""
+        wanted = "\n".join([*UPGRADE, ""]).replace("{0}", os.path.relpath(self.platform.out(), ROOT))
+        self.assertEqual(wanted, read(f"{ROOT}/board/{SCRIPTS[self.name]}").decode())
 
-    def test_bad_scripts(self):
-        """A line that the board doesn't take is refused before the board is turned on."""
+    def test_a_wrong_script_is_refused_before_it_is_turned_on(self):
         for script in BAD_SCRIPTS:
-            got = self.run_board("run", "-", "--out", self.made, given=script)
-            is_right = got[:2] == (2, "") and got[2].startswith("board: script line ")
-            self.case(f"the script {script!r}", [] if is_right else [short(got)])
+            status, out, err = self.run_board("run", "-", "--out", self.made, given=script)
+            self.assertEqual((2, ""), (status, out))
+            self.assertRegex(err, r"\Aboard: script line ")
 
-    def test_lines(self):
-        """The board refuses each line that isn't an event, and answers all others."""
-        platform, flash = self.platform, f"{self.made}/lines"
-        bootloader = parts.build(platform, self.made, self.library)
-        machine.provision(platform, bootloader, self.made, flash)
-        with machine.Machine(platform, bootloader, flash) as board:
-            self.case("power-up", [] if board.answer().startswith("1 plain\n") else ["refused"])
+    def test_it_refuses_each_line_that_is_no_event(self):
+        """It answers all others, and says how much of its stack was used."""
+        flash = f"{self.made}/lines"
+        bootloader = parts.build(self.platform, self.made, self.library)
+        machine.provision(self.platform, bootloader, self.made, flash)
+        with machine.Machine(self.platform, bootloader, flash) as board:
+            self.assertRegex(board.answer(), r"\A1 plain\n")
             for number, (line, reply) in enumerate(LINES, 2):
                 board.send(line)
-                got, wanted = board.answer(), f"{number} {reply}\n"
-                self.case(f"the line {short(line)}", [short(got)] * (got != wanted))
+                self.assertEqual(f"{number} {reply}\n", board.answer(), line[:80])
             for line in UNREADABLE:
                 board.send(line)
-                got = board.answer()
-                self.case(f"the line {short(line)}", [short(got)] * (got != "unreadable\n"))
+                self.assertEqual("unreadable\n", board.answer(), line[:80])
             board.send("stack")
-            self.expect_stack(board.answer())
+            found = re.fullmatch(rf"{len(LINES) + 2} stack (\d+) of (\d+)\n", board.answer())
+            self.assertTrue(1000 < int(found[1]) < int(found[2]), found[0])
 
-    def expect_stack(self, got):
-        """A case: a part of the stack was used, and the machine says which."""
-        found = re.fullmatch(rf"{len(LINES) + 2} stack (\d+) of (\d+)\n", got)
-        is_right = found and 1000 < int(found[1]) < int(found[2])
-        self.case("the line stack", [] if is_right else [short(got)])
-
-    def test_missing(self):
-        """The commands of the board say what is missing."""
-        absent, empty = f"{self.folder}/absent.a", {"PATH": self.folder}
+    def test_what_is_missing_is_named(self):
+        absent = f"{self.folder}/absent.a"
         library = f"board: there is no {absent}: {self.platform.builder} makes it\n"
         system = f"board: there is no {', and no '.join(f'`{it}`' for it in self.programs)}\n"
         for name, argument in (("run", "-"), ("kill", "1")):
-            got = self.run_board(name, argument, "--library", absent)
-            self.case(f"{name} without a library", [short(got)] * (got != (125, "", library)))
-            got = self.run_board(name, argument, **empty)
-            self.case(f"{name} without programs", [short(got)] * (got != (125, "", system)))
+            self.assertEqual((125, "", library), self.run_board(name, argument, "--library", absent))
+            self.assertEqual((125, "", system), self.run_board(name, argument, PATH=self.folder))
 
 
 class PcTest(Board, ProgramTest):
@@ -214,13 +186,6 @@ class CortexMTest(Board, ProgramTest):
     name, kills = "cortex-m", 6
     programs = ("arm-none-eabi-gcc", "cmake", "make", "qemu-system-arm")
 
-    def test_without_cmake(self):
-        """If CMake alone is missing, one line says so."""
-        for it in set(self.programs) - {"cmake"}:
-            os.symlink(shutil.which(it), f"{self.folder}/{it}")
-        got, wanted = self.run_board("run", "-", PATH=self.folder), (125, "", "board: there is no `cmake`\n")
-        self.case("run without CMake", [short(got)] * (got != wanted))
-
     def copy_clone(self):
         """Makes a clone that has what the board needs, and returns its folder."""
         clone = f"{self.folder}/clone"
@@ -230,24 +195,20 @@ class CortexMTest(Board, ProgramTest):
         os.symlink(os.path.dirname(self.library), f"{clone}/out/c")
         return clone
 
-    def test_moved(self):
-        """A folder that another clone built is built anew, and what didn't change isn't."""
+    def test_a_folder_is_built_anew_only_for_another_clone(self):
         folder, clone = f"{self.folder}/out", self.copy_clone()
         parts.build(self.platform, folder, self.library)
         library = f"{folder}/bootswap/CMakeFiles/bootswap.dir/bootswap.c.obj"
         first = os.stat(library).st_mtime_ns
         parts.build(self.platform, folder, self.library)
-        self.case("the library isn't compiled again", ["it is"] * (os.stat(library).st_mtime_ns != first))
+        self.assertEqual(first, os.stat(library).st_mtime_ns)
         words = [sys.executable, "-B", f"{clone}/board/run", "--machine", "cortex-m"]
-        faults, _ = ran([*words, "--out", folder, f"{self.folder}/{self.file('script', b'boot')}"])
-        self.case("another clone builds in the same folder", faults)
+        output_of([*words, "--out", folder, f"{self.folder}/{self.file('script', b'boot')}"])
 
-    def test_by_hand(self):
-        """The commands of the README build the same."""
-        clone = self.copy_clone()
-        shown = re.search(r"^## The build\n.*?^```sh\n(.*?)^```$", read(f"{clone}/board/cortex_m/README.md").decode(), SECTION)[1]
-        self.case("they build", ran(["bash", "-e", "-c", shown], cwd=clone)[0])
+    def test_the_commands_of_the_readme_build_the_same(self):
+        clone, page = self.copy_clone(), read(f"{ROOT}/board/cortex_m/README.md").decode()
+        shown = re.search(r"^## The build\n.*?^```sh\n(.*?)^```$", page, re.MULTILINE | re.DOTALL)[1]
+        output_of(["bash", "-e", "-c", shown], cwd=clone)
         parts.build(self.platform, self.made, self.library)
         for name in ("bootloader.elf", "old0.img", "old1.img", "new0.img", "new1.img"):
-            same = read(f"{clone}/build/{name}") == read(f"{self.made}/{name}")
-            self.case(name, ["it differs"] * (not same))
+            self.assertEqual(read(f"{self.made}/{name}"), read(f"{clone}/build/{name}"), name)

@@ -70,7 +70,7 @@ class PythonTest(unittest.TestCase):
             shutil.copy(file, f"{clone}/out/lib{name}")
         first, _, commands = fenced("bindings/README.md", "sh")[0].partition("\n")
         self.assertEqual("bindings/build", first)
-        printed, report = fenced("bindings/README.md", "")[:2]
+        printed, *_, report = fenced("bindings/README.md", "")
         environment = {name: it for name, it in os.environ.items() if name not in ("BOOTSWAP_LIBRARY", "PYTHONPATH")}
         for words, wanted in (
             (["bash", "-ec", commands], printed),

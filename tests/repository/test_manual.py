@@ -1,214 +1,128 @@
-"""The manual pages."""
+"""The manual pages: those of the commands, which the program prints, and bootswap-formats(5) and libbootswap(3)."""
 
 import re
 import shutil
 import subprocess
-import sys
 import tempfile
 import unittest
+from collections import Counter
 
 from support.commands import COMMANDS
 from support.files import ROOT, read
-from support.headers import comments, declarations, declared
-from support.program import CaseTest, ProgramTest, short
-
-sys.path.insert(0, f"{ROOT}/tools")
+from support.headers import comments, declared
+from support.program import ProgramTest
 
 from manual_pages import formats_page, library_pages
 
 SECTIONS = ["NAME", "SYNOPSIS", "DESCRIPTION", "OPTIONS", "EXIT STATUS", "EXAMPLES", "SEE ALSO"]
 PAGES = [[], *([it] for it in COMMANDS)]
 
-
-def options_of(text):
-    """The options that a help lists."""
-    listed = text.partition("\nOptions:\n")[2].partition("\n\nExit status")[0]
-    return re.findall(r"^ +(?:-\w, )?(--[\w-]+)", listed, re.MULTILINE)
+needs_man = unittest.skipUnless(shutil.which("man") and shutil.which("groff"), "there is no man, or no groff")
+needs_mandoc = unittest.skipUnless(shutil.which("mandoc"), "there is no mandoc")
 
 
-def texts_of(document):
-    """Yields the texts of docs/FORMATS.md as a page shows them, with one space between two words, and whether each is the head
-    of a column. The lines of a paragraph are texts of their own."""
-    blocks = re.split(r"^```\n(.*?)^```\n", document.partition("\n")[2], flags=re.MULTILINE | re.DOTALL)
-    for number, block in enumerate(blocks):
-        lines = block.splitlines() if number % 2 else prose_of(block).splitlines()
-        for at, line in enumerate(lines):
-            is_head = line.startswith("| ") and "".join(lines[at + 1 : at + 2]).startswith("|---")
-            if number % 2 == 0 and line.startswith("|"):
-                parts = [] if line.startswith("|---") else line.strip("|").split("|")
-            elif number % 2 == 0:
-                parts = [re.sub(r"^(- |\d+\. |### )", "", line.upper()[3:] if line.startswith("## ") else line)]
-            else:
-                parts = [line]
-            yield from ((is_head, " ".join(it.split())) for it in parts if it.strip())
+def words_of(text):
+    """Returns the words of a text, and how often each is there."""
+    return Counter(re.findall(r"[a-z0-9]+", text.lower()))
 
 
-def prose_of(text):
-    """Returns a part of docs/FORMATS.md without the marks in its lines. A link to another document names it."""
-    text = re.sub(r"\[([^\]]+)\]\((?:#[^)]*|\1(?:#[^)]*)?)\)", r"\1", text)
-    text = re.sub(r"\[([^\]]+)\]\(([^)#]+)[^)]*\)", r"\1 (\2)", text)
-    parts = text.split("`")
-    return "".join(it if at % 2 else it.replace("*", "") for at, it in enumerate(parts))
+def shown(page, words, width=80):
+    """Returns a page as a program shows it in a terminal of this width. It has no warning."""
+    section = re.search(r"^\.TH \S+ (\d)", page, re.MULTILINE)[1]
+    with tempfile.NamedTemporaryFile("w", suffix=f".{section}") as it:
+        it.write(page)
+        it.flush()
+        environment = {"PATH": "/usr/bin:/bin", "MANWIDTH": str(width), "LC_ALL": "C.UTF-8"}
+        done = subprocess.run([*words, it.name], capture_output=True, env=environment, check=True)
+    assert done.stderr == b"", done.stderr.decode()
+    return re.sub(".\x08", "", done.stdout.decode())
 
 
-class ManualTest(ProgramTest):
-    """The manual pages."""
+MAN, LINT = ["man", "--warnings", "-l"], ["mandoc", "-T", "lint", "-W", "warning"]
 
-    def page(self, names):
-        status, out, err = self.run_program(["help", "man", *names])
-        self.assertEqual((status, err), (0, b""), names)
-        return out
 
-    def render(self, page):
-        """Returns a page as `man` prints it, and the warnings."""
-        if not shutil.which("man") or not shutil.which("groff"):
-            self.skipTest("there is no man")
-        name = self.file("page.1", page)
-        shown = subprocess.run(
-            ["man", "--warnings", "-l", name],
-            cwd=self.folder,
-            capture_output=True,
-            env={"PATH": "/usr/bin:/bin", "MANWIDTH": "80", "LC_ALL": "C.UTF-8"},
-            check=False,
-        )
-        return shown.stdout.decode(), shown.stderr.decode()
-
-    def test_sections(self):
-        """Each page has a title and these sections in this order. The page of the program lists all commands."""
+class CommandPagesTest(ProgramTest):
+    def pages(self):
+        """Yields the arguments of each page, the page, and the long help."""
         for names in PAGES:
-            page = self.page(names).decode()
+            page, help_text = (self.run_program(words) for words in (["help", "man", *names], [*names, "--help"]))
+            self.assertEqual((0, b""), page[::2])
+            with self.subTest(names):
+                yield names, page[1].decode(), help_text[1].decode()
+
+    def test_a_page_has_a_title_and_its_sections(self):
+        """That of the program lists all commands."""
+        for names, page, _ in self.pages():
             title = "\\-".join(it.replace("-", "\\-").upper() for it in ["bootswap", *names])
+            self.assertTrue(page.startswith(f".TH {title} 1 "), page[:80])
             found = re.findall(r"^\.SH (.*)$", page, re.MULTILINE)
-            faults = [] if [it for it in found if it != "COMMANDS"] == SECTIONS else [f"sections {found}"]
-            faults += [] if page.startswith(f".TH {title} 1 ") else [page.partition("\n")[0]]
-            if not names:
-                faults += [it for it in COMMANDS if "\n.B " + it.replace("-", "\\-") + "\n" not in page]
-            self.case(f"the sections of a page: {names}", faults)
+            self.assertEqual(SECTIONS, [it for it in found if it != "COMMANDS"])
+            for it in () if names else COMMANDS:
+                self.assertIn("\n.B " + it.replace("-", "\\-") + "\n", page)
 
-    def test_options(self):
-        """A page names each option of the long help."""
-        for names in PAGES:
-            page = self.page(names).decode().replace("\\-", "-")
-            status, out, _ = self.run_program([*names, "--help"])
-            options = options_of(out.decode())
-            faults = [it for it in options if f"\\fB{it}\\fR" not in page]
-            self.case(f"the options of a page: {names}", faults if status == 0 and options else ["no options"])
+    def test_a_page_names_each_option_of_the_help(self):
+        for _, page, help_text in self.pages():
+            listed = help_text.partition("\nOptions:\n")[2].partition("\n\nExit status")[0]
+            options = re.findall(r"^ +(?:-\w, )?(--[\w-]+)", listed, re.MULTILINE)
+            self.assertTrue(options)
+            page = page.replace("\\-", "-")
+            self.assertEqual([], [it for it in options if f"\\fB{it}\\fR" not in page])
 
-    def test_lint(self):
-        """`mandoc` has no warning for a page."""
-        if not shutil.which("mandoc"):
-            self.skipTest("there is no mandoc")
-        for names in PAGES:
-            name = self.file("page.1", self.page(names))
-            linted = subprocess.run(
-                ["mandoc", "-T", "lint", "-W", "warning", name], cwd=self.folder, capture_output=True, check=False
-            )
-            self.case(f"a page without warnings: {names}", [linted.stdout.decode()] if linted.returncode else [])
+    @needs_mandoc
+    def test_mandoc_has_no_warning(self):
+        for _, page, _ in self.pages():
+            self.assertEqual("", shown(page, LINT))
 
-    def test_man(self):
-        """`man` shows a page without a warning, and with all words of the long help's description."""
-        for names in PAGES:
-            shown, warnings = self.render(self.page(names))
-            _, out, _ = self.run_program([*names, "--help"])
-            described = out.decode().partition("\nUsage: ")[0]
-            faults = [warnings] if warnings else []
-            words = set(shown.split())
-            faults += [it for it in described.split() if it not in words]
-            self.case(f"a page that man shows: {names}", faults)
+    @needs_man
+    def test_man_shows_the_description_of_the_help(self):
+        for _, page, help_text in self.pages():
+            described = help_text.partition("\nUsage: ")[0].split()
+            self.assertEqual(set(), {*described} - {*shown(page, MAN).split()})
 
-    def test_unknown(self):
-        """A command that there isn't is answered as `help` answers it. So is a word too many."""
-        for arguments in [["nonsense"], ["CHOOSE"], [""], ["choose", "check"], ["nonsense", "check"], ["a\nb"]]:
-            ends = self.run_program(["help", "man", *arguments])
-            expected = self.run_program(["help", *arguments])
-            fine = ends == expected and ends[:2] == (2, b"")
-            self.case(f"no page: {arguments}", [] if fine else [short(ends[2]), short(expected[2])])
+    def test_an_unknown_page_is_answered_as_help_answers_it(self):
+        for words in [["nonsense"], [""], ["choose", "check"], ["a\nb"]]:
+            got = self.run_program(["help", "man", *words])
+            self.assertEqual((2, b""), got[:2])
+            self.assertEqual(self.run_program(["help", *words]), got)
 
-    def test_closed(self):
-        """A page that can't be written ends with status 1."""
+    def test_a_page_that_cannot_be_written_ends_with_1(self):
         with open("/dev/full", "wb") as full:
             status, _, err = self.run_program(["help", "man"], stdout=full)
-        self.case("a page to a full device", [] if (status, err) == (1, b"") else [f"{status} {err}"])
+        self.assertEqual((1, b""), (status, err))
 
 
 @unittest.skipUnless(shutil.which("pandoc"), "there is no pandoc")
-class MadePageTest(CaseTest):
-    """The pages that are made of docs/FORMATS.md and of the headers: bootswap-formats(5) and libbootswap(3)."""
+class MadePagesTest(unittest.TestCase):
+    """The pages that are made of docs/FORMATS.md and of the headers."""
 
     @classmethod
     def setUpClass(cls):
-        cls.formats = read(f"{ROOT}/docs/FORMATS.md").decode()
         cls.library = library_pages("2000-01-01", "1.2.3")
-        cls.pages = {"bootswap-formats.5": formats_page("2000-01-01", "1.2.3")}
-        cls.pages["libbootswap.3"] = cls.library["libbootswap"]
+        cls.pages = {"bootswap-formats.5": formats_page("2000-01-01", "1.2.3"), "libbootswap.3": cls.library["libbootswap"]}
 
-    def shown(self, name, by, width):
-        """Returns a page as `man` or `mandoc` shows it in a terminal of this width, and the warnings. A terminal of more than 80
-        columns has wider columns of tables."""
-        if not shutil.which(by) or by == "man" and not shutil.which("groff"):
-            self.skipTest(f"there is no {by}")
-        words = {"man": ["man", "--warnings", "-l"], "mandoc": ["mandoc", "-T", "utf8", "-O", f"width={width - 2}"]}
-        with tempfile.TemporaryDirectory() as folder:
-            with open(f"{folder}/{name}", "w", encoding="utf-8") as it:
-                it.write(self.pages[name] if width <= 80 else re.sub(r"\blw\([\d.]+n\)", "lw(150n)", self.pages[name]))
-            environment = {"PATH": "/usr/bin:/bin", "MANWIDTH": str(width), "LC_ALL": "C.UTF-8"}
-            ran = subprocess.run([*words[by], f"{folder}/{name}"], capture_output=True, env=environment, check=False)
-        return re.sub(".\x08", "", ran.stdout.decode()), ran.stderr.decode()
-
-    def folded(self, name, by):
-        """Returns a page in a terminal so wide that no row of a table is wrapped, with one space between two words."""
-        return " ".join(self.shown(name, by, 1000)[0].split()).replace("( ", "(")
-
-    def test_titles(self):
-        """A page has its name, section, date and version. So the same sources make the same page."""
+    def test_a_page_has_its_name_section_date_and_version(self):
         for name, page in self.pages.items():
-            stem, section = name.upper().split(".")
-            title = f'.TH {stem} {section} 2000-01-01 "bootswap 1.2.3"'
-            self.case(f"the title of {name}", [] if title in page.splitlines()[:2] else page.splitlines()[:2])
+            title = '.TH {} {} 2000-01-01 "bootswap 1.2.3"'.format(*name.upper().split("."))
+            self.assertIn(title, page.splitlines()[:2])
             found = re.findall("^.SH (.*)$", page, re.MULTILINE)
-            self.case(f"the sections of {name}", [] if (found[0], found[-1]) == ("NAME", "SEE ALSO") else found)
+            self.assertEqual(("NAME", "SEE ALSO"), (found[0], found[-1]))
 
-    def test_lint(self):
-        """`mandoc` has no warning for a page."""
-        if not shutil.which("mandoc"):
-            self.skipTest("there is no mandoc")
+    @needs_mandoc
+    def test_mandoc_has_no_warning(self):
         for name, page in self.pages.items():
-            with tempfile.NamedTemporaryFile("w", suffix=f"-{name}") as file:
-                file.write(page)
-                file.flush()
-                words = ["mandoc", "-T", "lint", "-W", "warning", file.name]
-                linted = subprocess.run(words, capture_output=True, text=True, check=False)
-            self.case(f"no warning of mandoc for {name}", [linted.stdout] if linted.returncode else [])
+            self.assertEqual("", shown(page, LINT), name)
 
-    def test_terminal(self):
-        """A terminal of 80 columns shows each line of a page, and `man` has no warning."""
-        for by in ("man", "mandoc"):
-            for name in self.pages:
-                shown, warnings = self.shown(name, by, 80)
-                faults = [it for it in shown.splitlines() if len(it) > 80]
-                self.case(f"{name} by {by} at 80 columns", faults + [warnings] * bool(warnings))
+    @needs_man
+    def test_a_page_fits_80_columns_and_has_all_words_of_its_source(self):
+        """A terminal of more columns has wider columns of tables, so that no word is wrapped."""
+        formats = re.sub(r"\]\([^)]*\)", "", read(f"{ROOT}/docs/FORMATS.md").decode())
+        kinds = (it for kind in ("call", "constant", "number", "struct", "enum") for it in declared(kind))
+        for name, source in (("bootswap-formats.5", formats), ("libbootswap.3", " ".join([*comments(), *kinds]))):
+            page = self.pages[name]
+            self.assertEqual([], [it for it in shown(page, MAN).splitlines() if len(it) > 80])
+            wide = shown(re.sub(r"\blw\([\d.]+n\)", "lw(150n)", page), MAN, 1000)
+            self.assertEqual(Counter(), words_of(source) - words_of(wide), name)
 
-    def test_formats(self):
-        """bootswap-formats(5) has each heading, line, cell and line of code of docs/FORMATS.md, in order."""
-        for by in ("man", "mandoc"):
-            page, at = self.folded("bootswap-formats.5", by), 0
-            for is_head, text in texts_of(self.formats):
-                found = page.find(text, at)
-                with self.subTest(by=by, text=text):
-                    self.assertGreaterEqual(found, 0)
-                at = at if is_head else max(at, found)
-
-    def test_library(self):
-        """libbootswap(3) has each name, declaration and comment of the headers."""
-        for by in ("man", "mandoc"):
-            page = self.folded("libbootswap.3", by)
-            for kind in ("call", "constant", "number", "struct", "enum"):
-                self.case(f"{by}: each {kind}", [it for it in declared(kind) if not re.search(rf"\b{it}\b", page)])
-            page = page.replace("`", "")
-            texts = [it.replace("`", "") for it in [*comments(), *declarations()]]
-            self.case(f"{by}: each comment and declaration", [it for it in texts if it not in page])
-
-    def test_names(self):
-        """Each call has a page, which is that of the library."""
+    def test_each_call_has_a_page(self):
         others = {name: text for name, text in self.library.items() if name != "libbootswap"}
-        self.assertEqual(others, {it: ".so man3/libbootswap.3\n" for it in declared("call")})
+        self.assertEqual({it: ".so man3/libbootswap.3\n" for it in declared("call")}, others)

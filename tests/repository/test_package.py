@@ -1,4 +1,4 @@
-"""The packages that `tools/package` makes."""
+"""The packages that `tools/package` makes, and what tries and verifies them."""
 
 import calendar
 import gzip
@@ -14,7 +14,7 @@ import unittest
 from support.built_clone import LIBRARIES, BuiltCloneTest, places_below
 from support.compiled import needs_compiler
 from support.files import EXAMPLES, ROOT, read
-from support.libraries import ARM_TARGET, archive_for, c_folder, manifest_archive_for, ran
+from support.libraries import ARM_TARGET, archive_for, c_folder, manifest_archive_for, output_of
 from support.program import short
 
 import empty_projects
@@ -95,7 +95,6 @@ cd "$shift_to/root/packages" && set -- *.deb && set -- "${@/#//packages/}"
 exec chroot "$shift_to/root" /bin/bash -c "$USES" uses "$@"
 """
 
-
 # A function in which a compiler has something to check, and what a hardened library has then.
 COPIES = """
 void copies(const char *from, size_t length, char *to) {
@@ -114,7 +113,6 @@ sys.exit(not share(sys.argv[2:], sys.argv[1]))
 
 # A folder with a clean Debian, as `tools/try_packages --root` makes it.
 SYSTEM = os.environ.get("BOOTSWAP_DEBIAN_ROOT")
-
 
 # What makes the packages for Debian.
 TOOLS = ("dpkg-buildpackage", "dh", "dh_python3", "pandoc")
@@ -154,15 +152,14 @@ class PackedTest(BuiltCloneTest):
         """Makes the packages."""
         said = "".join(f"out/packages/{it}\n" for it in (*DEBIAN, *ARCHIVES, *CRATE, "SHA256SUMS")).encode()
         left_out = f"package: bootswap-{version()}.crate is left out: there is no cargo\n".encode() * (not CRATE)
-        self.expect_tool("the packages are made", "package", said=said + left_out, env=self.environment)
+        self.expect_tool("package", said=said + left_out, env=self.environment)
 
 
 class PackageTest(PackedTest):
     """What is in the packages, and that they can be used on this system."""
 
-    def test_same_bytes(self):
-        """Packages have the same bytes, whenever they are made, whoever made the files, and whichever commit with the same
-        crates the program was built from."""
+    def test_packages_have_the_same_bytes(self):
+        """Whenever they are made, whoever made the files, and whichever commit with the same crates the program was built from."""
         self.package()
         first = {it: read(f"{self.made}/{it}") for it in os.listdir(self.made)}
         for at, _, names in os.walk(f"{self.clone}/examples"):
@@ -173,242 +170,196 @@ class PackageTest(PackedTest):
         write_commit(f"{self.clone}/out/bootswap", "f" * 40, differs=True)
         self.write_stamp()
         self.package()
-        for name, contents in sorted(first.items()):
-            self.case(name, [] if read(f"{self.made}/{name}") == contents else ["the bytes differ"])
+        self.assertEqual([], [it for it in first if read(f"{self.made}/{it}") != first[it]])
 
-    def test_contents(self):
-        """Each package has its files, whose owner is root, and no file is in two packages."""
+    def test_a_package_has_its_files(self):
+        """Root owns them, and no file is in two packages. It depends on the packages that it uses."""
         self.packages()
-        faults, _ = ran(["sha256sum", "--check", "--strict", "SHA256SUMS"], cwd=self.made)
-        self.case("the checksums", faults)
+        output_of(["sha256sum", "--check", "--strict", "SHA256SUMS"], cwd=self.made)
+        own = rf"bootswap \(= {re.escape(version())}-1\)"
+        depends = (r"libc6 \(>= 2\.\d+\)", own, rf"{own}, python3:any \(>= 3\.9~\)", "")
         seen = {}
-        for (name, wanted), file in zip(FILES.items(), DEBIAN):
-            _, output = ran(["dpkg-deb", "--contents", f"{self.made}/{file}"])
-            rows = [it.split() for it in output.decode().splitlines()]
-            files = {it[5].removeprefix("./usr/") for it in rows if it[0][0] in "-l"}
-            self.case(f"{name} has its files", sorted(wanted - files))
-            self.case(f"{name} is root's", [" ".join(it) for it in rows if it[1] != "root/root"])
-            self.case(f"{name} shares no file", sorted(it for it in files if seen.setdefault(it, name) != name))
+        for (name, wanted), file, needed in zip(FILES.items(), DEBIAN, depends):
+            with self.subTest(name):
+                output = output_of(["dpkg-deb", "--contents", f"{self.made}/{file}"]).decode()
+                rows = [it.split() for it in output.splitlines()]
+                files = {it[5].removeprefix("./usr/") for it in rows if it[0][0] in "-l"}
+                self.assertEqual(set(), wanted - files)
+                self.assertEqual({"root/root"}, {it[1] for it in rows})
+                self.assertEqual(set(), {it for it in files if seen.setdefault(it, name) != name})
+                output = output_of(["dpkg-deb", "--field", f"{self.made}/{file}", "Depends"]).decode()
+                self.assertRegex(output, rf"\A{needed}\s*\Z")
 
-    def unpacked(self):
-        """The folder of a system that has the files of all packages of Debian."""
-        for it in DEBIAN:
-            faults, _ = ran(["dpkg-deb", "--extract", f"{self.made}/{it}", f"{self.folder}/system"])
-            self.case(f"{it} is unpacked", faults)
-        return f"{self.folder}/system"
-
-    def test_named_documents(self):
-        """Each document that a manual page names is where the page says."""
+    def test_documents_and_changes_are_where_a_reader_looks(self):
+        """Each document that a manual page names is where the page says. A package has the changes of all versions, and its own
+        changelog begins with this version."""
         self.packages()
-        system, named, faults = self.unpacked(), set(), []
+        system, named = f"{self.folder}/system", set()
+        for it in DEBIAN:
+            output_of(["dpkg-deb", "--extract", f"{self.made}/{it}", system])
         for at, _, names in os.walk(f"{system}/usr/share/man"):
             for name in names:
                 text = gzip.decompress(read(f"{at}/{name}")).decode()
                 folder = re.search(r"/usr/share/doc/[\w/]+|$", text)[0]
                 documents = {*re.findall(r"(?:docs/)?[A-Z]+\.md", text)}
                 named |= documents
-                faults += [f"{name} names {it}" for it in documents if not os.path.exists(f"{system}{folder}/{it}")]
-        self.case("they are there", sorted(faults))
-        few = {"COMMANDS.md", "FLEETS.md", "docs/PORTING.md"} - named
-        self.case("the pages name documents", sorted(few))
-
-    def test_changes(self):
-        """Each package has the changes of all versions, and its own changelog begins with this version."""
-        self.packages()
-        system = self.unpacked()
+                self.assertEqual([], [it for it in documents if not os.path.exists(f"{system}{folder}/{it}")], name)
+        self.assertEqual(set(), {"COMMANDS.md", "FLEETS.md", "docs/PORTING.md"} - named)
         for name in FILES:
             changes, own = (gzip.decompress(read(f"{system}/usr/share/doc/{name}/changelog{it}.gz")) for it in ("", ".Debian"))
-            self.case(f"{name}: all changes", [] if changes == read(f"{ROOT}/CHANGELOG.md") else ["they differ"])
-            head = f"bootswap ({version()}-1) unstable; "
-            self.case(f"{name}: the version", [] if own.decode().startswith(head) else [own.decode().partition("\n")[0]])
+            self.assertEqual(read(f"{ROOT}/CHANGELOG.md"), changes)
+            self.assertTrue(own.decode().startswith(f"bootswap ({version()}-1) unstable; "), name)
 
-    def test_relations(self):
-        """A package depends on the libraries and packages that it uses."""
-        self.packages()
-        own = rf"bootswap \(= {re.escape(version())}-1\)"
-        depends = {
-            "bootswap": r"libc6 \(>= 2\.\d+\)",
-            "libbootswap-dev": own,
-            "python3-bootswap": rf"{own}, python3:any \(>= 3\.9~\)",
-            "bootswap-doc": "",
-        }
-        for (name, wanted), file in zip(depends.items(), DEBIAN):
-            _, output = ran(["dpkg-deb", "--field", f"{self.made}/{file}", "Depends"])
-            self.case(name, [] if re.fullmatch(wanted, output.decode().strip()) else [output.decode()])
-
-    def test_archives(self):
-        """An archive is unpacked to one folder, in which the program runs, or the library of a board is."""
+    def test_an_archive_is_unpacked_to_one_folder(self):
+        """The program runs there, or the library of a board is there."""
         self.packages()
         for name in ARCHIVES:
-            faults, _ = ran(["tar", "--extract", "--file", f"{self.made}/{name}"], cwd=self.folder)
-            self.case(f"{name} is unpacked", faults)
+            output_of(["tar", "--extract", "--file", f"{self.made}/{name}"], cwd=self.folder)
         here, arm, c = (f"{self.folder}/{it.removesuffix('.tar.xz')}" for it in ARCHIVES)
-        self.printed_by("the program runs", [f"{here}/bin/bootswap", "--version"], VERSION.encode())
-        self.case("the library for ARM", [] if read(f"{arm}/lib/libbootswap.a") == read(self.arm[0]) else ["it differs"])
-        self.case("its header", [] if os.path.exists(f"{arm}/include/bootswap.h") else ["there is none"])
-        first = read(f"{c}/bootswap.c").decode().splitlines()[1]
-        self.case("the file of C names the commit", [first] * (f" {version()}, commit {COMMIT[:12]}: " not in first))
-        words = ["-std=c11", "-Wall", "-Wextra", "-Werror", "-c", f"{c}/bootswap.c", f"{c}/driver.c"]
-        faults, _ = ran(["cc", *words], cwd=self.folder)
-        self.case("the file of C and the driver compile", faults)
+        self.assertEqual(VERSION.encode(), output_of([f"{here}/bin/bootswap", "--version"]))
+        self.assertEqual(read(self.arm[0]), read(f"{arm}/lib/libbootswap.a"))
+        self.assertTrue(os.path.exists(f"{arm}/include/bootswap.h"))
+        self.assertIn(f" {version()}, commit {COMMIT[:12]}: ", read(f"{c}/bootswap.c").decode().splitlines()[1])
+        words = ["cc", "-std=c11", "-Wall", "-Wextra", "-Werror", "-c", f"{c}/bootswap.c", f"{c}/driver.c"]
+        output_of(words, cwd=self.folder)
 
     def check_all(self, checks_of, archive):
-        """Cases: on this system an archive passes what `tools/try_packages` checks on a clean one."""
+        """On this system an archive passes what `tools/try_packages` checks on a clean one."""
         place = f"{self.folder}/projects"
         os.mkdir(place)
         for it in (f"{self.made}/{archive}", *(f"{EXAMPLES}/images/{it}" for it in empty_projects.IMAGES)):
             shutil.copy(it, place)
         environment = {name: it for name, it in os.environ.items() if name not in ("BOOTSWAP_C", "CARGO_TARGET_DIR")}
         for check in checks_of(place, version()):
-            _, output = ran(["bash", "-c", check.command], cwd=place, env=environment)
-            self.case(check.name, [short(output)] * (output != check.printed.encode()))
+            with self.subTest(check.name):
+                output = output_of(["bash", "-c", check.command], cwd=place, env=environment)
+                self.assertEqual(check.printed, output.decode())
         return place
 
     @unittest.skipUnless(shutil.which("cmake"), "there is no cmake")
-    def test_c_archive(self):
-        """Empty projects of CMake boot a device over the archive of the file of C. A Cortex-M's example is built in it. It has
-        the digests of its files."""
+    def test_projects_of_cmake_take_the_archive_of_the_file_of_c(self):
+        """A Cortex-M's example is built in it. It has the digests of its files."""
         self.packages()
         top = f"{self.check_all(empty_projects.checks_of_c, ARCHIVES[2])}/{ARCHIVES[2].removesuffix('.tar.xz')}"
         listed = {it.split("  ", 1)[1] for it in read(f"{top}/SHA256SUMS").decode().splitlines()} | {"SHA256SUMS"}
-        self.case("SHA256SUMS has all files", sorted(listed ^ places_below(top)))
+        self.assertEqual(places_below(top), listed)
         commands = re.findall(r"^    ((?:make|cmake) .*run)$", read(f"{top}/README").decode(), re.MULTILINE)
-        self.assertEqual(len(commands), 2)
+        self.assertEqual(2, len(commands))
         for command in commands if shutil.which("arm-none-eabi-gcc") else []:
-            # What it runs is an endless machine, which tests/test_cortex_m_example.py runs.
+            # What it runs is an endless machine, which test_cortex_m_example.py runs.
             command = re.sub("( --target)? run$", "", command)
-            faults, output = ran(["bash", "-c", command], cwd=f"{top}/examples/cortex_m")
-            is_warned = re.search(b"warning:|CMake Warning", output) is not None
-            self.case(f"the example: {command}", faults or [short(output)] * is_warned)
+            output = output_of(["bash", "-c", command], cwd=f"{top}/examples/cortex_m").decode(errors="replace")
+            self.assertNotRegex(output, "warning:|CMake Warning")
 
     @unittest.skipUnless(CRATE and shutil.which("rustc"), "there is no cargo")
-    def test_crate(self):
-        """The crate has the file of C. It passes its own tests, and an empty project boots a device over it."""
+    def test_a_project_of_cargo_takes_the_crate(self):
+        """It has the file of C, and passes its own tests."""
         self.packages()
         top = f"{self.check_all(empty_projects.checks_of_crate, *CRATE)}/bootswap-{version()}"
-        first = read(f"{top}/c/bootswap.c").decode().splitlines()[1]
-        self.case("it names the commit", [first] * (f", commit {COMMIT[:12]}: " not in first))
-        self.case("it has a licence", [] if read(f"{top}/LICENSE") == read(f"{ROOT}/LICENSE") else ["it differs"])
+        self.assertIn(f", commit {COMMIT[:12]}: ", read(f"{top}/c/bootswap.c").decode().splitlines()[1])
+        self.assertEqual(read(f"{ROOT}/LICENSE"), read(f"{top}/LICENSE"))
 
-    def test_hardened(self):
-        """What the C compiler makes of the shared library checks the stack and the lengths of copies, and has no table of
-        calls that can be written."""
+    def test_the_shared_library_is_hardened(self):
+        """What the C compiler makes checks the stack and the lengths of copies, and has no table of calls that can be written."""
         with open(f"{self.clone}/bindings/c/manifest.c", "a", encoding="utf-8") as it:
             it.write(COPIES)
         library = f"{self.folder}/hardened.so"
-        faults, _ = ran([sys.executable, "-B", "-c", SHARE, library, *self.archives], cwd=self.clone)
-        _, output = ran(["readelf", "--wide", "--segments", "--dynamic", "--dyn-syms", library])
-        self.case("it has", faults + [it for it in HARDENED if it not in output.decode()])
+        output_of([sys.executable, "-B", "-c", SHARE, library, *self.archives], cwd=self.clone)
+        output = output_of(["readelf", "--wide", "--segments", "--dynamic", "--dyn-syms", library]).decode()
+        self.assertEqual([], [it for it in HARDENED if it not in output])
 
     @unittest.skipUnless(shutil.which("lintian"), "there is no lintian")
-    def test_lintian(self):
-        """Debian's checker of packages has nothing to say."""
+    def test_lintian_has_nothing_to_say(self):
         self.packages()
         for name in DEBIAN:
             done = subprocess.run(["lintian", "--allow-root", f"{self.made}/{name}"], capture_output=True, text=True)
-            self.case(name, [it for it in done.stdout.splitlines() if it[:2] in ("E:", "W:")])
+            self.assertEqual([], [it for it in done.stdout.splitlines() if it[:2] in ("E:", "W:")], name)
 
     @unittest.skipUnless(os.getuid() == 0 and shutil.which("unshare"), "only root can lay a layer over the system")
-    def test_used(self):
-        """The packages are enough for the program, a C program and a Python program. Removed, nothing is left."""
+    def test_the_packages_are_enough_and_leave_nothing(self):
+        """For the program, a C program and a Python program."""
         self.packages()
         layer = f"{self.folder}/layer"
         os.mkdir(layer)
-        environment = {"PATH": "/usr/sbin:/usr/bin:/sbin:/bin", "USES": USES, "LC_ALL": "C"}
+        how = {"env": {"PATH": "/usr/sbin:/usr/bin:/sbin:/bin", "USES": USES, "LC_ALL": "C"}, "stdin": subprocess.DEVNULL}
         words = ["unshare", "--mount", "bash", "-c", LAYER, "layer", layer, *(f"{self.made}/{it}" for it in DEBIAN)]
-        done = subprocess.run(words, env=environment, stdin=subprocess.DEVNULL, capture_output=True, text=True)
+        done = subprocess.run(words, capture_output=True, text=True, **how)
         if "mount" in done.stderr and not done.stdout:
             self.skipTest(f"no layer can be laid over the system here: {short(done.stderr.encode())}")
-        self.case("what they print", [short(done.stdout.encode()), short(done.stderr.encode())] * (done.stdout != PRINTED))
+        self.assertEqual(PRINTED, done.stdout, done.stderr)
 
-    def test_refusals(self):
-        """What isn't built, and arguments, are refused."""
+    def expect_refusal(self, said, **environment):
+        self.expect_tool("package", status=1, said=f"package: {said}\n".encode(), env={**os.environ, **environment})
+
+    def test_what_cannot_be_packed_is_refused(self):
+        self.expect_refusal("commit the changes first, or name the commit of the sources in SOURCE_COMMIT")
+        said = f"SOURCE_COMMIT isn't a complete commit: {COMMIT[:12]}"
+        self.expect_refusal(said, SOURCE_COMMIT=COMMIT[:12], SOURCE_DATE_EPOCH=SECONDS)
+        self.expect_refusal("there is no commit to take the time from: set SOURCE_DATE_EPOCH", SOURCE_COMMIT=COMMIT)
+        # A program that wasn't built from the sources would name their commit.
+        both = {"SOURCE_COMMIT": COMMIT, "SOURCE_DATE_EPOCH": SECONDS}
+        with open(f"{self.clone}/crates.txt", "a", encoding="utf-8") as it:
+            it.write("another: \nbootswap: another\n")
+        self.expect_refusal("out/bootswap isn't built from these sources: run ./bootswap codes", **both)
         os.remove(f"{self.clone}/out/libbootswap.a")
-        said = b"package: out/libbootswap.a isn't built: run bindings/build\n"
-        self.expect_tool("without the library", "package", status=1, said=said, env=self.environment)
-        status, _ = self.run_tool("package", "all")
-        self.case("with an argument", [f"status {status}"] * (status != 2))
-        del self.environment["SOURCE_DATE_EPOCH"]
-        said = b"package: there is no commit to take the time from: set SOURCE_DATE_EPOCH\n"
-        self.expect_tool("without a time", "package", status=1, said=said, env=self.environment)
-        self.environment["SOURCE_COMMIT"] = COMMIT[:12]
-        said = f"package: SOURCE_COMMIT isn't a complete commit: {COMMIT[:12]}\n".encode()
-        self.expect_tool("with a prefix of a commit", "package", status=1, said=said, env=self.environment)
-        del self.environment["SOURCE_COMMIT"]
-        said = b"package: commit the changes first, or name the commit of the sources in SOURCE_COMMIT\n"
-        self.expect_tool("without a commit", "package", status=1, said=said, env=self.environment)
+        self.expect_refusal("out/libbootswap.a isn't built: run bindings/build", **both)
 
-    def test_without_small_processors(self):
-        """If the library for ARM or the file of C isn't built, its archive is left out, and so is one that was made before."""
+    def test_the_archive_of_what_is_not_built_is_left_out(self):
+        """So is one that was made before."""
         self.packages()
         os.remove(f"{self.clone}/out/{ARM_TARGET}/libbootswap.a")
         os.remove(f"{self.clone}/out/c/bootswap.c")
         status, said = self.run_tool("package", env=self.environment)
         lines = [f"out/packages/{it}" for it in (*DEBIAN, ARCHIVES[0], "SHA256SUMS")]
-        lines.append(f"package: {ARCHIVES[1]} is left out: out/{ARM_TARGET}/libbootswap.a isn't built: "
-                     f"run bindings/build --target {ARM_TARGET}")
-        lines.append(f"package: {ARCHIVES[2]} is left out: out/c/bootswap.c isn't built: run bindings/build --c")
-        why = "out/c/bootswap.c isn't built: run bindings/build --c" if CRATE else "there is no cargo"
-        lines.append(f"package: bootswap-{version()}.crate is left out: {why}")
-        self.case("it says so", [said.decode()] * (status != 0 or sorted(said.decode().splitlines()) != sorted(lines)))
-        faults, output = ran(["sha256sum", "--check", "--strict", "SHA256SUMS"], cwd=self.made)
-        faults += [output.decode()] * (len(output.splitlines()) != len(DEBIAN) + 1)
-        self.case("the checksums", faults)
-        self.case("no older archive", [it for it in (*ARCHIVES[1:], *CRATE) if os.path.exists(f"{self.made}/{it}")])
+        why = f"out/{ARM_TARGET}/libbootswap.a isn't built: run bindings/build --target {ARM_TARGET}"
+        lines.append(f"package: {ARCHIVES[1]} is left out: {why}")
+        why = "out/c/bootswap.c isn't built: run bindings/build --c"
+        lines.append(f"package: {ARCHIVES[2]} is left out: {why}")
+        lines.append(f"package: bootswap-{version()}.crate is left out: {why if CRATE else 'there is no cargo'}")
+        self.assertEqual((0, sorted(lines)), (status, sorted(said.decode().splitlines())))
+        checked = output_of(["sha256sum", "--check", "--strict", "SHA256SUMS"], cwd=self.made)
+        self.assertEqual(len(DEBIAN) + 1, len(checked.splitlines()))
+        self.assertEqual([], [it for it in (*ARCHIVES[1:], *CRATE) if os.path.exists(f"{self.made}/{it}")])
 
-    def test_nothing_to_try(self):
-        """Without packages nothing is tried, and no system is made."""
+    def test_without_packages_nothing_is_tried(self):
         said = f"try_packages: out/packages/{DEBIAN[0]} isn't built: run tools/package\n".encode()
-        self.expect_tool("without packages", "try_packages", "--root", f"{self.folder}/system", status=1, said=said)
-        self.case("no system", ["there is one"] * os.path.exists(f"{self.folder}/system"))
-        status, _ = self.run_tool("try_packages", "here")
-        self.case("with an argument", [f"status {status}"] * (status != 2))
+        self.expect_tool("try_packages", "--root", f"{self.folder}/system", status=1, said=said)
+        self.assertFalse(os.path.exists(f"{self.folder}/system"))
 
-    def test_old_program(self):
-        """A program that wasn't built from the sources isn't packed, since it would name their commit."""
-        said = b"package: out/bootswap isn't built from these sources: run ./bootswap codes\n"
-        with open(f"{self.clone}/crates.txt", "a", encoding="utf-8") as it:
-            it.write("another: \nbootswap: another\n")
-        self.expect_tool("with another crate", "package", status=1, said=said, env=self.environment)
-
-    def test_verify(self):
-        """An archive has the bytes that its commit makes anew, or it is named which of its files differ."""
-        self.package()
+    def test_verify_compares_an_archive_with_what_its_commit_makes(self):
+        """It names the files that differ."""
         commit = self.commit_with_builders()
         for name in ("SOURCE_COMMIT", "SOURCE_DATE_EPOCH"):
             del self.environment[name]
         self.package()
-        archive, kept = f"{self.made}/{ARCHIVES[0]}", f"{self.folder}/{ARCHIVES[0]}"
-        shutil.copy(archive, kept)
+        kept, top = f"{self.folder}/{ARCHIVES[0]}", ARCHIVES[0].removesuffix(".tar.xz")
+        shutil.copy(f"{self.made}/{ARCHIVES[0]}", kept)
         status, said = self.run_tool("verify", kept, env=self.environment)
-        wanted = f"{ARCHIVES[0]}: the same bytes as built from {commit}\n".encode()
-        self.case("it has these bytes", [f"{status}: {short(said)}"] * (status != 0 or not said.startswith(wanted)))
-        ran(["tar", "--extract", "--file", kept], cwd=self.folder)
-        top = ARCHIVES[0].removesuffix(".tar.xz")
-        printed = f"bootswap {version()} ({commit[:12]})\n".encode()
-        self.printed_by("its program names the commit", [f"{self.folder}/{top}/bin/bootswap", "--version"], printed)
+        self.assertEqual(0, status, said)
+        self.assertTrue(said.startswith(f"{ARCHIVES[0]}: the same bytes as built from {commit}\n".encode()), said)
+        output_of(["tar", "--extract", "--file", kept], cwd=self.folder)
+        printed = output_of([f"{self.folder}/{top}/bin/bootswap", "--version"]).decode()
+        self.assertEqual(f"bootswap {version()} ({commit[:12]})\n", printed)
         with open(f"{self.folder}/{top}/bin/bootswap", "ab") as it:
             it.write(b"!")
-        ran(["tar", "--create", "--xz", "--file", kept, top], cwd=self.folder)
+        output_of(["tar", "--create", "--xz", "--file", kept, top], cwd=self.folder)
         status, said = self.run_tool("verify", kept, env=self.environment)
         wanted = f"bin/bootswap\n{ARCHIVES[0]}: not the bytes that are built from {commit}\n".encode()
-        self.case("one byte more", [f"{status}: {short(said)}"] * (status != 1 or not said.startswith(wanted)))
+        self.assertEqual((1, True), (status, said.startswith(wanted)), said)
 
     def commit_with_builders(self):
         """Makes a repository of the clone, whose builders take what is built already, and returns its commit."""
         built = f"{self.folder}/built"
         shutil.copytree(f"{self.clone}/out", built)
-        for name in ("bootswap", "bindings/build"):
+        script = f"#!/bin/sh\nmkdir -p out && cp -r {built}/. out\n"
+        for name, text in (("bootswap", script), ("bindings/build", script), (".gitignore", "out/\n__pycache__/\n")):
             with open(f"{self.clone}/{name}", "w", encoding="utf-8") as it:
-                it.write(f"#!/bin/sh\nmkdir -p out && cp -r {built}/. out\n")
+                it.write(text)
             os.chmod(f"{self.clone}/{name}", 0o755)
-        with open(f"{self.clone}/.gitignore", "w", encoding="utf-8") as it:
-            it.write("out/\n__pycache__/\n")
         author = ["-c", "user.name=A", "-c", "user.email=a@example.org"]
         for words in (["init", "--quiet"], ["add", "--all"], [*author, "commit", "--quiet", "--message", "all"]):
-            faults, _ = ran(["git", "-C", self.clone, *words])
-            self.case(f"git {words[0]}", faults)
-        return ran(["git", "-C", self.clone, "rev-parse", "HEAD"])[1].decode().strip()
+            output_of(["git", "-C", self.clone, *words])
+        return output_of(["git", "-C", self.clone, "rev-parse", "HEAD"]).decode().strip()
 
 
 @unittest.skipUnless(os.getuid() == 0 and SYSTEM, "root has to name a clean Debian in BOOTSWAP_DEBIAN_ROOT")
@@ -417,10 +368,10 @@ class CleanSystemTest(PackedTest):
 
     runs_once = True
 
-    def test_clean_system(self):
-        """They are installed, used as the documents say, and removed again, and nothing of them is left. Empty projects take the
-        archives of makers of firmware. What was packed isn't skipped."""
+    def test_they_are_installed_used_and_removed(self):
+        """As the documents say, and nothing of them is left. Empty projects take the archives of makers of firmware. What was
+        packed isn't skipped."""
         self.packages()
         status, said = self.run_tool("try_packages", "--root", SYSTEM)
-        is_complete = said.decode().endswith(f" 0 failed, {int(not CRATE)} skipped\n")
-        self.case("all checks", [said.decode()] * (status != 0 or not is_complete))
+        self.assertTrue(said.decode().endswith(f" 0 failed, {int(not CRATE)} skipped\n"), said.decode())
+        self.assertEqual(0, status)

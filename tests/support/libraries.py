@@ -93,7 +93,8 @@ def python_module(shared=None):
 
 def fenced(path, language):
     """Returns the blocks of a page in Markdown that are in a language."""
-    return re.findall(rf"^```{language}\n(.*?)^```$", read(f"{ROOT}/{path}").decode(), re.MULTILINE | re.DOTALL)
+    blocks = re.findall(r"^```(\S*)\n(.*?)^```$", read(f"{ROOT}/{path}").decode(), re.MULTILINE | re.DOTALL)
+    return [body for kind, body in blocks if kind == language]
 
 
 def output_of(arguments, **how):
