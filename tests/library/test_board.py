@@ -109,8 +109,8 @@ class Board:
         return done.returncode, done.stdout, done.stderr
 
     def test_it_answers_as_run_does_and_leaves_the_same_flash(self):
-        """It runs the images of each report. `run` needs a boot more at the end of a script for each revert: all events after
-        a revert are boots."""
+        """It runs the images of each report. `run` needs a boot more at the end of a script for each revert: all
+        events after a revert are boots."""
         device = f"{ROOT}/board/device.json"
         for name, events, replies, versions, status in RUNS:
             with self.subTest(name):

@@ -1,8 +1,9 @@
 """The library as one file of C, as `bindings/build --c` leaves it.
 
-support/c/scenarios.c plays random scenarios with each call of both headers. Whatever processor and compiler: the file of C prints
-exactly what the library for this processor prints, a number and a hash of everything that a call may write. 10,000 scenarios take
-3 minutes for each program of this processor; the gate plays 300 on each processor and machine.
+support/c/scenarios.c plays random scenarios with each call of both headers. Whatever processor and compiler: the file
+of C prints exactly what the library for this processor prints, a number and a hash of everything that a call may
+write. 10,000 scenarios take 3 minutes for each program of this processor; the gate plays 300 on each processor and
+machine.
 """
 
 import itertools
@@ -14,7 +15,7 @@ import unittest
 from support.bare import BARE, MACHINES
 from support.compiled import C, needs_compiler
 from support.files import ROOT, read
-from support.libraries import c_folder, output_of
+from support.libraries import c_folder, output_of, symbols
 from support.processors import HERE, SMALL_ARM, needs_small_arm
 
 STRICT = ["-std=c11", "-Wall", "-Wextra", "-Werror"]
@@ -32,7 +33,8 @@ class CFileTest(unittest.TestCase):
         cls.folder = tempfile.mkdtemp(prefix="bootswap-c-library-")
         cls.addClassCleanup(shutil.rmtree, cls.folder, ignore_errors=True)
         c_folder(f"{cls.folder}/c")
-        cls.file, cls.words = f"{cls.folder}/c/bootswap.c", [*STRICT, "-O1", "-I", f"{cls.folder}/c", f"{C}/scenarios.c"]
+        cls.file = f"{cls.folder}/c/bootswap.c"
+        cls.words = [*STRICT, "-O1", "-I", f"{cls.folder}/c", f"{C}/scenarios.c"]
         HERE.compile([*cls.words, HERE.archive(), "-o", f"{cls.folder}/native"])
         cls.printed = HERE.output_of(f"{cls.folder}/native", FIRST, LAST).splitlines()
 
@@ -81,7 +83,7 @@ class CFileTest(unittest.TestCase):
     def test_only_the_calls_are_visible_and_they_call_functions_of_memory_and_arithmetic(self):
         """No data is written."""
         HERE.compile([*STRICT, "-O0", "-c", self.file, "-o", f"{self.folder}/names.o"])
-        rows = [it.split() for it in output_of(["nm", "--format=posix", f"{self.folder}/names.o"]).decode().splitlines()]
+        rows = symbols(f"{self.folder}/names.o")
         public = {it[0] for it in rows if it[1].isupper() and it[1] != "U"}
         self.assertEqual(set(), {it for it in public if not it.startswith("bootswap_")})
         known = {"memcpy", "memmove", "memset", "__popcountdi2", "__stack_chk_fail"}

@@ -8,7 +8,7 @@ import unittest
 
 from support.compiled import needs_compiler
 from support.files import EXAMPLES, ROOT, read
-from support.libraries import c_folder, fenced, output_of, ran
+from support.libraries import c_folder, fenced, output_of, ran, symbols
 
 import empty_projects
 from installing import major, version
@@ -46,7 +46,8 @@ class CMakeTest(unittest.TestCase):
         """Makes a project in an empty folder, which takes the library so, and builds it without a warning."""
         empty_projects.write_cmake(self.folder, found)
         shutil.rmtree(f"{self.folder}/build", ignore_errors=True)
-        for it in (["-S", self.folder, "-B", f"{self.folder}/build", STRICT, *words], ["--build", f"{self.folder}/build"]):
+        build = f"{self.folder}/build"
+        for it in (["-S", self.folder, "-B", build, STRICT, *words], ["--build", build]):
             self.assertNotIn(b"arning", output_of(["cmake", *it]))
 
     def expect_boot(self, wanted=LIVES, program="in_memory"):
@@ -116,10 +117,9 @@ class CMakeTest(unittest.TestCase):
             found += f"\nadd_definitions(-DBOOTSWAP_WITHOUT_{part})"
             words.append(f"-DBOOTSWAP_{part}=OFF")
         self.build(found, *words)
-        output = output_of(["nm", "--format=posix", f"{self.folder}/build/bootswap/libbootswap.a"]).decode()
-        rows = [it.split() for it in output.splitlines()]
         # A compiler names the parts and copies of a function that it makes.
-        return {re.sub(r"\..*", "", it[0]) for it in rows if len(it) > 1 and it[1] in "tT"}
+        found = symbols(f"{self.folder}/build/bootswap/libbootswap.a")
+        return {re.sub(r"\..*", "", it[0]) for it in found if it[1] in "tT"}
 
     def test_its_version_is_that_of_the_header_alone(self):
         self.assertNotIn(version(), read(f"{self.library}/CMakeLists.txt").decode())

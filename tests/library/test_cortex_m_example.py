@@ -39,7 +39,8 @@ class CortexMExampleTest(ProgramTest):
         self.expect_upgrade("/build", [copy, *block_of_porting("sh", "cmake -B build")])
 
     def make(self, build, before, run):
-        """Makes the example in an empty folder beside a clone that has out/c, by commands. The last one runs the machine."""
+        """Makes the example in an empty folder beside a clone that has out/c, by commands. The last one runs the
+        machine."""
         self.empty, clone = f"{self.folder}/empty", f"{self.folder}/bootswap"
         os.mkdir(self.empty)
         c_folder(f"{clone}/out/c")
@@ -54,8 +55,8 @@ class CortexMExampleTest(ProgramTest):
             self.assertEqual(read(f"{self.folder}/{name}.img"), read(f"{self.empty}{build}/{name}.img"))
 
     def run_machine(self, run, last, seconds=0):
-        """Runs the machine until it prints a line, and N seconds more, takes its power away, and returns the lines, without
-        those of the build."""
+        """Runs the machine until it prints a line, and N seconds more, takes its power away, and returns the lines,
+        without those of the build."""
         found, both = [], {"stdin": subprocess.DEVNULL, "stdout": subprocess.PIPE, "stderr": subprocess.STDOUT}
         with subprocess.Popen(["bash", "-c", run], cwd=self.empty, start_new_session=True, **both) as machine:
             os.set_blocking(machine.stdout.fileno(), False)

@@ -1,13 +1,12 @@
 """Devices over a driver in C, bindings/c/driver.c: power fails at each write, and the driver in each of its calls.
 
-On 64-bit ARM driver.c and the library run in `qemu-aarch64`, the tests and their drivers on this processor. So do driver.c and the
-library as one file of C for 32-bit ARM in `qemu-arm`.
+On 64-bit ARM driver.c and the library run in `qemu-aarch64`, the tests and their drivers on this processor. So do
+driver.c and the library as one file of C for 32-bit ARM in `qemu-arm`.
 """
 
 import itertools
 import json
 import os
-import re
 import shutil
 import tempfile
 import unittest
@@ -18,15 +17,15 @@ from support.driven import DRIVER_FAILED, INCLUDE, LONG, NEEDING, NEW, NEWER, OL
 from support.driven import Driven, DriverTest, replies_of, reply_of
 from support.emulated import DrivenOnArm, DrivenOnSmallArm
 from support.files import EXAMPLES, ROOT, names_in, read
-from support.libraries import fenced, output_of
+from support.libraries import fenced, output_of, symbols
 from support.processors import HERE, needs_arm, needs_small_arm
 from support.program import ProgramTest
 from support.worked import SUM_OF_WRITES, WORKED
 
 PAIR = f"{EXAMPLES}/devices/pair.json"
 
-# What an upgrade that is confirmed calls of the driver: a read of the flash, and the writes of its events, as the tables of
-# docs/FORMATS.md have them. The last boot records that the trial is over.
+# What an upgrade that is confirmed calls of the driver: a read of the flash, and the writes of its events, as the
+# tables of docs/FORMATS.md have them. The last boot records that the trial is over.
 CALLS = 1 + sum((0, 2, 2, 1, 2, 1, 38, 1, 1, 2))
 
 
@@ -49,8 +48,8 @@ def make_call(device, event):
 
 
 def play(device, events):
-    """Plays events on a device, and yields the device and the replies after each. After a power cut it is a new device over
-    what the flash holds."""
+    """Plays events on a device, and yields the device and the replies after each. After a power cut it is a new device
+    over what the flash holds."""
     for event in events:
         number = make_call(device, event)
         replies = replies_of(device, number)
@@ -96,7 +95,8 @@ class ScriptsTest(DriverTest, ProgramTest):
         self.assertGreaterEqual(self.compare(PAIR, {}, ["boot", "boot"])[1], 4 * 36)
 
     def compare(self, device_file, own, events):
-        """Compares each cut of a script that has cuts of its own. Returns its number of writes, and that of the cuts."""
+        """Compares each cut of a script that has cuts of its own. Returns its number of writes, and that of the
+        cuts."""
         given = json.loads(read(device_file))
         setup = self.library.setup(given["sector"], given["sectors"], given.get("trial-boots", 1))
         device = self.over(self.first, setup, LONG)
@@ -108,7 +108,8 @@ class ScriptsTest(DriverTest, ProgramTest):
             replies.append(got)
         self.expect_run(device_file, own, events, replies, device)
         made, count = device.flash.made, 0
-        for at, write in ((at, it) for at in range(len(events)) for it in range(states[at][1] + 1, states[at + 1][1] + 1)):
+        writes = [(at, it) for at in range(len(events)) for it in range(states[at][1] + 1, states[at + 1][1] + 1)]
+        for at, write in writes:
             for torn in () if write in own else ways_to_tear(made[write - 1]):
                 count += 1
                 cuts = {**own, write: torn}
@@ -237,7 +238,8 @@ class FailuresTest(DriverTest):
         other = self.other_over(device)
         if self.is_mapped:
             other.device.flash = POINTER(c_uint8)()
-        got = [other.boot(), other.provision(), other.finish(0), other.accept(self.library.manifest(1, [(0, NEEDING, 0)]))]
+        manifest = self.library.manifest(1, [(0, NEEDING, 0)])
+        got = [other.boot(), other.provision(), other.finish(0), other.accept(manifest)]
         other.device.flash, other.device.copy = 2 * [POINTER(c_uint8)()]
         got += [other.open(), other.resume(), other.boot()]
         self.assertEqual((7 * [DRIVER_FAILED], False), (got, other.is_booted))
@@ -265,7 +267,8 @@ class FailuresTest(DriverTest):
         device.flash.bytes[3 * 512 + 40] ^= 1
         self.assertEqual(0, device.open())
         self.assertEqual("refused boot 5 RunningDamaged 1", reply_of(device, device.boot()))
-        self.assertEqual((1, False, ["1.0.0+0", None]), (device.device.reverted, device.is_booted, [*device.versions()]))
+        self.assertEqual((1, False), (device.device.reverted, device.is_booted))
+        self.assertEqual(["1.0.0+0", None], [*device.versions()])
         self.assertEqual((4, 0), (device.boot(), device.device.reverted))
 
     def test_a_damaged_image_is_written_again(self):
@@ -351,7 +354,6 @@ class SourcesTest(unittest.TestCase):
         """It has no data of its own."""
         made = f"{self.folder}/driver.o"
         HERE.compile([*STRICT, *INCLUDE, "-O1", "-fno-pie", "-c", f"{ROOT}/bindings/c/driver.c", "-o", made])
-        rows = [line.split()[:2] for line in output_of(["nm", "--format=posix", made]).decode().splitlines()]
-        called = {name for name, kind in rows if kind == "U" and not re.match("bootswap_", name)}
+        called = {it[0] for it in symbols(made) if it[1] == "U" and not it[0].startswith("bootswap_")}
         self.assertEqual({"memcpy", "memset"}, called)
-        self.assertEqual([], [name for name, kind in rows if kind.upper() in "BDC"])
+        self.assertEqual([], [it[0] for it in symbols(made) if it[1].upper() in "BDC"])

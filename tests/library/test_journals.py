@@ -64,9 +64,9 @@ class JournalsTest(DriverTest):
                     self.assertEqual(count * ["1.0.0+0"], [*device.versions()])
 
     def test_an_attempt_repeats_no_more_of_a_step_than_the_first_began(self):
-        """Here a journal holds two steps, what follows the last one, and 100 bytes. The first attempt performs 4 writes (two sizes
-        and a record) and a step, and then has 440 bytes of two steps left: an erase (12) and a program of 256 bytes (268), but
-        not another one."""
+        """Here a journal holds two steps, what follows the last one, and 100 bytes. The first attempt performs 4
+        writes (two sizes and a record) and a step, and then has 440 bytes of two steps left: an erase (12) and a
+        program of 256 bytes (268), but not another one."""
         device = self.new_device(capacity=BOUNDS["boot"] + STEP + 100)
         self.request(device, (NEEDING, PARTNER))
         first = len(device.flash.made)
@@ -129,7 +129,8 @@ class Listed:
         return 0
 
 
-# Journals after which a write would be wrong, by what is wrong, and the number of their bytes that the library says it used.
+# Journals after which a write would be wrong, by what is wrong, and the number of their bytes that the library says it
+# used.
 GOOD = words(0, 512, 8) + b"ABCDEFGH"
 MALFORMED = {
     "half of the numbers": (GOOD[:11], 11),
@@ -159,8 +160,8 @@ class MalformedTest(DriverTest):
         return f"{C}/malformed.c"
 
     def opened(self, journal, used, number=0):
-        """A device of one image, whose next call records these bytes in a journal of their length, at the end of a page that
-        no page follows; and what its driver lists."""
+        """A device of one image, whose next call records these bytes in a journal of their length, at the end of a
+        page that no page follows; and what its driver lists."""
         library, flash = self.library, Listed()
         setup, driver, copy = library.setup(512, [2]), library.driver_of(flash), library.copy(bytes(5120))
         recorded = library.at_page_end(len(journal))

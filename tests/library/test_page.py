@@ -197,7 +197,8 @@ class PageTest(ProgramTest):
         self.assertIn(broken, self.text_of("mcuboot"))
 
     def test_a_refused_request_has_a_sentence_and_is_taken_later(self):
-        """A request for one image of a pair alone, and then for the other one. A text that is no version is reported."""
+        """A request for one image of a pair alone, and then for the other one. A text that is no version is
+        reported."""
         tick = "document.querySelector('[name=tick{}]').click()"
         self.run_on_page("document.getElementById('images').value = 3")
         self.page.renew()

@@ -16,11 +16,12 @@ from support.driven import LONG, NEEDING, DriverTest
 from support.emulated import DrivenOnArm
 from support.files import EXAMPLES, ROOT, read
 from support.headers import declared
-from support.libraries import output_of
+from support.libraries import output_of, symbols
 from support.manifests import listing_of
 from support.processors import ARM, HERE, needs_arm
 
-STRICT = ["-std=c11", "-Wall", "-Wextra", "-Werror", "-Wconversion", "-I", f"{ROOT}/include", "-I", f"{ROOT}/bindings/c"]
+STRICT = ["-std=c11", "-Wall", "-Wextra", "-Werror", "-Wconversion"]
+STRICT += ["-I", f"{ROOT}/include", "-I", f"{ROOT}/bindings/c"]
 
 # What the library calls that it doesn't have itself. So it never allocates.
 CALLED = {"memcpy", "memmove", "memset"}
@@ -43,8 +44,9 @@ class ProgramsTest(unittest.TestCase):
         life, program = f"{ROOT}/bindings/c/life.c", f"{self.folder}/life"
         self.assertLess(len(read(life).splitlines()), 100)
         self.processor.compile([*STRICT, "-Wno-conversion", life, self.archive, "-o", program])
+        images = [f"{EXAMPLES}/images/{it}.img" for it in ("one", "patched")]
         for write in (1, 5, 9, 13, 17):
-            printed = self.processor.output_of(program, *(f"{EXAMPLES}/images/{it}.img" for it in ("one", "patched")), str(write))
+            printed = self.processor.output_of(program, *images, str(write))
             self.assertEqual(b"power failed in write %d\npermanent\ntake 0 1.1.0+0\n" % write, printed)
 
     def test_a_manifest_is_read_in_the_memory_that_is_given(self):
@@ -62,20 +64,16 @@ class ProgramsTest(unittest.TestCase):
             with self.subTest(what):
                 self.assertEqual(wanted, self.processor.output_of(program, *words))
 
-    def names(self, archive, *words):
-        """Returns the names in an archive, each with the letter of its kind."""
-        output = output_of([self.processor.nm, *words, "--format=posix", archive]).decode()
-        return {(it[0], it[1]) for it in map(str.split, output.splitlines()) if len(it) > 1 and len(it[1]) == 1}
-
     def test_the_library_calls_functions_of_memory_alone(self):
         """It requests none. That for manifests requests memory of the program."""
         for archive, wanted in ((self.archive, CALLED), (self.manifests, CALLED | ALLOCATOR)):
-            self.assertEqual(wanted, {name for name, _ in self.names(archive, "--undefined-only")})
+            self.assertEqual(wanted, {it[0] for it in symbols(archive, self.processor.nm, "--undefined-only")})
 
     def test_the_libraries_have_no_data_that_a_call_might_change(self):
         """So any number of threads may call at the same time."""
         for archive in (self.archive, self.manifests):
-            self.assertEqual([], [name for name, kind in self.names(archive, "--defined-only") if kind in "bBcCdDsS"])
+            found = symbols(archive, self.processor.nm, "--defined-only")
+            self.assertEqual([], [it[0] for it in found if it[1] in "bBcCdDsS"])
 
 
 @needs_compiler
@@ -83,7 +81,8 @@ class NullTest(DriverTest):
     """Null with a length of 0 passes no bytes, as any other pointer does."""
 
     def arguments(self, types, none, length):
-        """Arguments of a call on a device: structs, 0, and `none` for bytes, or with a `length` the first bytes for the first."""
+        """Arguments of a call on a device: structs, 0, and `none` for bytes, or with a `length` the first bytes for
+        the first."""
         made, names, first = [], self.library.names, True
         for kind, after in zip(types, [*types[1:], None]):
             if hasattr(kind, "contents") and after is c_size_t:

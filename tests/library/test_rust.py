@@ -1,4 +1,5 @@
-"""The crate of bindings/rust: its tests, its lints and its documents, a device whose process is killed, and other targets."""
+"""The crate of bindings/rust: its tests, its lints and its documents, a device whose process is killed, and other
+targets."""
 
 import os
 import re
@@ -10,7 +11,7 @@ from support import file_device
 from support.compiled import C, needs_compiler, preloaded
 from support.driven import INCLUDE
 from support.files import EXAMPLES, ROOT, read
-from support.libraries import TARGET, archive_for, c_folder, fenced, output_of, ran
+from support.libraries import TARGET, archive_for, c_folder, fenced, output_of, ran, symbols
 from support.processors import HERE
 
 import empty_projects
@@ -73,8 +74,8 @@ fn main() {
 
 
 def copied(folder):
-    """Copies the crate, and the library as one file of C, to the folders `crate` and `c` of a folder. Returns the environment in
-    which an offline cargo builds the crate over them."""
+    """Copies the crate, and the library as one file of C, to the folders `crate` and `c` of a folder. Returns the
+    environment in which an offline cargo builds the crate over them."""
     shutil.copytree(CRATE, f"{folder}/crate", ignore=shutil.ignore_patterns("target", "Cargo.lock"))
     c_folder(f"{folder}/c")
     environment = {**os.environ, "CARGO_TARGET_DIR": f"{folder}/target", "CARGO_NET_OFFLINE": "true"}
@@ -122,10 +123,12 @@ class RustTest(unittest.TestCase):
         os.makedirs(archives)
         shutil.copy(archive_for(TARGET), f"{archives}/libbootswap.a")
         for name, features in (("one_file", ""), ("prebuilt", ', features = ["prebuilt"]')):
-            self.assertEqual(empty_projects.BOOTS, self.run_project(name, features, None, image, BOOTSWAP_LIB=archives), name)
+            printed = self.run_project(name, features, None, image, BOOTSWAP_LIB=archives)
+            self.assertEqual(empty_projects.BOOTS, printed, name)
 
     def test_the_loader_and_the_application_of_the_example_upgrade_a_device(self):
-        wanted = "".join("vectors 512, version {}, resets {}\n".format(*it) for it in ((1, "true"), (2, "false"), (2, "false")))
+        plays = (1, "true"), (2, "false"), (2, "false")
+        wanted = "".join(f"vectors 512, version {number}, resets {resets}\n" for number, resets in plays)
         self.assertEqual(wanted, self.cargo("run", "--quiet", "--example", "upgrade"))
 
     def test_the_adapter_of_the_readme_takes_a_flash_of_embedded_storage(self):
@@ -144,8 +147,8 @@ class RustTest(unittest.TestCase):
         return ran([program], env={**self.environment, **variables, "CARGO_MANIFEST_DIR": self.crate})
 
     def test_it_is_built_for_processors_without_an_operating_system(self):
-        """By gcc and by clang. The file of C calls functions of memory and helpers of arithmetic only. For another processor
-        build.rs asks for a compiler."""
+        """By gcc and by clang. The file of C calls functions of memory and helpers of arithmetic only. For another
+        processor build.rs asks for a compiler."""
         program = f"{self.folder}/build"
         output_of(["rustc", "--edition=2021", f"{self.crate}/build.rs", "-o", program])
         for target, prefix in BARE_TARGETS.items():
@@ -158,8 +161,7 @@ class RustTest(unittest.TestCase):
                     faults, output = self.run_build(program, target, out, "none", **variables)
                     self.assertEqual([], faults)
                     self.assertNotIn(b"warning", output)
-                    names = output_of([f"{prefix}nm", "--format=posix", f"{out}/libbootswap.a"]).decode().splitlines()
-                    called = {it.split()[0] for it in names if it.split()[1:2] == ["U"]}
+                    called = [it[0] for it in symbols(f"{out}/libbootswap.a", f"{prefix}nm") if it[1] == "U"]
                     self.assertEqual([], [it for it in called if not re.fullmatch(HELPERS, it)])
         target = "sparc64-unknown-linux-gnu"
         said = f"bootswap: no C compiler is known for {target}: name one in CC_sparc64_unknown_linux_gnu\n".encode()
@@ -221,8 +223,8 @@ class RustFileDeviceTest(file_device.FileDevice):
             self.assertEqual(0, in_rust[0][0])
 
     def step(self, program, before, commands):
-        """Runs commands on a flash of these bytes. Returns how that ends, the bytes then, and the number of writes of a boot
-        that upgrades or reverts."""
+        """Runs commands on a flash of these bytes. Returns how that ends, the bytes then, and the number of writes of
+        a boot that upgrades or reverts."""
         self.program = program
         self.put(before)
         ran_so, after = self.run_device(*commands), read(self.flash)

@@ -1,8 +1,8 @@
 """The translation of WebAssembly to C, instruction by instruction.
 
-Each instruction of the subset is translated, compiled, and compared with what the specification says of it, written down in
-Python: support/instruction_cases.py and support/control_cases.py have the cases. `node` runs the same functions, so the cases
-are right. What has no translation is refused.
+Each instruction of the subset is translated, compiled, and compared with what the specification says of it, written
+down in Python: support/instruction_cases.py and support/control_cases.py have the cases. `node` runs the same
+functions, so the cases are right. What has no translation is refused.
 """
 
 import shutil
@@ -86,7 +86,8 @@ class CasesTest(unittest.TestCase):
         self.assertIn("little-endian", str(ran(["cc", *words, f"{self.folder}/cases.c"])[0]))
 
 
-# What is refused: the body of a function of one i64 with an i64 local, or other parts of an object, and a part of the error.
+# What is refused: the body of a function of one i64 with an i64 local, or other parts of an object, and a part of the
+# error.
 BODIES = {
     "i32.const 0; f32.add": "opcode 0x92",
     "bytes 4300000000": "opcode 0x43",

@@ -1,8 +1,8 @@
 """Wrong translations: edits of bindings/c_file that the cases of test_translation.py have to notice.
 
-Each edit changes one place of a copy of the translator. The named cases are translated with the copy, compiled and run: at least
-one has to differ, or stop for undefined behaviour. The few edits after which nothing is translated, or nothing compiles, say so.
-Without an edit each case passes: test_translation.py has them all.
+Each edit changes one place of a copy of the translator. The named cases are translated with the copy, compiled and
+run: at least one has to differ, or stop for undefined behaviour. The few edits after which nothing is translated, or
+nothing compiles, say so. Without an edit each case passes: test_translation.py has them all.
 """
 
 import os
@@ -23,8 +23,9 @@ HERE = ["cc", "-O1", "-fsanitize=address,undefined", "-fno-sanitize-recover"]
 
 @dataclass(frozen=True)
 class Edit:
-    """An edit: the file, a text that is in it once, and another text. `cases` is a pattern of the names of cases. `is_small` says
-    that only a processor of 32 bits shows the difference. `step` is where it is noticed: most are when the cases run."""
+    """An edit: the file, a text that is in it once, and another text. `cases` is a pattern of the names of cases.
+    `is_small` says that only a processor of 32 bits shows the difference. `step` is where it is noticed: most are when
+    the cases run."""
 
     file: str
     old: str

@@ -1,8 +1,8 @@
 """That the checker of a report shares no code with the choice.
 
-`crates.txt` keeps the checker, `certificate::check`, from calling the crate of the choice. But the choice calls functions of the
-checker's crate. So the checker's modules name no others than those of the types, which have no functions, and the choice doesn't
-name the checker. Both use the order of versions.
+`crates.txt` keeps the checker, `certificate::check`, from calling the crate of the choice. But the choice calls
+functions of the checker's crate. So the checker's modules name no others than those of the types, which have no
+functions, and the choice doesn't name the checker. Both use the order of versions.
 """
 
 import glob

@@ -85,7 +85,10 @@ class ExamplesTest(unittest.TestCase):
         for call, fault in [
             (CALL.replace("pick", "choose"), "an example is of chooser::Table::pick, and 0 items have this name"),
             (CALL + CALL, "an example is of chooser::Table::pick, and 2 items have this name"),
-            (re.sub("    ///.*\n", "", CALL), "crates/chooser/src/table.rt: chooser::Table::pick has an example and no doc comment"),
+            (
+                re.sub("    ///.*\n", "", CALL),
+                "crates/chooser/src/table.rt: chooser::Table::pick has an example and no doc comment",
+            ),
         ]:
             with self.subTest(fault):
                 self.expect(None, [fault], call)

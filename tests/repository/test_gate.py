@@ -79,8 +79,8 @@ FILES = {
     "tests/test_choose.py": TEST,
 }
 
-# Each step: the commands, of which the last one is ended, and which command of the toolchain hangs there. The library of the
-# page is no module, so that the page waits.
+# Each step: the commands, of which the last one is ended, and which command of the toolchain hangs there. The library
+# of the page is no module, so that the page waits.
 STEPS = {
     "rt ci": ([["./gate"]], "ci"),
     "the mutants": ([["./gate"]], "check"),

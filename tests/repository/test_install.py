@@ -46,8 +46,8 @@ NOT_SEARCHED = (
     "install: programs find the library in {}/lib by LD_LIBRARY_PATH, or if /etc/ld.so.conf names it and ldconfig ran\n"
 )
 
-# Installs below /usr/local on a system of its own: this one, over which a layer lies that is thrown away. Then the library
-# is found without an environment that says where, until it is removed.
+# Installs below /usr/local on a system of its own: this one, over which a layer lies that is thrown away. Then the
+# library is found without an environment that says where, until it is removed.
 SYSTEM = r"""
 set -e
 mount -t tmpfs tmpfs "$1"

@@ -141,7 +141,8 @@ class PackedTest(BuiltCloneTest):
         self.environment = {**os.environ, "SOURCE_COMMIT": COMMIT, "SOURCE_DATE_EPOCH": SECONDS}
 
     def packages(self):
-        """Leaves the packages of the clone as each test finds it. They are made for the first test of a class that needs them."""
+        """Leaves the packages of the clone as each test finds it. They are made for the first test of a class that
+        needs them."""
         if os.path.exists(f"{self.c}/packages"):
             shutil.copytree(f"{self.c}/packages", self.made)
         else:
@@ -159,7 +160,8 @@ class PackageTest(PackedTest):
     """What is in the packages, and that they can be used on this system."""
 
     def test_packages_have_the_same_bytes(self):
-        """Whenever they are made, whoever made the files, and whichever commit with the same crates the program was built from."""
+        """Whenever they are made, whoever made the files, and whichever commit with the same crates the program was
+        built from."""
         self.package()
         first = {it: read(f"{self.made}/{it}") for it in os.listdir(self.made)}
         for at, _, names in os.walk(f"{self.clone}/examples"):
@@ -191,8 +193,8 @@ class PackageTest(PackedTest):
                 self.assertRegex(output, rf"\A{needed}\s*\Z")
 
     def test_documents_and_changes_are_where_a_reader_looks(self):
-        """Each document that a manual page names is where the page says. A package has the changes of all versions, and its own
-        changelog begins with this version."""
+        """Each document that a manual page names is where the page says. A package has the changes of all versions,
+        and its own changelog begins with this version."""
         self.packages()
         system, named = f"{self.folder}/system", set()
         for it in DEBIAN:
@@ -260,7 +262,8 @@ class PackageTest(PackedTest):
         self.assertEqual(read(f"{ROOT}/LICENSE"), read(f"{top}/LICENSE"))
 
     def test_the_shared_library_is_hardened(self):
-        """What the C compiler makes checks the stack and the lengths of copies, and has no table of calls that can be written."""
+        """What the C compiler makes checks the stack and the lengths of copies, and has no table of calls that can be
+        written."""
         with open(f"{self.clone}/bindings/c/manifest.c", "a", encoding="utf-8") as it:
             it.write(COPIES)
         library = f"{self.folder}/hardened.so"
@@ -369,8 +372,8 @@ class CleanSystemTest(PackedTest):
     runs_once = True
 
     def test_they_are_installed_used_and_removed(self):
-        """As the documents say, and nothing of them is left. Empty projects take the archives of makers of firmware. What was
-        packed isn't skipped."""
+        """As the documents say, and nothing of them is left. Empty projects take the archives of makers of firmware.
+        What was packed isn't skipped."""
         self.packages()
         status, said = self.run_tool("try_packages", "--root", SYSTEM)
         self.assertTrue(said.decode().endswith(f" 0 failed, {int(not CRATE)} skipped\n"), said.decode())

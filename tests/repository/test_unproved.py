@@ -44,6 +44,8 @@ PAIR, ONE = "examples/devices/pair.json", "examples/images/one.img"
 SWEEP = ["sweep", PAIR, "examples/scripts/reverted.txt", ONE, ONE]
 OF_SCRIPT = ["examples/manifests/trial.json", "examples/images/needing.img", "examples/images/partner.img"]
 
+TWO_LINES = f"boot\naccept {OF_SCRIPT[0]}\npiece 0 {OF_SCRIPT[1]} 0 4\n"
+
 # What is refused, and what of the arguments is to blame.
 REFUSED = {
     "provision": ["provision", PAIR, "flash", ONE, ONE],
@@ -53,7 +55,8 @@ REFUSED = {
     "--svg": [*SWEEP, "--svg", "own.svg"],
 }
 
-# Files that are passed: the arguments, what is on standard input, the names of the files, and what the program reads there.
+# Files that are passed: the arguments, what is on standard input, the names of the files, and what the program reads
+# there.
 PASSED = [
     (["choose", "examples/tables/three.txt"], "", ["examples/tables/three.txt"], ""),
     (["choose", "./examples//tables/three.txt"], "", ["examples/tables/three.txt"], ""),
@@ -66,7 +69,7 @@ PASSED = [
     (["plan", "-", f"--request=0={ONE}"], "a fleet", [ONE], "a fleet"),
     (["plan", "-", "--request", f"0={ONE}"], "a fleet", [ONE], "a fleet"),
     (SWEEP, "", [PAIR, SWEEP[2], ONE, *OF_SCRIPT], ""),
-    (["sweep", PAIR, "-", ONE], f"boot\naccept {OF_SCRIPT[0]}\npiece 0 {OF_SCRIPT[1]} 0 4\n", [PAIR, ONE, *OF_SCRIPT[:2]], None),
+    (["sweep", PAIR, "-", ONE], TWO_LINES, [PAIR, ONE, *OF_SCRIPT[:2]], None),
     (["sweep", PAIR, "script", ONE], "an image", [PAIR, "script", ONE], "an image"),
     (["run", "--help"], "", [], ""),
     (["codes"], "", [], ""),
@@ -140,8 +143,8 @@ class UnprovedTest(unittest.TestCase):
     def test_what_writes_a_file_is_refused(self):
         for what, words in REFUSED.items():
             typed = " ".join(words).replace("a script", "'a script'")
-            wanted = f"bootswap: --unproved writes no file, and {what} does: `./bootswap {typed}` proves and builds the program, and runs it\n"
-            self.assertEqual((2, b"", wanted, None), self.ended(words))
+            said = f"bootswap: --unproved writes no file, and {what} does: `./bootswap {typed}` proves and builds the "
+            self.assertEqual((2, b"", f"{said}program, and runs it\n", None), self.ended(words))
 
     def test_a_name_that_cannot_be_passed_is_refused(self):
         for name, at in (("../above", "below"), ("stdin", "."), ("a=b", ".")):

@@ -34,13 +34,14 @@ class Machine:
         output_of([f"{self.prefix}gcc", *flags, *files, *words, self.helpers(), "-o", program])
 
     def includes(self):
-        """Returns where the compiler's own headers are, and no others: a compiler for RISC-V may come without a library."""
+        """Returns where the compiler's own headers are, and no others: a compiler for RISC-V may come without a
+        library."""
         words = [f"{self.prefix}gcc", "-print-file-name=include"]
         return ["-nostdinc", "-isystem", subprocess.run(words, capture_output=True, text=True, check=True).stdout.strip()]
 
     def helpers(self):
-        """Returns the file of the compiler's helpers, such as 64-bit division. They are the same without instructions for a
-        system's registers."""
+        """Returns the file of the compiler's helpers, such as 64-bit division. They are the same without instructions
+        for a system's registers."""
         words = [f"{self.prefix}gcc", *(it.removesuffix("_zicsr") for it in self.flags), "-print-libgcc-file-name"]
         return subprocess.run(words, capture_output=True, text=True, check=True).stdout.strip()
 

@@ -1,4 +1,5 @@
-"""A clone of the repository in which the program and the library are built, for tests of what is installed and packed."""
+"""A clone of the repository in which the program and the library are built, for tests of what is installed and
+packed."""
 
 import os
 import shutil
@@ -38,7 +39,8 @@ class BuiltCloneTest(ProgramTest):
         super().setUp()
         self.clone = f"{self.folder}/clone"
         for name in NEEDED:
-            shutil.copytree(f"{ROOT}/{name}", f"{self.clone}/{name}", ignore=shutil.ignore_patterns("__pycache__", "target", "Cargo.lock"))
+            left_out = shutil.ignore_patterns("__pycache__", "target", "Cargo.lock")
+            shutil.copytree(f"{ROOT}/{name}", f"{self.clone}/{name}", ignore=left_out)
         for name in ("LICENSE", "README.md", "CHANGELOG.md"):
             shutil.copy(f"{ROOT}/{name}", self.clone)
         os.mkdir(f"{self.clone}/out")

@@ -37,8 +37,8 @@ UPLOAD_FAULTS = dict(enumerate(
 
 
 class Library:
-    """The calls over a driver and what they call, in this process, with the structs of bindings/python. `parts` are the files
-    of what they call: the library, or a stand-in for it."""
+    """The calls over a driver and what they call, in this process, with the structs of bindings/python. `parts` are
+    the files of what they call: the library, or a stand-in for it."""
 
     def __init__(self, processor, parts, folder):
         self.processor, self.names = processor, python_module()
@@ -115,9 +115,9 @@ class Library:
 
 
 class Flash:
-    """A flash and its driver. `cuts` says what writes leave at which power fails, by their numbers. The call of the driver of
-    number `fails_at` fails, and changes nothing. `wrong` lists what no call may ask of a driver. `mapped` is memory that shows
-    the contents, if the flash is mapped."""
+    """A flash and its driver. `cuts` says what writes leave at which power fails, by their numbers. The call of the
+    driver of number `fails_at` fails, and changes nothing. `wrong` lists what no call may ask of a driver. `mapped` is
+    memory that shows the contents, if the flash is mapped."""
 
     def __init__(self, contents, sector):
         self.bytes, self.sector, self.mapped = bytearray(contents), sector, None
@@ -184,8 +184,8 @@ def torn_bytes(old, new, torn):
 
 
 class Driven:
-    """A device over a flash. `capacity` is the length of its journal in bytes. `memory` is what the library reads: the flash
-    itself if it is mapped into memory, or a copy of it."""
+    """A device over a flash. `capacity` is the length of its journal in bytes. `memory` is what the library reads: the
+    flash itself if it is mapped into memory, or a copy of it."""
 
     def __init__(self, library, setup, flash, capacity, is_mapped=False):
         self.library, self.setup, self.flash, self.capacity, self.is_mapped = library, setup, flash, capacity, is_mapped
@@ -314,7 +314,8 @@ def refused(result):
 
 
 class DriverTest(unittest.TestCase):
-    """A test of driver.c over the library, on a processor, with a driver in Python. No call may ask of a driver what it mustn't."""
+    """A test of driver.c over the library, on a processor, with a driver in Python. No call may ask of a driver what
+    it mustn't."""
 
     processor, library_class, is_mapped = HERE, Library, False
 

@@ -9,7 +9,7 @@ import weakref
 
 from support.driven import INCLUDE, STRICT, Library
 from support.files import ROOT
-from support.libraries import output_of
+from support.libraries import symbols
 from support.processors import OnArm, OnSmallArm
 
 # A call of support/c/called.c, a message of it, and the answer to one.
@@ -69,8 +69,7 @@ class Emulated(Library):
 
     def functions_of(self, program):
         """Returns the addresses of the functions of a program by their names."""
-        rows = [line.split() for line in output_of([self.processor.nm, "--format=posix", program]).decode().splitlines()]
-        return {row[0]: int(row[2], 16) for row in rows if row[1] == "T"}
+        return {it[0]: int(it[2], 16) for it in symbols(program, self.processor.nm) if it[1] == "T"}
 
     def close(self):
         """Ends the process."""
@@ -122,7 +121,8 @@ class Emulated(Library):
 
     @staticmethod
     def word_of(argument):
-        """Returns an argument as the word that holds it. A shorter type of C leaves the other bits open: they are ones."""
+        """Returns an argument as the word that holds it. A shorter type of C leaves the other bits open: they are
+        ones."""
         address = address_of(argument)
         return address if address is not None else argument.value | WORD & WORD << 8 * ctypes.sizeof(argument)
 
@@ -177,7 +177,8 @@ class EmulatedSmall(Emulated):
 
     @staticmethod
     def word_of(argument):
-        """Returns an argument as the word that holds it. The caller extends a shorter type (AAPCS32, "Parameter passing")."""
+        """Returns an argument as the word that holds it. The caller extends a shorter type (AAPCS32, "Parameter
+        passing")."""
         address = address_of(argument)
         return argument.value if address is None else address
 

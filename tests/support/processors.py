@@ -1,5 +1,5 @@
-"""The processors on which the library is tested: this one, 64-bit ARM as `qemu-aarch64` runs it, and 32-bit ARM with the library
-as one file of C."""
+"""The processors on which the library is tested: this one, 64-bit ARM as `qemu-aarch64` runs it, and 32-bit ARM with
+the library as one file of C."""
 
 import atexit
 import functools
@@ -13,7 +13,8 @@ from support.libraries import ARM_TARGET, TARGET, archive_for, c_folder, manifes
 
 @dataclass(frozen=True)
 class Processor:
-    """A processor: the target of its library, its compiler of C and `nm`, and the words before a program that it runs."""
+    """A processor: the target of its library, its compiler of C and `nm`, and the words before a program that it
+    runs."""
 
     target: str
     compiler: tuple
@@ -55,7 +56,8 @@ ARM = Processor(ARM_TARGET, ("aarch64-linux-gnu-gcc", "-static"), "aarch64-linux
 
 @dataclass(frozen=True)
 class SmallProcessor(Processor):
-    """A processor of 32 bits. The toolchain has no target for it: its library is the file of C of `bindings/build --c`."""
+    """A processor of 32 bits. The toolchain has no target for it: its library is the file of C of `bindings/build
+    --c`."""
 
     def archive(self):
         return library_of_c(self)

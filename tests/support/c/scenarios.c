@@ -251,14 +251,16 @@ static uint32_t boot(void) {
     return number;
 }
 
+/* Makes a call of a device, in a journal or with cuts. */
+#define CALL(name, ...) \
+    (has_journal ? bootswap_journal_##name(&setup, flash, flash_length, &saved, journal, capacity, __VA_ARGS__, &result) \
+                 : bootswap_simulate_##name(&setup, flash, flash_length, &saved, cuts, cuts_count, __VA_ARGS__, &result))
+
 static void accept(void) {
     uint32_t has_journal = choose_kind();
     make_manifest();
     if (any(20) == 0) manifest.count = any(12);
-    uint32_t number =
-        has_journal ? bootswap_journal_accept(&setup, flash, flash_length, &saved, journal, capacity, &manifest, &result)
-                    : bootswap_simulate_accept(&setup, flash, flash_length, &saved, cuts, cuts_count, &manifest, &result);
-    end_call("accept", number, has_journal);
+    end_call("accept", CALL(accept, &manifest), has_journal);
 }
 
 /* Uploads pieces of the file of an image, up to its end or a refusal. */
@@ -266,41 +268,24 @@ static void upload(uint8_t image) {
     uint32_t number = BOOTSWAP_DONE;
     for (uint32_t pieces = 0; number == BOOTSWAP_DONE && pieces < 12 && sent[image] < lengths[image]; pieces++) {
         uint32_t has_journal = choose_kind(), left = lengths[image] - sent[image], length = any(4) != 0 ? left : any(600);
-        const uint8_t *bytes = files[image] + sent[image];
         length = length > left ? left : length;
-        if (has_journal && any(8) != 0) capacity = sizeof journal;
-        number = has_journal ? bootswap_journal_piece(&setup, flash, flash_length, &saved, journal, capacity, image, bytes, length,
-                                                      &result)
-                             : bootswap_simulate_piece(&setup, flash, flash_length, &saved, cuts, cuts_count * (any(4) == 0), image,
-                                                       bytes, length, &result);
+        if (any(8) != 0) capacity = sizeof journal;
+        if (any(4) != 0) cuts_count = 0;
+        number = CALL(piece, image, files[image] + sent[image], length);
         sent[image] += length;
         end_call("piece", number, has_journal);
     }
 }
 
-static void finish(uint8_t image) {
-    uint32_t has_journal = choose_kind();
-    uint32_t number =
-        has_journal ? bootswap_journal_finish(&setup, flash, flash_length, &saved, journal, capacity, image, &result)
-                    : bootswap_simulate_finish(&setup, flash, flash_length, &saved, cuts, cuts_count, image, &result);
-    end_call("finish", number, has_journal);
-}
+#define IMAGE_CALL(name) \
+    static void name(uint8_t image) { \
+        uint32_t has_journal = choose_kind(); \
+        end_call(#name, CALL(name, image), has_journal); \
+    }
 
-static void withdraw(uint8_t image) {
-    uint32_t has_journal = choose_kind();
-    uint32_t number =
-        has_journal ? bootswap_journal_withdraw(&setup, flash, flash_length, &saved, journal, capacity, image, &result)
-                    : bootswap_simulate_withdraw(&setup, flash, flash_length, &saved, cuts, cuts_count, image, &result);
-    end_call("withdraw", number, has_journal);
-}
-
-static void confirm(uint8_t image) {
-    uint32_t has_journal = choose_kind();
-    uint32_t number =
-        has_journal ? bootswap_journal_confirm(&setup, flash, flash_length, &saved, journal, capacity, image, &result)
-                    : bootswap_simulate_confirm(&setup, flash, flash_length, &saved, cuts, cuts_count, image, &result);
-    end_call("confirm", number, has_journal);
-}
+IMAGE_CALL(finish)
+IMAGE_CALL(withdraw)
+IMAGE_CALL(confirm)
 
 static void look(uint8_t image) {
     uint32_t number = bootswap_state(&setup, flash, flash_length, &state);
