@@ -1,32 +1,19 @@
 """The libraries in Python, their headers in C++, and what bindings/README.md shows of them."""
 
 import os
-import random
 import shutil
 import subprocess
 import sys
 import tempfile
 import unittest
 
-from support.builders import CLASS, VENDOR
 from support.compiled import needs_compiler
 from support.files import ROOT
-from support.libraries import fenced, output_of, python_module, shared_library
-from support.manifests import drawn_text, listing_of
+from support.libraries import fenced, output_of, shared_library
 from support.processors import HERE
 
 # How many seconds the tests of the module, and a command of the page, may take.
 LIMIT = 120
-
-
-def listed(manifest, names):
-    """The listing of a manifest that was read, as `listing_of` its text."""
-    lines = [f"sequence {manifest.sequence}"]
-    for it in manifest.components:
-        kind = "permanent" if it.kind == names.Kind.PERMANENT else "test"
-        line = f"component {it.image} {it.size} {kind} {it.digest.hex()}"
-        lines.append(line + (f" precursor {it.precursor.hex()}" if it.precursor else ""))
-    return "".join(f"{line}\n" for line in lines).encode()
 
 
 @needs_compiler
@@ -42,19 +29,6 @@ class PythonTest(unittest.TestCase):
         text = "".join(f"#include <bootswap{it}.h>\n" for it in ("_manifest", "_simulate", "_names"))
         words = ["cc", "-x", "c++", "-Wall", "-Wextra", "-Werror", "-I", f"{ROOT}/include", "-fsyntax-only", "-"]
         subprocess.run(words, input=text, text=True, check=True)
-
-    def test_ten_thousand_random_manifests_are_refused_by_their_pieces_or_read(self):
-        names, dice = python_module(self.shared), random.Random(2)
-        device = names.Device(512, [2, 2], vendor=names.uuid.UUID(VENDOR), class_id=names.uuid.UUID(CLASS))
-        counts = 9 * [0]
-        for text, code in (drawn_text(dice) for _ in range(10_000)):
-            try:
-                got = 0, listed(device.read_manifest(text), names)
-            except names.BadManifest as error:
-                got = int(error.fault), b""
-            counts[code] += 1
-            self.assertEqual((code, b"" if code else listing_of(text)), got, text)
-        self.assertGreater(min(counts[:8]), 50)
 
     def test_the_tests_of_the_module_pass(self):
         tests = [sys.executable, "-B", f"{ROOT}/bindings/python/test_bootswap.py"]

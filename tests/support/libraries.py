@@ -82,14 +82,12 @@ def c_folder(folder):
     write_folder(archive_for(WEB_TARGET), folder)
 
 
-def python_module(shared=None):
-    """Loads bindings/python/bootswap.py, over this library or one that does nothing."""
+def python_module():
+    """Loads bindings/python/bootswap.py, over a library that does nothing."""
     spec = importlib.util.spec_from_file_location("bootswap", f"{ROOT}/bindings/python/bootswap.py")
     module = importlib.util.module_from_spec(spec)
-    library = {} if shared else {"CDLL": mock.DEFAULT}
-    with mock.patch.dict(os.environ, BOOTSWAP_LIBRARY=shared or ""), mock.patch.dict(sys.modules, {spec.name: module}):
-        with mock.patch.multiple(ctypes, **library):
-            spec.loader.exec_module(module)
+    with mock.patch.object(ctypes, "CDLL"), mock.patch.dict(sys.modules, {spec.name: module}):
+        spec.loader.exec_module(module)
     return module
 
 
