@@ -138,7 +138,8 @@ class HeaderTest(ProgramTest):
 
     def errors(self, text, compiler="cc"):
         """Returns what a C compiler says of a text."""
-        words = [*compiler.split(), "-std=c11", "-ffreestanding", "-fsyntax-only", "-I", f"{ROOT}/include", "-x", "c", "-"]
+        flags = ["-std=c11", "-ffreestanding", "-fsyntax-only", "-I", f"{ROOT}/include"]
+        words = [*compiler.split(), *flags, "-x", "c", "-"]
         return subprocess.run(words, input=f"{text}\n", capture_output=True, text=True).stderr
 
     def expect(self, facts, compiler="cc"):
@@ -170,12 +171,15 @@ class HeaderTest(ProgramTest):
     def test_bounds_of_the_journal_fit_a_size(self):
         bounds = {f"BOOTSWAP_JOURNAL_{it}": wanted for it, wanted in JOURNAL_BOUNDS.items()}
         for compiler in self.compilers():
-            self.expect([f"{it} == {wanted}u && sizeof {it} == sizeof(size_t)" for it, wanted in bounds.items()], compiler)
+            facts = [f"{it} == {wanted}u && sizeof {it} == sizeof(size_t)" for it, wanted in bounds.items()]
+            self.expect(facts, compiler)
 
     def test_calls_of_python_are_declared_so(self):
         calls = {name: getattr(self.python._LIBRARY, name) for name in declared("call") if not name.endswith("_name")}
-        types = {name: ", ".join(map(type_in_c, it.argtypes)) for name, it in calls.items()}
-        lines = [f"{type_in_c(it.restype) if it.restype else 'void'} {name}({types[name]});" for name, it in calls.items()]
+        lines = []
+        for name, it in calls.items():
+            result = type_in_c(it.restype) if it.restype else "void"
+            lines.append(f"{result} {name}({', '.join(map(type_in_c, it.argtypes))});")
         self.assertEqual("", self.errors("\n".join(["#define const", START, *lines])))
 
     def test_numbers_and_limits_of_python_are_those_of_the_header(self):
@@ -190,8 +194,9 @@ class HeaderTest(ProgramTest):
 
     def test_names_are_those_of_python_and_the_program(self):
         """bootswap_names.h has the names that `codes` lists."""
-        lines = [f'for (uint32_t n = 0; n < 64; n++) printf("{it} %u %s\\n", n, bootswap_{it}_name(n));' for it in KINDS]
-        text = "\n".join(["#include <stdio.h>", "#include <bootswap_names.h>", "int main(void) {", *lines, "}", ""])
+        lines = [f'printf("{it} %u %s\\n", n, bootswap_{it}_name(n));' for it in KINDS]
+        start = ["#include <stdio.h>", "#include <bootswap_names.h>", "int main(void) {"]
+        text = "\n".join([*start, "for (uint32_t n = 0; n < 64; n++) {", *lines, "}}", ""])
         with tempfile.TemporaryDirectory() as folder:
             words = ["cc", "-std=c11", "-Wall", "-Wextra", "-Werror", "-I", f"{ROOT}/include", "-x", "c", "-"]
             subprocess.run([*words, "-o", f"{folder}/names"], input=text, text=True, check=True)

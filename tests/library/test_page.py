@@ -34,7 +34,9 @@ SCENES = {
     "a pair after a cut": {"images": 2, "actions": [BOOT, UPLOAD, cut(25, [90, 165])]},
     "a pair of which one is refused": {"images": 2, "actions": [BOOT, {"do": "upload", "rows": PAIR[:1]}, BOOT]},
     "a pair that MCUboot breaks": {"images": 2, "actions": [BOOT, UPLOAD, BOOT, {"do": "confirm", "image": 0}, BOOT]},
-    "three images on trial": {"images": 3, "boots": 3, "actions": [BOOT, UPLOAD, BOOT, BOOT, {"do": "withdraw", "image": 2}]},
+    "three images on trial": {
+        "images": 3, "boots": 3, "actions": [BOOT, UPLOAD, BOOT, BOOT, {"do": "withdraw", "image": 2}],
+    },
 }
 
 
@@ -189,7 +191,8 @@ class PageTest(ProgramTest):
 
     def test_mcuboot_breaks_a_pair_that_the_device_reverts(self):
         """One image of the pair is confirmed: MCUboot's rule reverts only the other one."""
-        self.run_all(click("beside"), click("boot"), CLICK_UPLOAD, click("boot"), confirm(0), click("boot"), click("boot"))
+        self.run_all(click("beside"), click("boot"), CLICK_UPLOAD, click("boot"))
+        self.run_all(confirm(0), click("boot"), click("boot"))
         events = self.run_on_page(EVENTS)
         self.assertTrue(events[-2].startswith("reverted"), events)
         self.assertEqual("plain\nrun 0 1.0.0+0\nrun 1 1.0.0+0", events[-1])

@@ -122,7 +122,8 @@ class NullTest(DriverTest):
                     given = self.arguments(types, none, length)
                     words = [it if not isinstance(it, ctypes.Structure) else byref(it) for it in given]
                     number = getattr(self.library.calls, name)(*words)
-                    got.append((number, *(bytes(it) for it in given if isinstance(it, (ctypes.Structure, ctypes.Array)))))
+                    written = [bytes(it) for it in given if isinstance(it, (ctypes.Structure, ctypes.Array))]
+                    got.append((number, written))
                 self.assertEqual(got[0], got[1], f"{name}, {length}")
                 numbers.add(got[0][0])
         self.assertEqual({0, 1}, numbers)

@@ -106,7 +106,7 @@ class RustTest(unittest.TestCase):
         self.assertTrue(len(passed) >= 4 and sum(passed) >= 20, output)
         self.assertNotIn("warning", output)
         self.assertNotIn("warning", self.cargo("doc"))
-        wanted = {"README.md", "build.rs", "src/lib.rs", "tests/header.rs", "examples/file_device.rs", "examples/upgrade.rs"}
+        wanted = {"README.md", "build.rs", "src/lib.rs", "tests/header.rs", "examples/upgrade.rs"}
         self.assertEqual(set(), wanted - {*self.cargo("package", "--list", "--allow-dirty").split()})
 
     @unittest.skipUnless(shutil.which("cargo-clippy"), "there is no clippy")
@@ -198,8 +198,8 @@ class RustFileDeviceTest(file_device.FileDevice):
         """With the shortest journal, and with one that holds two steps of a swap."""
         in_rust, in_c = "SETUP.boot_journal_length()", "BOOTSWAP_JOURNAL_BOOT(IMAGES, SECTOR)"
         for more in (0, 600):
-            c = f"{self.folder}/file_device.c"
-            self.lengthen(f"{CRATE}/examples/file_device.rs", f"{self.folder}/crate/examples/file_device.rs", in_rust, more)
+            c, example = f"{self.folder}/file_device.c", "examples/file_device.rs"
+            self.lengthen(f"{CRATE}/{example}", f"{self.folder}/crate/{example}", in_rust, more)
             self.lengthen(f"{ROOT}/bindings/c/file_device.c", c, in_c, more)
             self.build_example()
             files = [c, f"{ROOT}/bindings/c/driver.c", f"{C}/power.c", f"{self.folder}/bootswap.o"]
@@ -218,7 +218,8 @@ class RustFileDeviceTest(file_device.FileDevice):
         steps = [("provision", one, one), ("boot",), ("boot", "upload", needing, partner), ("boot",), ("boot",)]
         for commands in (*steps, ("boot", "upload", needing, partner), ("boot", "confirm"), ("boot",)):
             before = read(self.flash) if os.path.exists(self.flash) else b""
-            in_c, in_rust = (self.step(it, before, commands) for it in (f"{self.folder}/device_in_c", type(self).program))
+            programs = f"{self.folder}/device_in_c", type(self).program
+            in_c, in_rust = (self.step(it, before, commands) for it in programs)
             self.assertEqual(in_c, in_rust, f"{more}: {commands}")
             self.assertEqual(0, in_rust[0][0])
 

@@ -105,7 +105,8 @@ BODIES = {
     "global.get; local.get 0; i64.sub; global.set": "the ends of the frame",
     "local.get 0; global.set": "the ends of the frame",
     "global.get; i64.const -16; i64.and; local.tee 1; global.set": "the ends of the frame",
-    "global.get; i64.const 32; i64.sub; global.set; global.get; i64.const 48; i64.sub; global.set": "an unusual prologue",
+    "global.get; i64.const 32; i64.sub; global.set; global.get; i64.const 48; i64.sub; global.set":
+        "an unusual prologue",
     "global.get; i64.const 32; i64.sub; i64.const 0x7fffffff; i64.add; i64.const 64; i64.add; drop":
         "an address 2147483679 bytes",
     "global.get; i64.const 70000; i64.lt_s; drop": "a comparison of the frame with 70000",
@@ -146,7 +147,8 @@ USES_OUTSIDE = {
     "local.get 1; i32.const 1; select; drop": "more than 32 bits",
     "call bootswap_0": "more than 32 bits",
     "local.set 1; local.get 0; local.get 1; i64.store 8 0": "more than 32 bits",
-    "local.set 1; local.get 1; local.get 0; i64.add; local.set 1; local.get 0; local.get 1; i64.store 8 0": "more than 32 bits",
+    "local.set 1; local.get 1; local.get 0; i64.add; local.set 1; local.get 0; local.get 1; i64.store 8 0":
+        "more than 32 bits",
     "i64.const 3; i64.mul; drop": "`*` of an address outside",
     "i64.const 16; i64.and; drop": "`&` of an address outside",
     "i64.const 4; i64.or; drop": "`|` of an address outside",

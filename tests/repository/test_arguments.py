@@ -27,8 +27,8 @@ def scripts():
 class ArgumentTest(unittest.TestCase):
     def ran(self, *words, **environment):
         """Returns the status of a script, and what it prints on the two streams."""
-        streams = {"stdin": subprocess.DEVNULL, "capture_output": True, "text": True}
-        done = subprocess.run([sys.executable, "-B", *words], timeout=LIMIT, env={**os.environ, **environment}, **streams)
+        how = {"stdin": subprocess.DEVNULL, "capture_output": True, "text": True, "env": {**os.environ, **environment}}
+        done = subprocess.run([sys.executable, "-B", *words], timeout=LIMIT, **how)
         return done.returncode, done.stdout, done.stderr
 
     def test_each_script_has_a_help_and_refuses_unknown_arguments(self):

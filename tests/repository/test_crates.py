@@ -13,7 +13,7 @@ from support.files import ROOT, read
 
 CHECKER = ["certificate/src/checking.rt", "certificate/src/checking/*.rt"]
 TYPES = ["certificate/src/report.rt", "certificate/src/table.rt"]
-CHOICE = ["chooser/src/*.rt", "certificate/src/validity.rt", "certificate/src/running.rt", "certificate/src/depending.rt"]
+CHOICE = ["chooser/src/*.rt", *(f"certificate/src/{it}.rt" for it in ("validity", "running", "depending"))]
 
 
 def code(patterns):

@@ -56,8 +56,8 @@ SHOWN = """    /// None.
 
 class DocsTest(unittest.TestCase):
     def test_lists_and_examples_are_as_the_tool_writes_them(self):
-        words = [sys.executable, f"{ROOT}/tools/docs", "--check"]
-        done = subprocess.run(words, stdin=subprocess.DEVNULL, stdout=subprocess.PIPE, stderr=subprocess.STDOUT, text=True)
+        streams = {"stdin": subprocess.DEVNULL, "stdout": subprocess.PIPE, "stderr": subprocess.STDOUT, "text": True}
+        done = subprocess.run([sys.executable, f"{ROOT}/tools/docs", "--check"], **streams)
         self.assertEqual((0, ""), (done.returncode, done.stdout), "`tools/docs` writes them anew")
 
 
@@ -67,7 +67,8 @@ class ExamplesTest(unittest.TestCase):
 
     def expect(self, text, faults, call):
         """The new text of the file with the call, None if it doesn't change, and the faults."""
-        sources = {"crates/chooser/src/table.rt": call, "crates/chooser/src/other.rt": OTHER, "crates/tlv/src/table.rt": CALL}
+        sources = {"chooser/src/table.rt": call, "chooser/src/other.rt": OTHER, "tlv/src/table.rt": CALL}
+        sources = {f"crates/{name}": it for name, it in sources.items()}
         wanted = {"crates/chooser/src/table.rt": text} if text else {}
         self.assertEqual((wanted, faults), examples.written(self.examples, sources))
 

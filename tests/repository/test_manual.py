@@ -98,7 +98,8 @@ class MadePagesTest(unittest.TestCase):
     @classmethod
     def setUpClass(cls):
         cls.library = library_pages("2000-01-01", "1.2.3")
-        cls.pages = {"bootswap-formats.5": formats_page("2000-01-01", "1.2.3"), "libbootswap.3": cls.library["libbootswap"]}
+        cls.pages = {"bootswap-formats.5": formats_page("2000-01-01", "1.2.3")}
+        cls.pages["libbootswap.3"] = cls.library["libbootswap"]
 
     def test_a_page_has_its_name_section_date_and_version(self):
         for name, page in self.pages.items():

@@ -208,7 +208,8 @@ class PackageTest(PackedTest):
                 self.assertEqual([], [it for it in documents if not os.path.exists(f"{system}{folder}/{it}")], name)
         self.assertEqual(set(), {"COMMANDS.md", "FLEETS.md", "docs/PORTING.md"} - named)
         for name in FILES:
-            changes, own = (gzip.decompress(read(f"{system}/usr/share/doc/{name}/changelog{it}.gz")) for it in ("", ".Debian"))
+            files = (f"{system}/usr/share/doc/{name}/changelog{it}.gz" for it in ("", ".Debian"))
+            changes, own = (gzip.decompress(read(it)) for it in files)
             self.assertEqual(read(f"{ROOT}/CHANGELOG.md"), changes)
             self.assertTrue(own.decode().startswith(f"bootswap ({version()}-1) unstable; "), name)
 
@@ -284,9 +285,9 @@ class PackageTest(PackedTest):
         self.packages()
         layer = f"{self.folder}/layer"
         os.mkdir(layer)
-        how = {"env": {"PATH": "/usr/sbin:/usr/bin:/sbin:/bin", "USES": USES, "LC_ALL": "C"}, "stdin": subprocess.DEVNULL}
+        environment = {"PATH": "/usr/sbin:/usr/bin:/sbin:/bin", "USES": USES, "LC_ALL": "C"}
         words = ["unshare", "--mount", "bash", "-c", LAYER, "layer", layer, *(f"{self.made}/{it}" for it in DEBIAN)]
-        done = subprocess.run(words, capture_output=True, text=True, **how)
+        done = subprocess.run(words, env=environment, stdin=subprocess.DEVNULL, capture_output=True, text=True)
         if "mount" in done.stderr and not done.stdout:
             self.skipTest(f"no layer can be laid over the system here: {short(done.stderr.encode())}")
         self.assertEqual(PRINTED, done.stdout, done.stderr)

@@ -32,12 +32,12 @@ print("answer")
 sys.stderr.write(os.environ["PRETENDED_SAYS"])
 """
 
-STARTED = b"bootswap: nothing of the program that runs here is proved: `rt try` compiles it with checks, in about a minute; "
+STARTED = b"bootswap: nothing of the program that runs here is proved: `rt try` compiles it with checks, "
+STARTED += b"in about a minute; "
 ENDED = "checked: ended status={0}\nrun=ended status={0} runners=1 proved=no\n"
 STOPPED = "interpreter: no-answer: the run did not finish within 1 step: the program may loop forever\n"
-TOO_LONG = """checked: no-answer: wrote more than 1048576 bytes to standard output or to standard error, the limit on each
-run=no-answer proved=no
-"""
+TOO_LONG = "checked: no-answer: wrote more than 1048576 bytes to standard output or to standard error, "
+TOO_LONG += "the limit on each\nrun=no-answer proved=no\n"
 FAULT = "checked: fault: an overflow\nrun=fault runners=1 proved=no\n"
 
 PAIR, ONE = "examples/devices/pair.json", "examples/images/one.img"

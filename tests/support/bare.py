@@ -1,7 +1,6 @@
 """Machines of QEMU without an operating system, whose processors have 32 bits."""
 
 import shutil
-import subprocess
 from dataclasses import dataclass
 
 from support.files import ROOT
@@ -36,14 +35,14 @@ class Machine:
     def includes(self):
         """Returns where the compiler's own headers are, and no others: a compiler for RISC-V may come without a
         library."""
-        words = [f"{self.prefix}gcc", "-print-file-name=include"]
-        return ["-nostdinc", "-isystem", subprocess.run(words, capture_output=True, text=True, check=True).stdout.strip()]
+        found = output_of([f"{self.prefix}gcc", "-print-file-name=include"]).decode().strip()
+        return ["-nostdinc", "-isystem", found]
 
     def helpers(self):
         """Returns the file of the compiler's helpers, such as 64-bit division. They are the same without instructions
         for a system's registers."""
         words = [f"{self.prefix}gcc", *(it.removesuffix("_zicsr") for it in self.flags), "-print-libgcc-file-name"]
-        return subprocess.run(words, capture_output=True, text=True, check=True).stdout.strip()
+        return output_of(words).decode().strip()
 
     def output_of(self, program):
         """Runs a program, which has to succeed, and returns what it prints."""

@@ -199,7 +199,8 @@ class Driven:
             self.driver.read, flash.mapped = type(self.driver.read)(), self.memory
             flash_and_copy = memory, POINTER(c_uint8)()
             flash.show()
-        parts = ctypes.pointer(setup), ctypes.pointer(self.driver), flash_and_copy[0], len(self.memory), flash_and_copy[1]
+        flash, copy = flash_and_copy
+        parts = ctypes.pointer(setup), ctypes.pointer(self.driver), flash, len(self.memory), copy
         self.device = library.new(library.device, *parts, journal, capacity)
         self.table, self.report = (library.new(c_char * it) for it in (20480, 2048))
 
@@ -258,8 +259,8 @@ class Driven:
         """The versions of the images at the front of the primary slots."""
         found = self.library.new(self.library.names._Description)
         for image in range(self.setup.images):
-            args = (byref(self.setup), self.memory, c_size_t(len(self.memory)), c_uint8(image), c_uint8(0), byref(found))
-            if self.library.calls.bootswap_slot(*args) != 0:
+            memory = self.memory, c_size_t(len(self.memory))
+            if self.library.calls.bootswap_slot(byref(self.setup), *memory, c_uint8(image), c_uint8(0), byref(found)):
                 yield None
             else:
                 it = found.version

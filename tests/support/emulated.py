@@ -58,8 +58,8 @@ class Emulated(Library):
     def linked(self, parts, folder):
         program, shared = f"{folder}/called", f"{folder}/shared"
         files = [f"{ROOT}/tests/support/c/called.c", f"{ROOT}/bindings/c/driver.c"]
-        words = [*STRICT, "-O1", *INCLUDE, *files, "-Wl,--whole-archive", *parts, "-Wl,--no-whole-archive", "-o", program]
-        self.processor.compile(words)
+        parts = ["-Wl,--whole-archive", *parts, "-Wl,--no-whole-archive"]
+        self.processor.compile([*STRICT, "-O1", *INCLUDE, *files, *parts, "-o", program])
         self.memory = Memory(shared, next(self.addresses))
         self.functions, self.flashes = self.functions_of(program), weakref.WeakValueDictionary()
         words = [*self.processor.runner, program, shared, str(self.memory.start), str(Memory.LENGTH)]
