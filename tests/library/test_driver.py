@@ -13,7 +13,7 @@ import unittest
 from ctypes import POINTER, c_uint8
 
 from support.compiled import needs_compiler
-from support.driven import DRIVER_FAILED, INCLUDE, LONG, NEEDING, NEW, NEWER, OLD, ONE, PARTNER, STRICT
+from support.driven import DRIVER_FAILED, INCLUDE, LONG, NEEDING, NEW, NEWER, OLD, PARTNER, STRICT
 from support.driven import Driven, DriverTest, replies_of, reply_of
 from support.emulated import DrivenOnArm, DrivenOnSmallArm
 from support.files import EXAMPLES, ROOT, names_in, read

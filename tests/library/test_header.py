@@ -149,10 +149,11 @@ class HeaderTest(ProgramTest):
     def compilers(self):
         """Yields the compilers that are installed with what they need."""
         for it in COMPILERS:
-            with self.subTest(it):
-                if not shutil.which(it.split()[0]) or self.errors("", it):
-                    self.skipTest("not installed")
+            if shutil.which(it.split()[0]) and not self.errors("", it):
                 yield it
+            else:
+                with self.subTest(it):
+                    self.skipTest("not installed")
 
     def test_structs_are_the_same_in_all_languages(self):
         kinds = [it for it in vars(self.python).values() if isinstance(it, type) and issubclass(it, ctypes.Structure)]

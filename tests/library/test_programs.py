@@ -80,51 +80,46 @@ class ProgramsTest(unittest.TestCase):
 class NullTest(DriverTest):
     """Null with a length of 0 passes no bytes, as any other pointer does."""
 
-    def arguments(self, types, none, length):
-        """Arguments of a call on a device: structs, 0, and `none` for bytes, or with a `length` the first bytes for
-        the first."""
-        made, names, first = [], self.library.names, True
+    def arguments(self, types, none, has_bytes):
+        """Arguments of a call on a device, and the objects that it may write: `none` and a length of 0 for bytes, but for the
+        first ones if it has these."""
+        words, written = [], []
         for kind, after in zip(types, [*types[1:], None]):
-            if hasattr(kind, "contents") and after is c_size_t:
-                bytes_of = kind(none.contents) if none else kind()
-                if length and first:
-                    given = self.text if kind is POINTER(c_char) else self.flash_bytes
-                    bytes_of = self.library.copy(given)
-                    length = len(given)
-                made.append(bytes_of)
-            elif kind is c_size_t:
-                made.append(c_size_t(length if first else 0))
-                first = False
-            elif hasattr(kind, "contents"):
-                copied = {names._Setup: self.device.setup, names._SavedState: self.device.device.saved}.get(kind._type_)
-                copied = copied or {names._Manifest: self.manifest, names._ImageParts: self.parts}.get(kind._type_)
-                made.append(self.library.new(kind._type_))
-                if copied:
-                    ctypes.memmove(byref(made[-1]), byref(copied), ctypes.sizeof(copied))
+            if kind is c_size_t:
+                words.append(c_size_t(len(written[-1]) if has_bytes else 0))
+                has_bytes = False
+            elif not hasattr(kind, "contents"):
+                words.append(kind(0))
+            elif after is c_size_t and has_bytes:
+                written.append(self.library.copy(self.text if kind is POINTER(c_char) else self.flash_bytes))
+                words.append(written[-1])
+            elif after is c_size_t:
+                words.append(ctypes.cast(none, kind) if none else kind())
             else:
-                made.append(kind(0))
-        return made
+                written.append(self.library.new(kind._type_))
+                if kind._type_ in self.given:
+                    ctypes.memmove(byref(written[-1]), byref(self.given[kind._type_]), ctypes.sizeof(kind._type_))
+                words.append(byref(written[-1]))
+        return words, written
 
     def test_null_is_no_bytes_in_each_call(self):
-        self.device, names = self.new_device(capacity=LONG), self.library.names
-        self.manifest, self.parts = self.library.manifest(2, [(0, NEEDING, 0)]), names._ImageParts(header_size=32)
-        self.assertEqual(1, self.device.boot())
-        self.assertEqual(0, self.device.accept(self.library.manifest(1, [(0, NEEDING, 0)])))
-        self.text, self.flash_bytes = b"image 0 1.0.0+0 0 0\n", bytes(self.device.flash.bytes)
-        numbers = set()
-        for name in declared("call"):
-            if name.endswith(("_name", "_manifest", "_reset")):
-                continue
-            types = getattr(names._LIBRARY, name).argtypes
-            for length in (0, 1):
+        device, names, numbers = self.new_device(capacity=LONG), self.library.names, set()
+        self.assertEqual(1, device.boot())
+        self.assertEqual(0, device.accept(self.library.manifest(1, [(0, NEEDING, 0)])))
+        self.text, self.flash_bytes = b"image 0 1.0.0+0 0 0\n", bytes(device.flash.bytes)
+        self.given = {names._Setup: device.setup, names._SavedState: device.device.saved}
+        self.given[names._Manifest] = self.library.manifest(2, [(0, NEEDING, 0)])
+        self.given[names._ImageParts] = names._ImageParts(header_size=32)
+        none = ctypes.pointer(self.library.new(c_uint8))
+        for name in (it for it in declared("call") if not it.endswith(("_name", "_manifest", "_reset"))):
+            for has_bytes in (False, True):
                 got = []
-                for none in (None, ctypes.pointer(self.library.new(c_uint8))):
-                    given = self.arguments(types, none, length)
-                    words = [it if not isinstance(it, ctypes.Structure) else byref(it) for it in given]
+                for pointer in (None, none):
+                    words, written = self.arguments(getattr(names._LIBRARY, name).argtypes, pointer, has_bytes)
                     number = getattr(self.library.calls, name)(*words)
-                    written = [bytes(it) for it in given if isinstance(it, (ctypes.Structure, ctypes.Array))]
-                    got.append((number, written))
-                self.assertEqual(got[0], got[1], f"{name}, {length}")
+                    # The one call that returns nothing.
+                    got.append((0 if name == "bootswap_digest" else number, [bytes(it) for it in written]))
+                self.assertEqual(got[0], got[1], f"{name}, {has_bytes}")
                 numbers.add(got[0][0])
         self.assertEqual({0, 1}, numbers)
 

@@ -47,8 +47,7 @@ class CommandPagesTest(ProgramTest):
         for names in PAGES:
             page, help_text = (self.run_program(words) for words in (["help", "man", *names], [*names, "--help"]))
             self.assertEqual((0, b""), page[::2])
-            with self.subTest(names):
-                yield names, page[1].decode(), help_text[1].decode()
+            yield names, page[1].decode(), help_text[1].decode()
 
     def test_a_page_has_a_title_and_its_sections(self):
         """That of the program lists all commands."""
