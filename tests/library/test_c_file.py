@@ -12,7 +12,7 @@ import shutil
 import tempfile
 import unittest
 
-from support.bare import BARE, MACHINES
+from support.bare import MACHINES
 from support.compiled import C, needs_compiler
 from support.files import ROOT, read
 from support.libraries import c_folder, output_of, symbols
@@ -65,7 +65,7 @@ class CFileTest(unittest.TestCase):
                 if machine.missing():
                     self.skipTest(f"not installed: {machine.missing()}")
                 program, seeds = f"{self.folder}/{machine.name}.elf", [f"-DFIRST={FIRST}", f"-DLAST={LAST}"]
-                machine.compile([*self.words, *seeds, f"{BARE}/main.c", self.file], program)
+                machine.compile([*self.words, *seeds, self.file], program)
                 self.expect_same(machine.output_of(program))
 
     @unittest.skipUnless(shutil.which("clang"), "there is no clang")

@@ -15,7 +15,6 @@
 enum { MOST_FLASH = 1 << 19, MOST_FILE = 16384, MOST_JOURNAL = 20000, CALLS = 40, FIRST_HASH = 5381 };
 
 void write_text(const char *text);
-void play(uint32_t seed);
 
 static uint64_t random_state;
 
@@ -366,7 +365,7 @@ static uint32_t start(uint32_t seed) {
     return flash_length <= MOST_FLASH;
 }
 
-void play(uint32_t seed) {
+static void play(uint32_t seed) {
     if (!start(seed)) return;
     print("scenario", seed, setup.images, setup.sector_size);
     memset(flash, 0xff, sizeof flash);
@@ -378,7 +377,12 @@ void play(uint32_t seed) {
     for (uint32_t i = 0; i < CALLS; i++) play_step();
 }
 
-#ifndef BARE
+#ifdef BARE
+int main(void) {
+    for (uint32_t seed = FIRST; seed <= LAST; seed++) play(seed);
+    return 0;
+}
+#else
 #include <stdio.h>
 #include <stdlib.h>
 
