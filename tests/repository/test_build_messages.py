@@ -51,7 +51,7 @@ class BuildMessageTest(unittest.TestCase):
     def test_a_build_announces_what_is_left(self):
         # The most minutes by the clock that it may say, by the number of crates that are left.
         for left, most in {23: 16, 2: 3, 1: 1}.items():
-            with self.subTest(left=left):
+            with self.subTest(f"{left} crates are left"):
                 text = self.build(left).announcement()
                 self.assertRegex(text, ANNOUNCED.format(left))
                 minutes, of_cpu = (int(it.split()[0]) for it in text.replace("(", "about ").split("about ")[1:])
