@@ -121,7 +121,7 @@ class NullTest(DriverTest):
                     got.append((0 if name == "bootswap_digest" else number, [bytes(it) for it in written]))
                 self.assertEqual(got[0], got[1], f"{name}, {has_bytes}")
                 numbers.add(got[0][0])
-        self.assertEqual({0, 1}, numbers)
+        self.assertLessEqual({0, 1, 18, 24, 25, 28}, numbers)
 
 
 @needs_compiler
