@@ -7,11 +7,11 @@ import shutil
 import signal
 import subprocess
 import tempfile
+import unittest
 
 from support.driven import INCLUDE, STRICT
 from support.files import EXAMPLES, ROOT, read
 from support.processors import HERE
-from support.program import CaseTest
 
 OLD, NEW = "1.0.0+0", "2.0.0+0"
 ONE, NEEDING, PARTNER = (f"{EXAMPLES}/images/{name}.img" for name in ("one", "needing", "partner"))
@@ -30,7 +30,7 @@ LIVES = [(TRIAL, BACK, PLAIN), (BACK, PLAIN, PLAIN), (PLAIN, PLAIN, PLAIN)]
 LIMIT = 20
 
 
-class FileDevice(CaseTest):
+class FileDevice(unittest.TestCase):
     """The tests of such a device, in front of which a module has a class of its own."""
 
     processor, most_kills = HERE, 1000
@@ -53,9 +53,7 @@ class FileDevice(CaseTest):
         """Builds the program of the device, whose power fails as support/c/power.c says."""
         cls.program = f"{cls.folder}/device"
         files = [f"{ROOT}/{name}.c" for name in ("bindings/c/file_device", "bindings/c/driver", "tests/support/c/power")]
-        faults = cls.processor.compiled([*STRICT, "-O1", *INCLUDE, *files, cls.processor.archive(), "-o", cls.program])
-        if faults:
-            raise AssertionError(f"file_device.c compiles: {faults[0]}")
+        cls.processor.compile([*STRICT, "-O1", *INCLUDE, *files, cls.processor.archive(), "-o", cls.program])
 
     def run_device(self, *commands, at=None, leaves="nothing"):
         """A power-up: how the run ends, and what it prints. Power fails in write `at`, which leaves what `leaves`
