@@ -300,13 +300,14 @@ class PackageTest(PackedTest):
         said = f"SOURCE_COMMIT isn't a complete commit: {COMMIT[:12]}"
         self.expect_refusal(said, SOURCE_COMMIT=COMMIT[:12], SOURCE_DATE_EPOCH=SECONDS)
         self.expect_refusal("there is no commit to take the time from: set SOURCE_DATE_EPOCH", SOURCE_COMMIT=COMMIT)
+        both, library = {"SOURCE_COMMIT": COMMIT, "SOURCE_DATE_EPOCH": SECONDS}, f"{self.clone}/out/libbootswap.a"
+        os.rename(library, f"{library}.kept")
+        self.expect_refusal("out/libbootswap.a isn't built: run bindings/build", **both)
+        os.rename(f"{library}.kept", library)
         # A program that wasn't built from the sources would name their commit.
-        both = {"SOURCE_COMMIT": COMMIT, "SOURCE_DATE_EPOCH": SECONDS}
         with open(f"{self.clone}/crates.txt", "a", encoding="utf-8") as it:
             it.write("another: \nbootswap: another\n")
         self.expect_refusal("out/bootswap isn't built from these sources: run ./bootswap codes", **both)
-        os.remove(f"{self.clone}/out/libbootswap.a")
-        self.expect_refusal("out/libbootswap.a isn't built: run bindings/build", **both)
 
     def test_the_archive_of_what_is_not_built_is_left_out(self):
         """So is one that was made before."""
