@@ -2,7 +2,7 @@
 // A `Device` has a flash in that memory, and its saved state. Nothing here decides.
 
 // The sizes in bytes of the structs of the headers, and the offsets of the fields that are used here.
-// tests/test_header.py compares both with the headers.
+// tests/library/test_header.py compares both with the headers.
 const SIZES = {
   setup: 76,
   saved_state: 420,

@@ -1,13 +1,12 @@
 """Machines of QEMU without an operating system, whose processors have 32 bits."""
 
 import shutil
-import subprocess
 from dataclasses import dataclass
 
 from support.files import ROOT
-from support.libraries import ran
+from support.libraries import output_of
 
-BARE = f"{ROOT}/tests/bare"
+BARE = f"{ROOT}/tests/support/c/bare"
 FREESTANDING = ["-std=c11", "-Wall", "-Wextra", "-Werror", "-ffreestanding", "-nostdlib", "-DBARE", "-I", BARE]
 # Otherwise the compiler makes calls of memcpy from the loops of memory.c.
 FREESTANDING += ["-fno-tree-loop-distribute-patterns", "-ffunction-sections", "-fdata-sections", "-Wl,--gc-sections"]
@@ -27,26 +26,27 @@ class Machine:
         """Returns what is needed for it and isn't installed."""
         return " and ".join(it for it in (f"{self.prefix}gcc", self.emulator[0]) if not shutil.which(it))
 
-    def compiled(self, words, program):
-        """Compiles a program with the machine's start and the functions of C. Returns what is wrong."""
+    def compile(self, words, program):
+        """Compiles a program with the machine's start and the functions of C, which has to succeed."""
         files = [f"{BARE}/{self.start}.c", f"{BARE}/memory.c", "-T", f"{BARE}/{self.start}.ld"]
-        return ran([f"{self.prefix}gcc", *self.flags, *FREESTANDING, *self.includes(), *files, *words, self.helpers(), "-o",
-                    program])[0]
+        flags = [*self.flags, *FREESTANDING, *self.includes()]
+        output_of([f"{self.prefix}gcc", *flags, *files, *words, self.helpers(), "-o", program])
 
     def includes(self):
-        """Returns where the compiler's own headers are, and no others: a compiler for RISC-V may come without a library."""
-        words = [f"{self.prefix}gcc", "-print-file-name=include"]
-        return ["-nostdinc", "-isystem", subprocess.run(words, capture_output=True, text=True, check=True).stdout.strip()]
+        """Returns where the compiler's own headers are, and no others: a compiler for RISC-V may come without a
+        library."""
+        found = output_of([f"{self.prefix}gcc", "-print-file-name=include"]).decode().strip()
+        return ["-nostdinc", "-isystem", found]
 
     def helpers(self):
-        """Returns the file of the compiler's helpers, such as 64-bit division. They are the same without instructions for a
-        system's registers."""
+        """Returns the file of the compiler's helpers, such as 64-bit division. They are the same without instructions
+        for a system's registers."""
         words = [f"{self.prefix}gcc", *(it.removesuffix("_zicsr") for it in self.flags), "-print-libgcc-file-name"]
-        return subprocess.run(words, capture_output=True, text=True, check=True).stdout.strip()
+        return output_of(words).decode().strip()
 
-    def ran(self, program):
-        """Runs a program, and returns what is wrong and what it printed."""
-        return ran([*self.emulator, "-display", "none", "-monitor", "none", "-kernel", program])
+    def output_of(self, program):
+        """Runs a program, which has to succeed, and returns what it prints."""
+        return output_of([*self.emulator, "-display", "none", "-monitor", "none", "-kernel", program])
 
 
 SEMIHOSTING = ("-semihosting-config", "enable=on,target=native", "-serial", "none")

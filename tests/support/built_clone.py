@@ -1,4 +1,5 @@
-"""A clone of the repository in which the program and the library are built, for tests of what is installed and packed."""
+"""A clone of the repository in which the program and the library are built, for tests of what is installed and
+packed."""
 
 import os
 import shutil
@@ -6,8 +7,8 @@ import subprocess
 import sys
 
 from support.files import ROOT
-from support.libraries import TARGET, archive_for, manifest_archive_for, ran
-from support.program import ProgramTest, short
+from support.libraries import TARGET, archive_for, manifest_archive_for
+from support.program import ProgramTest
 
 from installing import share
 
@@ -38,7 +39,8 @@ class BuiltCloneTest(ProgramTest):
         super().setUp()
         self.clone = f"{self.folder}/clone"
         for name in NEEDED:
-            shutil.copytree(f"{ROOT}/{name}", f"{self.clone}/{name}", ignore=shutil.ignore_patterns("__pycache__", "target", "Cargo.lock"))
+            left_out = shutil.ignore_patterns("__pycache__", "target", "Cargo.lock")
+            shutil.copytree(f"{ROOT}/{name}", f"{self.clone}/{name}", ignore=left_out)
         for name in ("LICENSE", "README.md", "CHANGELOG.md"):
             shutil.copy(f"{ROOT}/{name}", self.clone)
         os.mkdir(f"{self.clone}/out")
@@ -61,15 +63,9 @@ class BuiltCloneTest(ProgramTest):
         done = subprocess.run([f"{self.clone}/tools/{name}", *words], capture_output=True, **how)
         return done.returncode, done.stdout + done.stderr
 
-    def expect_tool(self, case, name, *words, status=0, said=b"", **how):
-        """A case: a tool ends so, and says exactly this."""
-        got = self.run_tool(name, *words, **how)
-        self.case(case, [f"{got[0]}: {short(got[1])}"] * (got != (status, said)))
-
-    def printed_by(self, case, words, wanted, **how):
-        """A case: a command prints exactly this."""
-        faults, output = ran(words, **how)
-        self.case(case, faults or [short(output)] * (output != wanted))
+    def expect_tool(self, name, *words, status=0, said=b"", **how):
+        """A tool ends so, and says exactly this."""
+        self.assertEqual((status, said), self.run_tool(name, *words, **how), f"{name} {words}")
 
 
 def places_below(top):

@@ -7,7 +7,8 @@ from support.wasm import Function
 
 PAIRS = [*itertools.product((0, 1, 2, 5, 2**31, 2**32 - 1), repeat=2)]
 
-# The prologue and the epilogue of a frame of 32 bytes, whose address is local 1, with the toolchain's check of the stack.
+# The prologue and the epilogue of a frame of 32 bytes, whose address is local 1, with the toolchain's check of the
+# stack.
 ENTER = """global.get; i64.const 32; i64.sub; local.tee 1; global.set
 block; local.get 1; i64.const 15; i64.gt_s; br_if 0; unreachable; end"""
 LEAVE = "local.get 1; i64.const 32; i64.add; global.set"
@@ -155,7 +156,8 @@ def outside():
     body = f"""{ENTER}; local.get 1; i64.const -16; i64.add; local.get 0; i64.add; i32.const 200; i64.const 16; memory.fill
     local.get 1; i64.load8_u 1 0; {LEAVE}"""
     yield Case("memory.fill of a place before a frame plus a number", ["number"], 64, body, lambda a: 200, [(16,)], [64])
-    # The local is a frame's address, and then an object's. The sum leaves the frame, and is used when it is in the object.
+    # The local is a frame's address, and then an object's. The sum leaves the frame, and is used when it is in the
+    # object.
     word = Function("word_at", [64], 64, "local.get 0; i64.load 8 0", is_exported=False)
     body = """global.get; i64.const 32; i64.sub; local.tee 5; global.set; local.get 5; local.set 1; loop; local.get 1
     i64.const 40; i64.add; local.set 2; local.get 3; i64.eqz; i32.eqz; if; local.get 2; call word_at; local.set 4; end

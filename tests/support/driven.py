@@ -2,13 +2,17 @@
 
 import ctypes
 import hashlib
-import importlib.util
 import mmap
-import sys
+import shutil
+import tempfile
+import unittest
 from ctypes import CFUNCTYPE, POINTER, byref, c_char, c_int, c_size_t, c_uint8, c_uint32, c_void_p
-from unittest import mock
 
-from support.files import ROOT
+from support.builders import image, version
+from support.files import EXAMPLES, ROOT, read
+from support.headers import journal_bounds
+from support.libraries import python_module
+from support.processors import HERE
 
 DRIVER_FAILED, JOURNAL_TOO_SMALL, CUT = 32, 33, 5
 
@@ -19,6 +23,13 @@ CANARY = bytes(range(0xA0, 0xE0))
 STRICT = ["-std=c11", "-Wall", "-Wextra", "-Wpedantic", "-Wconversion", "-Werror"]
 INCLUDE = ["-I", f"{ROOT}/include", "-I", f"{ROOT}/bindings/c"]
 
+# A journal that is long enough for each call of the tests, and the bounds of the header.
+LONG, JOURNAL = 16384, journal_bounds()
+
+NEWER = image([], own=version(2))
+ONE, NEEDING, PARTNER = (read(f"{EXAMPLES}/images/{name}.img") for name in ("one", "needing", "partner"))
+OLD, NEW = 2 * ["1.0.0+0"], 2 * ["2.0.0+0"]
+
 FAULTS = {1: "NotBooted", 2: "OnTrial", 3: "NotOnTrial", 4: "NotProvisioned", 5: "RunningDamaged", 6: "InvalidSet"}
 UPLOAD_FAULTS = dict(enumerate(
     "OldSequence TooBig NoSession TooMuch SizeWrong DigestWrong NotAnImage WrongPrecursor NothingRequested".split(), 1
@@ -26,14 +37,11 @@ UPLOAD_FAULTS = dict(enumerate(
 
 
 class Library:
-    """The calls over a driver and what they call, in this process, with the structs of bindings/python. `parts` are the files
-    of what they call: the library, or a stand-in for it."""
+    """The calls over a driver and what they call, in this process, with the structs of bindings/python. `parts` are
+    the files of what they call: the library, or a stand-in for it."""
 
     def __init__(self, processor, parts, folder):
-        spec = importlib.util.spec_from_file_location("bootswap_driven", f"{ROOT}/bindings/python/bootswap.py")
-        self.processor, self.names = processor, importlib.util.module_from_spec(spec)
-        with mock.patch.object(ctypes, "CDLL"), mock.patch.dict(sys.modules, {spec.name: self.names}):
-            spec.loader.exec_module(self.names)
+        self.processor, self.names = processor, python_module()
         self.driver, self.device = self.structs()
         self.calls = self.linked(parts, folder)
 
@@ -41,9 +49,7 @@ class Library:
         """Compiles and links everything, and returns the calls."""
         made = f"{folder}/libdriven.so"
         words = [*STRICT, "-O1", "-fPIC", "-shared", *INCLUDE, "-o", made, f"{ROOT}/bindings/c/driver.c"]
-        faults = self.processor.compiled([*words, "-Wl,--whole-archive", *parts, "-Wl,--no-whole-archive"])
-        if faults:
-            raise AssertionError(f"the calls over a driver compile: {faults[0]}")
+        self.processor.compile([*words, "-Wl,--whole-archive", *parts, "-Wl,--no-whole-archive"])
         return ctypes.CDLL(made)
 
     def close(self):
@@ -109,9 +115,9 @@ class Library:
 
 
 class Flash:
-    """A flash and its driver. `cuts` says what writes leave at which power fails, by their numbers. The call of the driver of
-    number `fails_at` fails, and changes nothing. `wrong` lists what no call may ask of a driver. `mapped` is memory that shows
-    the contents, if the flash is mapped."""
+    """A flash and its driver. `cuts` says what writes leave at which power fails, by their numbers. The call of the
+    driver of number `fails_at` fails, and changes nothing. `wrong` lists what no call may ask of a driver. `mapped` is
+    memory that shows the contents, if the flash is mapped."""
 
     def __init__(self, contents, sector):
         self.bytes, self.sector, self.mapped = bytearray(contents), sector, None
@@ -178,8 +184,8 @@ def torn_bytes(old, new, torn):
 
 
 class Driven:
-    """A device over a flash. `capacity` is the length of its journal in bytes. `memory` is what the library reads: the flash
-    itself if it is mapped into memory, or a copy of it."""
+    """A device over a flash. `capacity` is the length of its journal in bytes. `memory` is what the library reads: the
+    flash itself if it is mapped into memory, or a copy of it."""
 
     def __init__(self, library, setup, flash, capacity, is_mapped=False):
         self.library, self.setup, self.flash, self.capacity, self.is_mapped = library, setup, flash, capacity, is_mapped
@@ -193,7 +199,8 @@ class Driven:
             self.driver.read, flash.mapped = type(self.driver.read)(), self.memory
             flash_and_copy = memory, POINTER(c_uint8)()
             flash.show()
-        parts = ctypes.pointer(setup), ctypes.pointer(self.driver), flash_and_copy[0], len(self.memory), flash_and_copy[1]
+        flash, copy = flash_and_copy
+        parts = ctypes.pointer(setup), ctypes.pointer(self.driver), flash, len(self.memory), copy
         self.device = library.new(library.device, *parts, journal, capacity)
         self.table, self.report = (library.new(c_char * it) for it in (20480, 2048))
 
@@ -252,8 +259,8 @@ class Driven:
         """The versions of the images at the front of the primary slots."""
         found = self.library.new(self.library.names._Description)
         for image in range(self.setup.images):
-            args = (byref(self.setup), self.memory, c_size_t(len(self.memory)), c_uint8(image), c_uint8(0), byref(found))
-            if self.library.calls.bootswap_slot(*args) != 0:
+            memory = self.memory, c_size_t(len(self.memory))
+            if self.library.calls.bootswap_slot(byref(self.setup), *memory, c_uint8(image), c_uint8(0), byref(found)):
                 yield None
             else:
                 it = found.version
@@ -305,3 +312,64 @@ def refused(result):
         return f"refused manifest {result.detail} NoComponent"
     image = [str(result.detail)] if result.fault == 5 else []
     return " ".join(["refused boot", str(result.fault), FAULTS[result.fault], *image])
+
+
+class DriverTest(unittest.TestCase):
+    """A test of driver.c over the library, on a processor, with a driver in Python. No call may ask of a driver what
+    it mustn't."""
+
+    processor, library_class, is_mapped = HERE, Library, False
+
+    @classmethod
+    def setUpClass(cls):
+        cls.build = tempfile.mkdtemp(prefix="bootswap-driver-")
+        cls.addClassCleanup(shutil.rmtree, cls.build, ignore_errors=True)
+        cls.library = cls.library_class(cls.processor, [cls.below_driver()], cls.build)
+        cls.addClassCleanup(cls.library.close)
+
+    @classmethod
+    def below_driver(cls):
+        """The file of what driver.c calls."""
+        return cls.processor.archive()
+
+    def setUp(self):
+        super().setUp()
+        self.flashes = []
+
+    def tearDown(self):
+        self.assertEqual([], [it for flash in self.flashes for it in flash.wrong][:5])
+
+    def over(self, contents, setup, capacity):
+        """A device over these contents of a flash, with a journal of this length."""
+        self.flashes.append(Flash(contents, setup.sector_size))
+        return Driven(self.library, setup, self.flashes[-1], capacity, self.is_mapped)
+
+    def new_device(self, sector=512, sectors=(2, 2), capacity=None, running=ONE):
+        """A provisioned device, whose slots run the same image, with the shortest journal."""
+        contents = bytearray(b"\xff" * sector * (2 * sum(it + 1 for it in sectors) + 4))
+        for number in range(len(sectors)):
+            at = sector * sum(it + 1 for it in sectors[:number])
+            contents[at : at + len(running)] = running
+        capacity = JOURNAL["BOOT"](len(sectors), sector) if capacity is None else capacity
+        device = self.over(contents, self.library.setup(sector, sectors), capacity)
+        self.assertEqual((0, 0), (device.open(), device.provision()))
+        return device
+
+    def request(self, device, files, sequence=1):
+        """Boots a device, and requests these files for its images."""
+        manifest = self.library.manifest(sequence, [(number, file, False) for number, file in enumerate(files)])
+        numbers = [device.boot(), device.accept(manifest)]
+        for number, file in enumerate(files):
+            numbers += [device.piece(number, file), device.finish(number)]
+        self.assertEqual([1, *(1 + 2 * len(files)) * [0]], numbers)
+
+    def on_trial_with_request(self):
+        """A device with image 0 on trial, and the slot and the trailer of a request for image 1 from another device."""
+        device, other = self.new_device(), self.new_device()
+        self.request(device, [NEWER])
+        self.assertEqual((1, 1), (device.boot(), device.device.result.set))
+        numbers = other.boot(), other.accept(self.library.manifest(1, [(1, NEWER, False)]))
+        self.assertEqual((1, 0, 0, 0), (*numbers, other.piece(1, NEWER), other.finish(1)))
+        device.flash.bytes[9 * 512 : 12 * 512] = other.flash.bytes[9 * 512 : 12 * 512]
+        self.assertEqual(0, device.open())
+        return device

@@ -1,4 +1,4 @@
-"""The library on another processor than this one, whose emulator runs tests/called.c."""
+"""The library on another processor than this one, whose emulator runs support/c/called.c."""
 
 import contextlib
 import ctypes
@@ -9,9 +9,10 @@ import weakref
 
 from support.driven import INCLUDE, STRICT, Library
 from support.files import ROOT
-from support.libraries import ran
+from support.libraries import symbols
+from support.processors import OnArm, OnSmallArm
 
-# A call of tests/called.c, a message of it, and the answer to one.
+# A call of support/c/called.c, a message of it, and the answer to one.
 CALL, MESSAGE, ANSWER = struct.Struct("<12Q"), struct.Struct("<5Q"), struct.Struct("<i")
 
 WORD = (1 << 64) - 1
@@ -56,11 +57,9 @@ class Emulated(Library):
 
     def linked(self, parts, folder):
         program, shared = f"{folder}/called", f"{folder}/shared"
-        files = [f"{ROOT}/tests/called.c", f"{ROOT}/bindings/c/driver.c"]
-        words = [*STRICT, "-O1", *INCLUDE, *files, "-Wl,--whole-archive", *parts, "-Wl,--no-whole-archive", "-o", program]
-        faults = self.processor.compiled(words)
-        if faults:
-            raise AssertionError(f"the calls over a driver compile: {faults[0]}")
+        files = [f"{ROOT}/tests/support/c/called.c", f"{ROOT}/bindings/c/driver.c"]
+        parts = ["-Wl,--whole-archive", *parts, "-Wl,--no-whole-archive"]
+        self.processor.compile([*STRICT, "-O1", *INCLUDE, *files, *parts, "-o", program])
         self.memory = Memory(shared, next(self.addresses))
         self.functions, self.flashes = self.functions_of(program), weakref.WeakValueDictionary()
         words = [*self.processor.runner, program, shared, str(self.memory.start), str(Memory.LENGTH)]
@@ -70,9 +69,7 @@ class Emulated(Library):
 
     def functions_of(self, program):
         """Returns the addresses of the functions of a program by their names."""
-        _, output = ran([self.processor.nm, "--format=posix", program])
-        rows = [line.split() for line in output.decode().splitlines()]
-        return {row[0]: int(row[2], 16) for row in rows if row[1] == "T"}
+        return {it[0]: int(it[2], 16) for it in symbols(program, self.processor.nm) if it[1] == "T"}
 
     def close(self):
         """Ends the process."""
@@ -124,7 +121,8 @@ class Emulated(Library):
 
     @staticmethod
     def word_of(argument):
-        """Returns an argument as the word that holds it. A shorter type of C leaves the other bits open: they are ones."""
+        """Returns an argument as the word that holds it. A shorter type of C leaves the other bits open: they are
+        ones."""
         address = address_of(argument)
         return address if address is not None else argument.value | WORD & WORD << 8 * ctypes.sizeof(argument)
 
@@ -179,6 +177,19 @@ class EmulatedSmall(Emulated):
 
     @staticmethod
     def word_of(argument):
-        """Returns an argument as the word that holds it. The caller extends a shorter type (AAPCS32, "Parameter passing")."""
+        """Returns an argument as the word that holds it. The caller extends a shorter type (AAPCS32, "Parameter
+        passing")."""
         address = address_of(argument)
         return argument.value if address is None else address
+
+
+class DrivenOnArm(OnArm):
+    """A test of driver.c that runs on 64-bit ARM too, in front of the class of its tests."""
+
+    library_class = Emulated
+
+
+class DrivenOnSmallArm(OnSmallArm):
+    """A test of driver.c that runs on 32-bit ARM too, in front of the class of its tests."""
+
+    library_class = EmulatedSmall

@@ -39,12 +39,3 @@ def journal_bounds():
         bounds[name] = eval(f"lambda {parameters}: {body.strip()}", bounds)
     return {name: bound for name, bound in bounds.items() if name.isupper()}
 
-
-def declarations():
-    """Returns the declarations of calls and of fields, with one space between two words."""
-    calls = r"^(?:static inline )?((?:const )?\w+ \*?bootswap_\w+\([^()]*\))"
-    found = [it for text in headers().values() for it in re.findall(calls, text, re.MULTILINE)]
-    for text in headers().values():
-        for body in re.findall(r"^struct \w+ \{$(.*?)^\};$", text, re.MULTILINE | re.DOTALL):
-            found += re.findall(r"^ +([\w ]+ \*?\w[\w\[\], ]*);", body, re.MULTILINE)
-    return [" ".join(it.split()) for it in found]

@@ -1,6 +1,7 @@
 """What each instruction of WebAssembly means, written down from the specification ("Numerics", "Execution"), as cases.
 
-A case is a function in WebAssembly with inputs, and the same function in Python. The kinds of its parameters are those of C:
+A case is a function in WebAssembly with inputs, and the same function in Python. The kinds of its parameters are those
+of C:
 
     word      a uint32_t, an i32 of the module
     wide      a uint64_t, an i64
@@ -30,8 +31,8 @@ def values_of(kind):
 
 @dataclass
 class Case:
-    """A function. `meaning` takes the memory as a bytearray, if the function has it, and the numbers. `others` are functions
-    that it calls. The result is a number of `result` bits, if there is one."""
+    """A function. `meaning` takes the memory as a bytearray, if the function has it, and the numbers. `others` are
+    functions that it calls. The result is a number of `result` bits, if there is one."""
 
     name: str
     params: list

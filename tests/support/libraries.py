@@ -1,19 +1,22 @@
 """The static libraries of include/bootswap.h and of include/bootswap_manifest.h, for the tests that link them.
 
-Tests don't prove it anew. They take what `bindings/build` and `web/build` built. In the complete gate the first test that
-needs it builds it, over the libraries of the crates below it that `rt ci` proved in the folder BOOTSWAP_PROVED.
+Tests don't prove it anew. They take what `bindings/build` and `web/build` built. In the complete gate the first test
+that needs it builds it, over the libraries of the crates below it that `rt ci` proved in the folder BOOTSWAP_PROVED.
 """
 
+import ctypes
 import fcntl
+import importlib.util
 import os
+import re
 import subprocess
 import sys
 import unittest
+from unittest import mock
 
-from support.files import ROOT
+from support.files import ROOT, read
 from support.program import short
 
-sys.path.insert(0, f"{ROOT}/tools")
 sys.path.append(f"{ROOT}/bindings")
 
 from builder import ARM_TARGET, LIBRARY, MANIFEST_LIBRARY, TARGET, WEB_TARGET, asked_of_rt, library_crates, link_for_web
@@ -21,7 +24,8 @@ from c_file.folder import write_folder
 from installing import share
 from proved_copy import library_in
 
-BUILDERS = {TARGET: "bindings/build", ARM_TARGET: f"bindings/build --target {ARM_TARGET}", WEB_TARGET: "bindings/build --c"}
+BUILDERS = {TARGET: "bindings/build", WEB_TARGET: "bindings/build --c"}
+BUILDERS[ARM_TARGET] = f"bindings/build --target {ARM_TARGET}"
 
 
 def archive_for(target, name=LIBRARY):
@@ -63,7 +67,8 @@ def shared_library(folder):
 
 
 def web_module(folder):
-    """Returns the file of the library as a module of WebAssembly, and skips the tests that need it if it isn't built."""
+    """Returns the file of the library as a module of WebAssembly, and skips the tests that need it if it isn't
+    built."""
     module = f"{folder}/bootswap.wasm"
     is_linked, output = link_for_web(archive_for(WEB_TARGET), module)
     if not is_linked:
@@ -72,9 +77,38 @@ def web_module(folder):
 
 
 def c_folder(folder):
-    """Leaves the library as one file of C in a folder, as `bindings/build --c` does. Skips the tests that need it if it isn't
-    built."""
+    """Leaves the library as one file of C in a folder, as `bindings/build --c` does. Skips the tests that need it if
+    it isn't built."""
     write_folder(archive_for(WEB_TARGET), folder)
+
+
+def python_module():
+    """Loads bindings/python/bootswap.py, over a library that does nothing."""
+    spec = importlib.util.spec_from_file_location("bootswap", f"{ROOT}/bindings/python/bootswap.py")
+    module = importlib.util.module_from_spec(spec)
+    with mock.patch.object(ctypes, "CDLL"), mock.patch.dict(sys.modules, {spec.name: module}):
+        spec.loader.exec_module(module)
+    return module
+
+
+def fenced(path, language):
+    """Returns the blocks of a page in Markdown that are in a language."""
+    blocks = re.findall(r"^```(\S*)\n(.*?)^```$", read(f"{ROOT}/{path}").decode(), re.MULTILINE | re.DOTALL)
+    return [body for kind, body in blocks if kind == language]
+
+
+def symbols(file, nm="nm", *words):
+    """Returns the symbols of a file: of each the name, the letter of its kind, and numbers."""
+    rows = map(str.split, output_of([nm, *words, "--format=posix", file]).decode().splitlines())
+    return [it for it in rows if len(it) > 1 and len(it[1]) == 1]
+
+
+def output_of(arguments, **how):
+    """Runs a command, which has to succeed, and returns what it prints."""
+    faults, output = ran(arguments, **how)
+    if faults:
+        raise AssertionError(f"{short(arguments)}: {faults[0]}")
+    return output
 
 
 def ran(arguments, **how):

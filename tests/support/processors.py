@@ -1,5 +1,5 @@
-"""The processors on which the library is tested: this one, 64-bit ARM as `qemu-aarch64` runs it, and 32-bit ARM with the library
-as one file of C."""
+"""The processors on which the library is tested: this one, 64-bit ARM as `qemu-aarch64` runs it, and 32-bit ARM with
+the library as one file of C."""
 
 import atexit
 import functools
@@ -8,12 +8,13 @@ import tempfile
 import unittest
 from dataclasses import dataclass
 
-from support.libraries import ARM_TARGET, TARGET, archive_for, c_folder, manifest_archive_for, ran
+from support.libraries import ARM_TARGET, TARGET, archive_for, c_folder, manifest_archive_for, output_of, ran
 
 
 @dataclass(frozen=True)
 class Processor:
-    """A processor: the target of its library, its compiler of C and `nm`, and the words before a program that it runs."""
+    """A processor: the target of its library, its compiler of C and `nm`, and the words before a program that it
+    runs."""
 
     target: str
     compiler: tuple
@@ -32,6 +33,14 @@ class Processor:
         """Returns the file of its library for manifests, as `archive`."""
         return manifest_archive_for(self.target)
 
+    def compile(self, words):
+        """Runs its compiler, which has to succeed."""
+        output_of([*self.compiler, *words])
+
+    def output_of(self, program, *words):
+        """Runs a program for it, which has to succeed, and returns what it prints."""
+        return output_of([*self.runner, program, *words])
+
     def compiled(self, words):
         """Runs its compiler, and returns what is wrong."""
         return ran([*self.compiler, *words])[0]
@@ -47,7 +56,8 @@ ARM = Processor(ARM_TARGET, ("aarch64-linux-gnu-gcc", "-static"), "aarch64-linux
 
 @dataclass(frozen=True)
 class SmallProcessor(Processor):
-    """A processor of 32 bits. The toolchain has no target for it: its library is the file of C of `bindings/build --c`."""
+    """A processor of 32 bits. The toolchain has no target for it: its library is the file of C of `bindings/build
+    --c`."""
 
     def archive(self):
         return library_of_c(self)
@@ -78,14 +88,8 @@ class OnArm:
 
     processor = ARM
 
-    def case(self, name, faults):
-        super().case(f"{name}, on 64-bit ARM", faults)
-
 
 class OnSmallArm:
     """A test that runs on 32-bit ARM too, in front of the class of its tests."""
 
     processor = SMALL_ARM
-
-    def case(self, name, faults):
-        super().case(f"{name}, on 32-bit ARM", faults)

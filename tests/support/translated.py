@@ -1,7 +1,7 @@
 """Cases of instruction_cases.py as programs: translated to C by bindings/c_file, or as a module that `node` runs.
 
-A program reads for each case the number of its inputs and these, each word as 8 bytes, and writes for each what the case expects:
-the result, and the memory.
+A program reads for each case the number of its inputs and these, each word as 8 bytes, and writes for each what the
+case expects: the result, and the memory.
 
     python3 -m support.translated PATTERN FOLDER    writes the sources of the cases whose names have the pattern
 """

@@ -1,12 +1,13 @@
 """A tiny assembler of WebAssembly with 64-bit addresses, for the tests of bindings/c_file.
 
-It has the opcodes of the specification's index of instructions on its own: what it shares with the translator wouldn't be
-tested. It makes a relocatable object, and a module with the same functions that `node` runs.
+It has the opcodes of the specification's index of instructions on its own: what it shares with the translator wouldn't
+be tested. It makes a relocatable object, and a module with the same functions that `node` runs.
 
     Function("twice", [64], 64, "local.get 0; local.get 0; i64.add")
 
-A body is a text of instructions. A block may be followed by the width of its result, and a load or store has two numbers: its
-alignment in bytes and its offset. `@name+8` in the place of a number is an address of data: 8 bytes after that of the symbol.
+A body is a text of instructions. A block may be followed by the width of its result, and a load or store has two
+numbers: its alignment in bytes and its offset. `@name+8` in the place of a number is an address of data: 8 bytes after
+that of the symbol.
 """
 
 from dataclasses import dataclass, field
@@ -39,7 +40,8 @@ DATA, STACK_END = 1 << 17, 1 << 17
 
 @dataclass
 class Function:
-    """A function: the widths of its parameters, of its result if it has one, and of its locals, and its instructions."""
+    """A function: the widths of its parameters, of its result if it has one, and of its locals, and its
+    instructions."""
 
     name: str
     params: list
@@ -51,8 +53,8 @@ class Function:
 
 @dataclass
 class Data:
-    """Bytes of data. `addresses` are the places of addresses: for each the name of other data, and a number that is added. The
-    symbol of the data is `at` bytes after its start."""
+    """Bytes of data. `addresses` are the places of addresses: for each the name of other data, and a number that is
+    added. The symbol of the data is `at` bytes after its start."""
 
     name: str
     contents: bytes
@@ -101,8 +103,8 @@ def as_signed(number, width):
 
 
 class Assembler:
-    """The functions and data of an object or a module. `imports` are names of imported functions without parameters, and the
-    widths of their results."""
+    """The functions and data of an object or a module. `imports` are names of imported functions without parameters,
+    and the widths of their results."""
 
     def __init__(self, functions, data=(), imports=None, relocation_kinds=None):
         self.functions, self.data, self.imports = functions, list(data), list((imports or {}).items())
@@ -125,7 +127,8 @@ class Assembler:
         return self.places[name] + next(it.at for it in self.data if it.name == name)
 
     def body(self, function):
-        """Returns the bytes of a function, and its relocations: for each the place in the bytes, its kind, symbol and addend."""
+        """Returns the bytes of a function, and its relocations: for each the place in the bytes, its kind, symbol and
+        addend."""
         out, found = bytearray(rows([unsigned(1) + bytes([TYPES[it]]) for it in function.locals])), []
         for words in (it.split() for it in function.body.replace("\n", ";").split(";") if it.strip()):
             self.instruction(out, found, words)

@@ -1,5 +1,5 @@
-//! The structs and calls of `bootswap.h`, as C has them. `tests/test_rust.py` of the repository
-//! compares them with the header.
+//! The structs and calls of `bootswap.h`, as C has them. `tests/library/test_header.py` of the
+//! repository compares the structs with the header.
 
 /// The most images of a device.
 pub const MAX_IMAGES: usize = 8;
