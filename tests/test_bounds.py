@@ -21,7 +21,7 @@ needs_this_processor = unittest.skipUnless(
 needs_valgrind = unittest.skipUnless(shutil.which("valgrind"), "there is no valgrind")
 
 STACK = f"{ROOT}/bench/stack.c"
-BOOTS = f"{ROOT}/tests/boots.c"
+BOOTS = f"{ROOT}/tests/support/c/boots.c"
 STRICT = ["-std=c11", "-O2", "-Wall", "-Wextra", "-Werror", "-I", f"{ROOT}/include"]
 
 # The instructions of each boot of boots.c, for each image, in digests of one image. They come from docs/DESIGN.md, "What each

@@ -1,6 +1,6 @@
 """The library as one file of C, as `bindings/build --c` leaves it.
 
-tests/scenarios.c plays random scenarios with each call of both headers. Whatever processor and compiler: the file of C prints
+support/c/scenarios.c plays random scenarios with each call of both headers. Whatever processor and compiler: the file of C prints
 exactly what the library for this processor prints, a number and a hash of everything that a call may write. 10,000 scenarios take
 3 minutes for each program of this processor; the gate plays 300 on each processor and machine.
 """
@@ -17,7 +17,7 @@ from support.libraries import c_folder, ran
 from support.processors import HERE, SMALL_ARM, needs_small_arm
 from support.program import CaseTest, short
 
-SCENARIOS = f"{ROOT}/tests/scenarios.c"
+SCENARIOS = f"{ROOT}/tests/support/c/scenarios.c"
 STRICT = ["-std=c11", "-Wall", "-Wextra", "-Werror"]
 COPIES = [f"include/{name}.h" for name in ("bootswap", "bootswap_names", "bootswap_simulate")]
 COPIES += ["bindings/c/driver.c", "bindings/c/driver.h", "bindings/c_file/CMakeLists.txt"]

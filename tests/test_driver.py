@@ -699,7 +699,7 @@ class MalformedTest(DriverTest):
 
     @classmethod
     def below_driver(cls):
-        return f"{ROOT}/tests/malformed.c"
+        return f"{ROOT}/tests/support/c/malformed.c"
 
     def opened(self, journal, used, number=0):
         """A device of one image, whose next call records these bytes in a journal of their length, at the end of a page that

@@ -52,9 +52,9 @@ class FileDeviceTest(CaseTest):
 
     @classmethod
     def build(cls):
-        """Builds the program of the device, whose power fails as tests/power.c says."""
+        """Builds the program of the device, whose power fails as support/c/power.c says."""
         cls.program = f"{cls.folder}/device"
-        files = [f"{ROOT}/{name}.c" for name in ("bindings/c/file_device", "bindings/c/driver", "tests/power")]
+        files = [f"{ROOT}/{name}.c" for name in ("bindings/c/file_device", "bindings/c/driver", "tests/support/c/power")]
         faults = cls.processor.compiled([*STRICT, "-O1", *INCLUDE, *files, cls.processor.archive(), "-o", cls.program])
         if faults:
             raise AssertionError(f"file_device.c compiles: {faults[0]}")

@@ -42,7 +42,7 @@ STATES = [
     ("back-settle", BOOTED, OLD),
 ]
 
-# An entry of tests/flips.c, and the number of its bit if none flipped.
+# An entry of support/c/flips.c, and the number of its bit if none flipped.
 ENTRY, NO_BIT = struct.Struct("<3I1024s1024s"), 2**32 - 1
 
 # How many bits the flash has, and how far the bits that flip are apart.
@@ -96,7 +96,7 @@ class FlipsTest(CaseTest):
     def setUpClass(cls):
         cls.folder = tempfile.mkdtemp(prefix="bootswap-flips-")
         cls.addClassCleanup(shutil.rmtree, cls.folder, ignore_errors=True)
-        files = [f"{ROOT}/tests/flips.c", f"{ROOT}/bindings/c/driver.c", HERE.archive()]
+        files = [f"{ROOT}/tests/support/c/flips.c", f"{ROOT}/bindings/c/driver.c", HERE.archive()]
         faults = HERE.compiled([*STRICT, "-O2", *INCLUDE, *files, "-o", f"{cls.folder}/flips"])
         if faults:
             raise AssertionError(f"flips.c compiles: {faults[0]}")

@@ -21,12 +21,12 @@ from test_random_manifests import drawn_text, listing_of
 from test_random_tables import table_at_random, table_text
 
 LIFE = f"{ROOT}/bindings/c/life.c"
-JOURNAL = f"{ROOT}/tests/journal.c"
-NULLS = f"{ROOT}/tests/nulls.c"
-WORKSPACES = f"{ROOT}/tests/workspaces.c"
-MANIFEST = [f"{ROOT}/tests/manifest.c", f"{ROOT}/bindings/c/manifest.c", "-I", f"{ROOT}/bindings/c"]
-MANIFEST_MEMORY = [f"{ROOT}/tests/manifest_memory.c", f"{ROOT}/bindings/c/manifest.c", "-I", f"{ROOT}/bindings/c"]
-MAKE_IMAGE = f"{ROOT}/tests/make_image.c"
+JOURNAL = f"{ROOT}/tests/support/c/journal.c"
+NULLS = f"{ROOT}/tests/support/c/nulls.c"
+WORKSPACES = f"{ROOT}/tests/support/c/workspaces.c"
+MANIFEST = [f"{ROOT}/tests/support/c/manifest.c", f"{ROOT}/bindings/c/manifest.c", "-I", f"{ROOT}/bindings/c"]
+MANIFEST_MEMORY = [f"{ROOT}/tests/support/c/manifest_memory.c", f"{ROOT}/bindings/c/manifest.c", "-I", f"{ROOT}/bindings/c"]
+MAKE_IMAGE = f"{ROOT}/tests/support/c/make_image.c"
 STRICT = ["-std=c11", "-Wall", "-Wextra", "-Werror", "-I", f"{ROOT}/include"]
 
 # What life.c prints, whichever write of the boot is cut, after the line that names the write.
@@ -119,7 +119,7 @@ class LibraryTest(CaseTest):
             self.case(f"{name} with a workspace", [] if is_each else [f"how often it returns what: {counts}"])
 
     def test_manifests(self):
-        """tests/manifest.c reads a text as it stands in the examples, with both libraries and in any memory."""
+        """support/c/manifest.c reads a text as it stands in the examples, with both libraries and in any memory."""
         program = f"{self.folder}/manifest"
         faults = self.processor.compiled([*STRICT, "-Wconversion", *MANIFEST, self.manifests, self.archive, "-o", program])
         self.case("manifest.c compiles", faults)

@@ -259,7 +259,7 @@ class RustFileDeviceTest(device_in_c.FileDeviceTest):
             self.lengthened(f"{ROOT}/bindings/c/file_device.c", c, in_c, more)
             words = ["cargo", "build", "--quiet", "--release", "--example", "file_device"]
             self.case("file_device.rs compiles", ran(words, cwd=f"{self.folder}/crate", env=self.environment)[0])
-            files = [c, f"{ROOT}/bindings/c/driver.c", f"{ROOT}/tests/power.c", f"{self.folder}/bootswap.o"]
+            files = [c, f"{ROOT}/bindings/c/driver.c", f"{ROOT}/tests/support/c/power.c", f"{self.folder}/bootswap.o"]
             self.case("file_device.c compiles", HERE.compiled(["-O1", *INCLUDE, *files, "-o", f"{self.folder}/device_in_c"]))
             self.compare(f"a journal with {more} bytes more")
 

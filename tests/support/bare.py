@@ -7,7 +7,7 @@ from dataclasses import dataclass
 from support.files import ROOT
 from support.libraries import ran
 
-BARE = f"{ROOT}/tests/bare"
+BARE = f"{ROOT}/tests/support/c/bare"
 FREESTANDING = ["-std=c11", "-Wall", "-Wextra", "-Werror", "-ffreestanding", "-nostdlib", "-DBARE", "-I", BARE]
 # Otherwise the compiler makes calls of memcpy from the loops of memory.c.
 FREESTANDING += ["-fno-tree-loop-distribute-patterns", "-ffunction-sections", "-fdata-sections", "-Wl,--gc-sections"]

@@ -1,4 +1,4 @@
-"""The library on another processor than this one, whose emulator runs tests/called.c."""
+"""The library on another processor than this one, whose emulator runs support/c/called.c."""
 
 import contextlib
 import ctypes
@@ -11,7 +11,7 @@ from support.driven import INCLUDE, STRICT, Library
 from support.files import ROOT
 from support.libraries import ran
 
-# A call of tests/called.c, a message of it, and the answer to one.
+# A call of support/c/called.c, a message of it, and the answer to one.
 CALL, MESSAGE, ANSWER = struct.Struct("<12Q"), struct.Struct("<5Q"), struct.Struct("<i")
 
 WORD = (1 << 64) - 1
@@ -56,7 +56,7 @@ class Emulated(Library):
 
     def linked(self, parts, folder):
         program, shared = f"{folder}/called", f"{folder}/shared"
-        files = [f"{ROOT}/tests/called.c", f"{ROOT}/bindings/c/driver.c"]
+        files = [f"{ROOT}/tests/support/c/called.c", f"{ROOT}/bindings/c/driver.c"]
         words = [*STRICT, "-O1", *INCLUDE, *files, "-Wl,--whole-archive", *parts, "-Wl,--no-whole-archive", "-o", program]
         faults = self.processor.compiled(words)
         if faults:

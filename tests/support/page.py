@@ -31,7 +31,7 @@ LIMIT = 30
 
 EVENTS = "[...document.querySelectorAll('#events li')].map(it => it.querySelector('pre').textContent)"
 READY = "document.body && document.body.dataset.ready"
-LOOKS = read(f"{ROOT}/tests/page_looks.js").decode()
+LOOKS = read(f"{ROOT}/tests/support/page_looks.js").decode()
 
 
 def started_browser(folder):

@@ -6,7 +6,7 @@
    are cut, journals are too short, saved states are lost or damaged, and so are bytes of the flash. Each call of both headers is
    made.
 
-   BARE is defined for a machine without an operating system: tests/bare/ has what is its own then. */
+   BARE is defined for a machine without an operating system: bare/ has what is its own then. */
 #include <stdint.h>
 #include <string.h>
 

@@ -1,4 +1,4 @@
-/* Plays the scenarios of tests/scenarios.c from seed FIRST to seed LAST. */
+/* Plays the scenarios of scenarios.c from seed FIRST to seed LAST. */
 #include "bare.h"
 
 void play(uint32_t seed);
