@@ -5,7 +5,7 @@ The tests of programs in C over the library, and of its header, for the library 
 Python runs on this processor, and of the headers as C++, since the cross compiler has C alone.
 """
 
-import test_driver_sources
+from device import test_driver_sources
 import test_header
 import test_library
 from support.processors import ARM, OnArm, needs_arm

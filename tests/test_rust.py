@@ -6,7 +6,7 @@ import shutil
 import tempfile
 import unittest
 
-import test_file_device as device_in_c
+from device import test_file_device as device_in_c
 import test_header as header
 from support.compiled import needs_compiler, preloaded
 from support.driven import INCLUDE

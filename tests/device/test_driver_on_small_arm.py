@@ -4,8 +4,8 @@ Tests of test_driver.py: driver.c and the library as one file of C run in `qemu-
 processor. A device in C runs in `qemu-arm` as a whole, and its process is killed 15 times.
 """
 
-import test_driver
-import test_file_device
+from device import test_driver
+from device import test_file_device
 from support.emulated import EmulatedSmall
 from support.processors import OnSmallArm, needs_small_arm
 

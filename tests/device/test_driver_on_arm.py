@@ -5,8 +5,8 @@ processor. A device in C runs in `qemu-aarch64` as a whole, and its process is k
 three times as long.
 """
 
-import test_driver
-import test_file_device
+from device import test_driver
+from device import test_file_device
 from support.emulated import Emulated
 from support.processors import OnArm, needs_arm
 
