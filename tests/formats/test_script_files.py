@@ -13,7 +13,7 @@ import time
 from support.builders import component, device, image, manifest
 from support.files import ONE, PAIR, read
 from support.flashes import flash_of
-from support.program import LIMIT, ProgramTest, short
+from support.program import LIMIT, ProgramTest
 from support.stories import manifest_of, new_device, run_of, script_of
 from support.worked import PLAIN, numbered
 
@@ -22,17 +22,13 @@ from support.worked import PLAIN, numbered
 BESIDE = 4_000_000
 
 
-def within(test, arguments, most):
-    """How a run ends whose address space has this limit, besides the program's file."""
-    limit = os.path.getsize(test.program) + most
-    return test.run_program(arguments, preexec_fn=lambda: resource.setrlimit(resource.RLIMIT_AS, (limit, limit)))
+class ScriptMemoryTest(ProgramTest):
+    def run_within(self, arguments, most):
+        """How a run ends whose address space has this limit, besides the program's file."""
+        limit = os.path.getsize(self.program) + most
+        return self.run_program(arguments, preexec_fn=lambda: resource.setrlimit(resource.RLIMIT_AS, (limit, limit)))
 
-
-class PieceMemoryTest(ProgramTest):
-    """The memory of a run of many pieces, and of many events."""
-
-    def test_memory_of_pieces(self):
-        """An upload in many pieces needs the memory of its flash, of one piece and of the script."""
+    def test_many_pieces_take_the_memory_of_one(self):
         sectors, piece = 256, 1 << 20
         whole = image([], body=(sectors * 131072 - 72) * b"p")
         self.file("wide.json", device(sector=131072, sectors=[sectors]))
@@ -43,88 +39,72 @@ class PieceMemoryTest(ProgramTest):
         self.file("wide-script", script_of(", ".join(["boot", "accept wide-manifest.json", *parts, "finish 0"])))
         self.run_program(["provision", "wide.json", "wide-flash", ONE])
         flash = os.path.getsize(f"{self.folder}/wide-flash")
-        got = within(self, ["run", "wide.json", "wide-flash", "wide-script"], flash + piece + BESIDE)
-        wanted = (0, numbered(["plain|run 0 1.0.0+0", *(len(parts) + 2) * ["done"]]), b"")
-        name = f"memory: an image of {len(whole)} bytes in {len(parts)} pieces"
-        self.case(name, [] if got == wanted else [short(got)])
+        got = self.run_within(["run", "wide.json", "wide-flash", "wide-script"], flash + piece + BESIDE)
+        self.assertEqual((0, numbered(["plain|run 0 1.0.0+0", *(len(parts) + 2) * ["done"]]), b""), got)
 
-    def test_memory_of_events(self):
-        """A run of many events needs the memory of its script, and no more with each event."""
+    def test_many_events_take_the_memory_of_their_script(self):
         count = 100_000
         flash_of(self)
         text = count * b"boot\n"
         self.file("boots", text)
-        got = within(self, ["run", PAIR, "flash", "boots"], len(text) + BESIDE)
-        wanted = (0, numbered(count * [PLAIN]), b"")
-        self.case(f"memory: {count} boots", [] if got == wanted else [short(got)])
+        got = self.run_within(["run", PAIR, "flash", "boots"], len(text) + BESIDE)
+        # Not compared by assertEqual, which takes minutes for the difference.
+        self.assertTrue(got == (0, numbered(count * [PLAIN]), b""), got[0])
 
 
-def in_pipe(stream):
-    """How many unread bytes a pipe holds."""
-    return struct.unpack("i", fcntl.ioctl(stream, termios.FIONREAD, b"\0\0\0\0"))[0]
-
-
-def stopped_run(test, lines, change):
-    """How a run of these lines ends if this is changed while it waits for its reader, after N boots."""
-    count = 3000
-    flash_of(test)
-    test.file("boots", count * b"boot\n" + lines)
-    streams = {"stdin": subprocess.DEVNULL, "stdout": subprocess.PIPE, "stderr": subprocess.PIPE}
-    ran = subprocess.Popen([test.program, "run", PAIR, "flash", "boots"], cwd=test.folder, **streams)
-    until = time.monotonic() + LIMIT
-    while in_pipe(ran.stdout) < 60_000 and time.monotonic() < until:
-        time.sleep(0.01)
-    change()
-    out, err = ran.communicate(timeout=LIMIT)
-    return ran.returncode, out == numbered(count * [PLAIN]), err
-
-
-class PieceFileTest(ProgramTest):
-    """Files of pieces that are pipes, the flash itself, or change during the run."""
-
-    def test_pieces_of_a_pipe(self):
-        """The bytes of a pipe are read once, when its line is checked, and saved for the event."""
+class ScriptFileTest(ProgramTest):
+    def test_a_pipe_is_read_once(self):
+        """Its bytes are read when its line is checked, and saved for the event."""
         new_device(self)
-        whole = read(ONE)
         self.file("m.json", manifest_of(1, "0 test one.img"))
         os.mkfifo(f"{self.folder}/pipe")
 
         def fill():
             with open(f"{self.folder}/pipe", "wb") as it:
-                it.write(whole)
+                it.write(read(ONE))
 
         writer = threading.Thread(target=fill)
         writer.start()
         got = run_of(self, "boot, accept m.json, piece 0 pipe, finish 0")
         writer.join()
-        wanted = (0, numbered([PLAIN, "done", "done", "done"]), b"")
-        self.case("files of a script: a pipe", [] if got == wanted else [short(got)])
+        self.assertEqual((0, numbered([PLAIN, *3 * ["done"]]), b""), got)
 
-    def test_pieces_of_the_flash(self):
-        """A line that names the flash file, by any name, reads its contents from before the run."""
-        ends = []
+    def test_pieces_of_the_flash_are_those_from_before_the_run(self):
+        """The secondary slot of image 0 is erased until the first upload is written."""
+        first, second = read(f"{os.path.dirname(ONE)}/needing.img"), 96 * b"\xff"
+        parts = [(number, len(it), hashlib.sha256(it).hexdigest()) for number, it in enumerate((first, second))]
+        text = manifest(components=[component(component_id=at, size=size, payload_digest=it) for at, size, it in parts])
         for name in ("flash", "linked"):
-            new_device(self)
-            if name == "linked":
-                os.link(f"{self.folder}/flash", f"{self.folder}/linked")
-            # The secondary slot of image 0 is erased until the first upload is written.
-            erased = 96 * b"\xff"
-            digest = hashlib.sha256(erased).hexdigest()
-            first = component(size=96, payload_digest=hashlib.sha256(read(f"{self.folder}/needing.img")).hexdigest())
-            second = component(component_id=1, size=96, payload_digest=digest)
-            self.file("m.json", manifest(components=[first, second]))
-            events = f"boot, accept m.json, piece 0 needing.img, finish 0, piece 1 {name} 3072 96, finish 1"
-            ends.append((name, run_of(self, events)))
-        wanted = (1, numbered([PLAIN, *4 * ["done"], "refused upload 7 NotAnImage 2"]), b"")
-        self.case("files of a script: the flash itself", [f"{it}: {short(got)}" for it, got in ends if got != wanted])
+            with self.subTest(f"the flash by the name {name}"):
+                new_device(self)
+                if name == "linked":
+                    os.link(f"{self.folder}/flash", f"{self.folder}/linked")
+                self.file("m.json", text)
+                events = f"boot, accept m.json, piece 0 needing.img, finish 0, piece 1 {name} 3072 96, finish 1"
+                replies = [PLAIN, *4 * ["done"], "refused upload 7 NotAnImage 2"]
+                self.assertEqual((1, numbered(replies), b""), run_of(self, events))
 
-    def test_pieces_of_changed_files(self):
-        """If a file disappears or shrinks during the run, the run ends after the replies so far."""
-        gone = f"{self.folder}/gone"
-        for name, lines, change, message in [
-            ("goes", b"piece 0 gone\nboot\n", lambda: os.remove(gone), b"error: cannot read gone\n"),
-            ("gets too short", b"piece 0 gone 4 8\nboot\n", lambda: os.truncate(gone, 4), b"error: script line 3001\n"),
+    def test_a_file_that_changes_ends_the_run(self):
+        """After N boots the run waits for its reader. Meanwhile the file goes, or gets too short."""
+        count, gone = 3000, f"{self.folder}/gone"
+        for line, change, message in [
+            (b"piece 0 gone\n", lambda: os.remove(gone), b"error: cannot read gone\n"),
+            (b"piece 0 gone 4 8\n", lambda: os.truncate(gone, 4), b"error: script line 3001\n"),
         ]:
-            self.file("gone", 20 * b"g")
-            got = stopped_run(self, lines, change)
-            self.case(f"files of a script: one that {name}", [] if got == (1, True, message) else [short(got)])
+            with self.subTest(f"{line!r} of a file that changes"):
+                flash_of(self)
+                self.file("gone", 20 * b"g")
+                self.file("boots", count * b"boot\n" + line + b"boot\n")
+                streams = {"stdin": subprocess.DEVNULL, "stdout": subprocess.PIPE, "stderr": subprocess.PIPE}
+                ran = subprocess.Popen([self.program, "run", PAIR, "flash", "boots"], cwd=self.folder, **streams)
+                until = time.monotonic() + LIMIT
+                while unread_in(ran.stdout) < 60_000 and time.monotonic() < until:
+                    time.sleep(0.01)
+                change()
+                out, err = ran.communicate(timeout=LIMIT)
+                self.assertEqual((1, True, message), (ran.returncode, out == numbered(count * [PLAIN]), err))
+
+
+def unread_in(pipe):
+    """How many unread bytes a pipe holds."""
+    return struct.unpack("i", fcntl.ioctl(pipe, termios.FIONREAD, b"\0\0\0\0"))[0]
