@@ -1,4 +1,4 @@
-"""That the commands of the documents print what these show."""
+"""The commands of README.md, docs/TUTORIAL.md and docs/FORMATS.md: what they print is what these show."""
 
 import os
 import re
@@ -7,18 +7,19 @@ import sys
 import tempfile
 
 from support.files import EXAMPLES, ROOT, read
-from support.program import LIMIT, ProgramTest, short
+from support.program import LIMIT, ProgramTest
 
 from tutorial import commands_of
 
 
 def quick_start():
-    """The commands of the README, each with its output. The first one runs the program without a proof, and shows what the
-    proved one prints."""
+    """The commands of the README, each with its output. The first one runs the program without a proof, and shows what
+    the proved one prints."""
     text = read(f"{ROOT}/README.md").decode()
     first = re.search(r"^```sh\n(\./bootswap --unproved .*?)^```\n\n```\n(.*?)^```$", text, re.M | re.S).groups()
     yield first[0].replace(" --unproved", "", 1), first[1]
-    yield re.search(r"^```sh\n(\./bootswap provision .*?)^\./gate$.*?^```\n.*?^```\n(done\n.*?)^```$", text, re.M | re.S).groups()
+    second = r"^```sh\n(\./bootswap provision .*?)^\./gate$.*?^```\n.*?^```\n(done\n.*?)^```$"
+    yield re.search(second, text, re.M | re.S).groups()
 
 
 def formats_script():
@@ -31,25 +32,20 @@ def formats_script():
 
 
 class DocumentTest(ProgramTest):
-    """README, the tutorial, and docs/FORMATS.md."""
-
-    def test_documents(self):
-        """Each command of the documents prints what they show below it."""
+    def test_each_command_prints_what_is_shown(self):
         os.mkdir(f"{self.folder}/out")
         os.symlink(self.program, f"{self.folder}/bootswap")
-        commands = [(f"README.md, command {number}", *it) for number, it in enumerate(quick_start(), 1)]
-        commands.append(("docs/FORMATS.md, the script", *formats_script()))
-        for number, (command, wanted) in enumerate(commands_of("docs/TUTORIAL.md", self.version()), 1):
-            commands.append((f"docs/TUTORIAL.md, command {number}", command, wanted))
-        for name, command, wanted in commands:
-            both = {"stdout": subprocess.PIPE, "stderr": subprocess.STDOUT}
-            ran = subprocess.run(["bash", "-c", command], cwd=self.folder, timeout=LIMIT, **both)
-            got = ran.stdout.decode()
-            self.case(name, [] if got == wanted else [command, f"{short(got)}, and not {short(wanted)}"])
+        documents = {"README.md": quick_start(), "docs/FORMATS.md": [formats_script()]}
+        documents["docs/TUTORIAL.md"] = commands_of("docs/TUTORIAL.md", self.version())
+        for document, commands in documents.items():
+            for number, (command, shown) in enumerate(commands, 1):
+                with self.subTest(f"{document}, command {number}"):
+                    both = {"stdout": subprocess.PIPE, "stderr": subprocess.STDOUT, "text": True}
+                    ran = subprocess.run(["bash", "-c", command], cwd=self.folder, timeout=LIMIT, **both)
+                    self.assertEqual(shown, ran.stdout, command)
 
-    def test_made_examples(self):
-        """The script examples/make_images.py makes the images of the examples."""
+    def test_the_script_makes_the_images_of_the_examples(self):
         with tempfile.TemporaryDirectory() as made:
             subprocess.run([sys.executable, f"{EXAMPLES}/make_images.py", made], check=True)
-            other = [it for it in os.listdir(made) if read(f"{made}/{it}") != read(f"{EXAMPLES}/images/{it}")]
-            self.case("examples/make_images.py makes the images of the examples", other)
+            for name in os.listdir(made):
+                self.assertEqual(read(f"{EXAMPLES}/images/{name}"), read(f"{made}/{name}"), name)
