@@ -17,8 +17,8 @@ from support.files import EXAMPLES, ROOT, read
 from support.libraries import ran, shared_library
 from support.processors import HERE
 from support.program import CaseTest, ProgramTest, short
-from formats.test_random_manifests import drawn_text, listing_of
-from formats.test_random_tables import table_at_random, table_text
+from support.manifests import drawn_text, listing_of
+from support.decisions import table_at_random, table_text
 
 LIFE = f"{ROOT}/bindings/c/life.c"
 JOURNAL = f"{ROOT}/tests/support/c/journal.c"
