@@ -19,7 +19,7 @@ from support.libraries import shared_library
 from support.printed import note_lines
 from support.program import CaseTest, ProgramTest, short
 from support.tables import text_of
-from formats.test_random_tables import (
+from support.decisions import (
     DAMAGED, Entry, Image, entries_in, greatest_set, is_fit, is_valid, may_be_taken, table_at_random, table_text
 )
 
@@ -427,7 +427,7 @@ class MakerTest(CaseTest):
 
 
 def in_definitions(images):
-    """A table of examples/fleet as tests/formats/test_random_tables.py has it."""
+    """A table of examples/fleet as tests/support/decisions.py has it."""
     entry = lambda it: Entry(*it) if isinstance(it, fleet_tables.Entry) else it
     return [Image(entry(it.running), it.floor, entry(it.request)) for it in images]
 

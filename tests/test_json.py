@@ -12,7 +12,7 @@ from support.files import EXAMPLES, ONE, PAIR, ROOT, names_in, read, report, tab
 from support.fleet import device_at_random, device_notes, planned, row_note, summary_of
 from support.flashes import flash_of
 from support.program import LIMIT, ProgramTest, error_line, short
-from formats.test_random_tables import Entry, Image
+from support.decisions import Entry, Image
 
 # The devices of the scripts of the examples, except those of the pair.
 DEVICES = {name: f"{EXAMPLES}/devices/{name}.json" for name in ("either", "patient")}

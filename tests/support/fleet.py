@@ -8,7 +8,7 @@ from typing import NamedTuple
 
 from support.files import EXAMPLES
 from test_choose import BAD_LINES, BAD_TABLES
-from formats.test_random_tables import (
+from support.decisions import (
     greatest_set, images_of, is_valid, report_text, standard_refusals, table_at_random, table_text, version_text
 )
 
@@ -51,7 +51,7 @@ def key_of(table, refusal):
 
 
 def planned(name, table, text=None):
-    """A device by the definitions of tests/formats/test_random_tables.py. Its lines are those of a table, or another text."""
+    """A device by the definitions of tests/support/decisions.py. Its lines are those of a table, or another text."""
     text = table_text(table) if text is None else text
     if not is_valid(table, set()):
         return Device(name, text, b"not-valid\n", [b"device", b"not-valid"])
