@@ -1,7 +1,7 @@
 """Worked runs: what the program prints for arguments, files and standard input.
 
-Each table of tests/runs/ is a text of runs, which are made in order and over the same files. The first character of a line
-says what the line is. A space separates it from the rest:
+Each table of tests/runs/ is a text of runs, which are made in order and over the same files. The first character of a
+line says what the line is. A space separates it from the rest:
 
     #  a comment between two runs, as is an empty line
     $  a run begins: its arguments
@@ -11,10 +11,8 @@ says what the line is. A space separates it from the rest:
     !  expected lines of standard error
     =  the expected exit status, with which the run ends
 
-` / ` separates two lines of a text. A table begins with the files of tests/support/stories.py and of `FILES`.
-
-The expected texts and statuses were written by hand from docs/FORMATS.md, never by the program.
-"""
+` / ` separates two lines of a text. A table begins with the files of tests/support/stories.py and of `FILES`. The
+expected texts and statuses were written by hand from docs/FORMATS.md, never by the program. """
 
 import os
 
@@ -22,12 +20,9 @@ from support import stories
 from support.builders import CLASS, ON_FIRST, ON_SECOND, VENDOR, component, device, image, little, manifest, version
 from support.files import EXAMPLES, ROOT, read
 from support.images import OF_ONE
-from support.program import CaseTest, ProgramTest
+from support.program import ProgramTest
 
 RUNS = f"{ROOT}/tests/runs"
-
-# The marks of the lines of a text.
-TEXTS = ":<>!"
 
 ONE, NEEDING = (stories.IMAGES[name] for name in ("one.img", "needing.img"))
 
@@ -64,91 +59,31 @@ FILES = {
 }
 
 
-class WrongTable(Exception):
-    """A table breaks a rule of the format."""
-
-
-class Run:
-    """A run of a table: where it begins, its arguments, its texts by their marks, and its status."""
-
-    def __init__(self, place, words):
-        self.place, self.arguments = place, words.split()
-        self.texts, self.status = dict.fromkeys(TEXTS, ""), None
-
-    def take(self, mark, rest):
-        """Takes a line after the first one. Returns whether it is a line of a run."""
-        if mark in self.texts:
-            self.texts[mark] += "".join(f"{line}\n" for line in rest.split(" / "))
-        elif mark == "=" and rest.isdigit():
-            self.status = int(rest)
-        else:
-            return False
-        return True
-
-    def bytes_of(self, mark):
-        """The bytes of a text."""
-        return self.texts[mark].encode()
-
-
-def runs_of(name, text):
-    """The runs of a table. Fails at the first line that breaks a rule."""
-    runs, run = [], None
-    for number, line in enumerate(text.splitlines(), 1):
-        place, (mark, _, rest) = f"{name}:{number}", line.partition(" ")
-        if run is None and mark in ("", "#"):
-            continue
+def runs_of(table):
+    """Yields the runs of a table: where each begins, its arguments, its texts by their marks, and its status."""
+    run = None
+    for number, line in enumerate(read(f"{RUNS}/{table}").decode().splitlines(), 1):
+        mark, _, rest = line.partition(" ")
         if run is None and mark == "$":
-            run = Run(place, rest)
-        elif run is None or not run.take(mark, rest):
-            raise WrongTable(f"{place}: no such line belongs here: {line!r}")
-        elif run.status is not None:
-            runs.append(run)
+            run = f"{table}:{number}: {rest}", rest.split(), dict.fromkeys(":<>!", b"")
+        elif run and mark in run[2]:
+            run[2][mark] += "".join(f"{it}\n" for it in rest.split(" / ")).encode()
+        elif run and mark == "=":
+            yield *run, int(rest)
             run = None
-    if run or not runs:
-        raise WrongTable(f"{name}: it ends in a run, or has none")
-    return runs
+        elif run or mark not in ("", "#"):
+            raise ValueError(f"{table}:{number}: no such line belongs here: {line}")
+    if run:
+        raise ValueError(f"{table}: it ends in a run")
 
 
 class WorkedRunsTest(ProgramTest):
-    """The runs of each table."""
-
-    def test_runs(self):
-        """Each run prints exactly its texts, and ends with its status."""
-        for name in sorted(os.listdir(RUNS)):
+    def test_each_run_prints_its_texts(self):
+        for table in sorted(os.listdir(RUNS)):
             self.new_folder()
             for file, contents in {**stories.FILES, **FILES}.items():
                 self.file(file, contents)
-            for run in runs_of(name, read(f"{RUNS}/{name}").decode()):
-                self.file("text", run.bytes_of(":"))
-                case = f"{run.place}: {' '.join(run.arguments)}"
-                self.expect(case, run.arguments, run.status, run.bytes_of(">"), run.bytes_of("!"), given=run.bytes_of("<"))
-
-
-# Tables that break a rule of the format, and where.
-WRONG = {
-    "$ codes\n> 1\n": "wrong: ",
-    "": "wrong: ",
-    "= 0\n": "wrong:1: ",
-    "# A run.\n> a\n": "wrong:2: ",
-    "$ codes\n$ codes\n= 0\n": "wrong:2: ",
-    "$ codes\n# A comment.\n= 0\n": "wrong:2: ",
-    "$ codes\n\n= 0\n": "wrong:2: ",
-    "$ codes\n>a\n= 0\n": "wrong:2: ",
-    "$ codes\n>! a\n= 0\n": "wrong:2: ",
-    "$ codes\n= none\n": "wrong:2: ",
-    "$ codes\n= 0\n= 0\n": "wrong:3: ",
-}
-
-
-class WrongTableTest(CaseTest):
-    """Tables that break a rule of the format."""
-
-    def test_wrong_tables(self):
-        """A table that breaks a rule is an error, which names its line."""
-        for text, place in WRONG.items():
-            try:
-                runs = runs_of("wrong", text)
-                faults = [f"it is read, with {len(runs)} runs"]
-            except WrongTable as why:
-                faults = [] if str(why).startswith(place) else [f"{why}, and not at {place}"]
-            self.case(f"wrong table: {text!r}", faults)
+            for name, arguments, texts, status in runs_of(table):
+                with self.subTest(name):
+                    self.file("text", texts[":"])
+                    self.assertEqual((status, texts[">"], texts["!"]), self.run_program(arguments, given=texts["<"]))
