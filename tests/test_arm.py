@@ -5,10 +5,9 @@ The tests of programs in C over the library, and of its header, for the library 
 Python runs on this processor, and of the headers as C++, since the cross compiler has C alone.
 """
 
-from device import test_driver_sources
 import test_header
 import test_library
-from support.processors import ARM, OnArm, needs_arm
+from support.processors import OnArm, needs_arm
 
 
 @needs_arm
@@ -19,8 +18,3 @@ class ArmLibraryTest(OnArm, test_library.LibraryTest):
 @needs_arm
 class ArmHeaderTest(OnArm, test_header.CompiledHeaderTest):
     pass
-
-
-@needs_arm
-class ArmSourceTest(OnArm, test_driver_sources.SourceTest):
-    compilers, has_cpp = ARM.compiler[:1], False

@@ -6,8 +6,8 @@ import shutil
 import tempfile
 import unittest
 
-from device import test_file_device as device_in_c
 import test_header as header
+from support import file_device as device_in_c
 from support.compiled import needs_compiler, preloaded
 from support.driven import INCLUDE
 from support.files import EXAMPLES, ROOT, read
@@ -235,7 +235,7 @@ class LayoutTest(CaseTest):
 
 @needs_compiler
 @needs_cargo
-class RustFileDeviceTest(device_in_c.FileDeviceTest):
+class RustFileDeviceTest(device_in_c.FileDevice):
     """The example of a device over a file, whose process is killed: it prints what that in C prints."""
 
     most_kills = 300

@@ -78,8 +78,8 @@ class OnArm:
 
     processor = ARM
 
-    def case(self, name, faults):
-        super().case(f"{name}, on 64-bit ARM", faults)
+    def subTest(self, name, **more):
+        return super().subTest(f"{name}, on 64-bit ARM", **more)
 
 
 class OnSmallArm:
@@ -87,5 +87,5 @@ class OnSmallArm:
 
     processor = SMALL_ARM
 
-    def case(self, name, faults):
-        super().case(f"{name}, on 32-bit ARM", faults)
+    def subTest(self, name, **more):
+        return super().subTest(f"{name}, on 32-bit ARM", **more)
