@@ -3,7 +3,6 @@
 from support.builders import little
 from support.files import PAIR
 from support.flashes import FLAG
-from support.program import short
 from support.stories import flash_in, run_of
 
 MAGIC, UNSET = bytes.fromhex("77c295f360d2ef7f3552500f2cb67980"), 16 * b"\xff"
@@ -17,7 +16,7 @@ PATTERN = 0x5A
 
 
 def record(kind, mask=0, permanent=0, left=0, sequence=1, floors=(0, 0)):
-    """The 56 bytes of a record of two images."""
+    """The 56 bytes of a record."""
     head = bytes([kind, mask, permanent, left]) + little(sequence, 4)
     return (head + b"".join(little(floor, 4) for floor in floors)).ljust(56, b"\0")
 
@@ -108,29 +107,19 @@ class Expected:
             self.program(units + 8 * step, FLAG)
 
 
-def differing(one, other):
-    """The first place at which two flashes differ."""
-    return next((at for at, pair in enumerate(zip(one, other)) if pair[0] != pair[1]), "its length")
-
-
-def faults_of_writes(test, whole, events, expected, own=PAIR, numbers=None):
-    """What is wrong if one write after the other is interrupted and torn into other bytes, and if none is."""
-    faults, count = [], len(expected.writes)
+def assert_writes(test, whole, events, expected, own=PAIR, numbers=None):
+    """These events make these writes in this order and no others. One write after the other is interrupted and torn
+    into other bytes, and at last none is; or only writes of these numbers."""
+    count = len(expected.writes)
     for number in range(1, count + 2) if numbers is None else numbers:
         test.file("flash", whole)
-        status, output, err = run_of(test, events, own, [(number, f"hex:{PATTERN:02x}")])
+        _, out, err = run_of(test, events, own, [(number, f"hex:{PATTERN:02x}")])
         wanted = bytearray(expected.whole)
         if number <= count:
             before, at, size = expected.writes[number - 1]
             wanted[:] = before[:at] + size * bytes([PATTERN]) + before[at + size :]
-        if (b" cut\n" in output) != (number <= count) or err:
-            faults.append(f"write {number} of {count}: {status} {short(output)} {short(err)}")
-        elif flash_in(test) != wanted:
-            faults.append(f"write {number} of {count}: the flash differs at {differing(flash_in(test), wanted)}")
-    return faults
-
-
-def expect_writes(test, name, whole, events, expected, own=PAIR, faults=()):
-    """A case: these events make these writes in this order and no others, and there are none of these other
-    faults."""
-    test.case(name, [*faults, *faults_of_writes(test, whole, events, expected, own)][:5])
+        test.assertEqual((number <= count, b""), (b" cut\n" in out, err), f"write {number} of {count}: {out}")
+        got = flash_in(test)
+        if got != wanted:
+            at = next((at for at, pair in enumerate(zip(got, wanted)) if pair[0] != pair[1]), "its length")
+            test.fail(f"write {number} of {count}: the flash differs at {at}")

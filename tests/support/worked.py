@@ -28,6 +28,11 @@ def numbered(replies):
     return "".join(f"{at} {reply}\n".replace("|", "\n") for at, reply in enumerate(replies, 1)).encode()
 
 
+def ended(replies, status=0, err=b""):
+    """How a run with these replies ends."""
+    return status, numbered(replies), err
+
+
 def event_of(number):
     """The event of this write, counted from 0."""
     return next(at for at in range(10) if sum(WRITES[: at + 1]) >= number)

@@ -1,7 +1,6 @@
 """What no clause bounds: the stack of each call of the library, and the instructions of a boot."""
 
 import glob
-import os
 import platform
 import re
 import shutil
@@ -24,9 +23,9 @@ STACK = f"{ROOT}/bench/stack.c"
 BOOTS = f"{ROOT}/tests/support/c/boots.c"
 STRICT = ["-std=c11", "-O2", "-Wall", "-Wextra", "-Werror", "-I", f"{ROOT}/include"]
 
-# The instructions of each boot of boots.c, for each image, in digests of one image. They come from docs/DESIGN.md, "What each
-# call reads": a check takes one digest. Nothing is requested; or an upgrade checks both slots twice; or a revert checks
-# both slots once, and the old image once more. The copies of a swap take less than a quarter of a digest.
+# The instructions of each boot of boots.c, for each image, in digests of one image. They come from docs/DESIGN.md,
+# "What each call reads": a check takes one digest. Nothing is requested; or an upgrade checks both slots twice; or a
+# revert checks both slots once, and the old image once more. The copies of a swap take less than a quarter of a digest.
 DIGESTS = {"plain": 1, "upgrade": 4.25, "revert": 3.25}
 
 # What else a boot does, as a part of that.
@@ -52,7 +51,7 @@ class ProgramInC(CaseTest):
         """Compiles a program with the library, and returns its file."""
         program = f"{self.folder}/program"
         faults = HERE.compiled([*STRICT, source, self.archive, *words, "-o", program])
-        self.case(f"{os.path.basename(source)} compiles", faults)
+        self.assertEqual([], faults)
         return program
 
 
@@ -61,25 +60,26 @@ class ProgramInC(CaseTest):
 class StackTest(ProgramInC):
     """What bench/stack.c measures, and the limits that docs/PORTING.md and README.md name."""
 
-    def test_stack_of_each_call(self):
-        """No call takes more stack than its limit, and none a fifth less: then the limit is too high."""
-        limits = limits_in(read(f"{ROOT}/docs/PORTING.md").decode())
+    @classmethod
+    def setUpClass(cls):
+        super().setUpClass()
+        cls.limits = limits_in(read(f"{ROOT}/docs/PORTING.md").decode())
+
+    def test_each_call_takes_its_stack(self):
+        """No call takes more than its limit, and none a fifth less: then the limit is too high."""
         program = self.compiled(STACK, "-static")
         faults, output = ran([program, *(f"{EXAMPLES}/images/{name}.img" for name in ("one", "patched"))])
-        self.case("stack.c runs", faults)
+        self.assertEqual([], faults)
         taken = {name: int(most) for name, most in map(str.split, output.decode().splitlines())}
-        without = sorted(taken.keys() ^ limits.keys())
-        self.case("each call has a limit", [f"measured, or in the table, alone: {it}" for it in without])
+        self.assertEqual(taken.keys(), self.limits.keys())
         for name, bytes in taken.items():
-            limit = limits.get(name, 0)
-            is_right = limit * 0.8 <= bytes <= limit
-            self.case(f"stack of {name}", [] if is_right else [f"{bytes} bytes, and the limit is {limit}"])
+            with self.subTest(f"stack of {name}"):
+                self.assertLessEqual(bytes, self.limits[name])
+                self.assertGreaterEqual(bytes, 0.8 * self.limits[name])
 
-    def test_limit_in_readme(self):
-        """README.md names the most that a call takes."""
-        most = max(limits_in(read(f"{ROOT}/docs/PORTING.md").decode()).values())
-        wanted = f"{-(-most // 1000)} kB of stack"
-        self.case("README.md has the limit", [] if wanted in read(f"{ROOT}/README.md").decode() else [f"not: {wanted}"])
+    def test_the_readme_names_the_most(self):
+        wanted = f"{-(-max(self.limits.values()) // 1000)} kB of stack"
+        self.assertIn(wanted, read(f"{ROOT}/README.md").decode())
 
 
 @needs_compiler
@@ -87,26 +87,26 @@ class StackTest(ProgramInC):
 class InstructionsTest(ProgramInC):
     """The instructions of the boots in boots.c, as valgrind counts them."""
 
-    def test_instructions_of_a_boot(self):
-        """A boot of 1 to 8 images of 16 KiB takes few more instructions than its digests, so they are linear in the images."""
+    def test_a_boot_takes_few_more_instructions_than_its_digests(self):
+        """With 1 to 8 images of 16 KiB, so they are linear in the images."""
         program = self.compiled(BOOTS)
         for name, minor in (("running", 0), ("new", 1)):
             with open(f"{self.folder}/{name}", "wb") as it:
                 it.write(image(protected=(), body=bytes(16384), own=version(1, minor)))
         for images in range(1, 9):
-            faults, counts = self.counted(program, images)
-            self.case(f"boots of {images} images run", faults)
-            self.case(f"boots of {images} images are counted", [f"{counts}"] * (len(counts["booted"]) != len(DIGESTS)))
+            counts = self.counted(program, images)
+            self.assertEqual(len(DIGESTS), len(counts["booted"]))
             for boot, taken in zip(DIGESTS, counts["booted"]):
-                most = int(MARGIN * DIGESTS[boot] * images * counts["digested"][0])
-                self.case(f"instructions of a boot, {boot}, {images} images", [f"{taken}, at most {most}"] * (taken > most))
+                with self.subTest(f"instructions of a boot, {boot}, {images} images"):
+                    self.assertLessEqual(taken, MARGIN * DIGESTS[boot] * images * counts["digested"][0])
 
     def counted(self, program, images):
-        """Returns what is wrong with a run, and the instructions of its boots and digests."""
+        """The instructions of the boots and digests of a run."""
         dumps = f"{self.folder}/dump-{images}"
         words = [f"--dump-before={it}" for it in ("bootswap_simulate_boot", "booted", "bootswap_digest", "digested")]
         valgrind = ["valgrind", "-q", "--tool=callgrind", f"--callgrind-out-file={dumps}", *words]
         faults, _ = ran([*valgrind, program, f"{self.folder}/running", f"{self.folder}/new", str(images)], timeout=120)
+        self.assertEqual([], faults)
         counts = {"booted": [], "digested": []}
         for dump in sorted(glob.glob(f"{dumps}.*"), key=lambda it: int(it.rpartition(".")[2])):
             text = read(dump).decode()
@@ -114,4 +114,4 @@ class InstructionsTest(ProgramInC):
             # A dump has what ran since the one before it.
             if trigger in counts:
                 counts[trigger].append(int(re.search(r"^summary: (\d+)$", text, re.M)[1]))
-        return faults, counts
+        return counts

@@ -1,7 +1,8 @@
 """What a bootloader starts after a bit of the flash flipped.
 
-A device of two images is in one of eleven states. A bit of its flash flips, and the bootloader boots. If it starts the images,
-each has to be intact, and they have to fit each other. Here both are read by docs/FORMATS.md, without the library.
+A device of two images is in one of eleven states. A bit of its flash flips, and the bootloader boots. If it starts the
+images, each has to be intact, and they have to fit each other. Here both are read by docs/FORMATS.md, without the
+library.
 
 BOOTSWAP_EVERY_FLIP=1 tries every bit instead of each 17th one, and prints what happened in each state.
 """
@@ -107,25 +108,26 @@ class FlipsTest(CaseTest):
         with subprocess.Popen(words, stdout=subprocess.PIPE) as ran:
             while entry := ran.stdout.read(ENTRY.size):
                 yield ENTRY.unpack(entry)
-        self.case("the status of flips.c", [ran.returncode] * (ran.returncode != 0))
+        self.assertEqual(0, ran.returncode)
 
-    def test_flips(self):
-        """No boot starts an image that is damaged, or images that don't fit each other."""
+    def test_no_boot_starts_images_that_are_damaged_or_do_not_fit(self):
         is_every = os.environ.get("BOOTSWAP_EVERY_FLIP") == "1"
-        seen, faults = [Counter() for _ in STATES], [[] for _ in STATES]
+        seen, usual, wrong = [Counter() for _ in STATES], {}, [[] for _ in STATES]
         for state, bit, number, *slots in self.entries(1 if is_every else STEP):
-            got = outcome(number, slots)
             if bit == NO_BIT:
-                _, wanted, version = STATES[state]
-                running = [image_in(it) and image_in(it)[0] for it in slots]
-                faults[state] += [(number, running)] * ((number, running) != (wanted, 2 * [version]))
-            else:
-                seen[state][got] += 1
-                faults[state] += [f"bit {bit}: {got}, {number}"] * (got not in ("started", "not started"))
-        for (name, *_), counts, wrong in zip(STATES, seen, faults):
+                usual[state] = number, [image_in(it) and image_in(it)[0] for it in slots]
+                continue
+            got = outcome(number, slots)
+            seen[state][got] += 1
+            wrong[state] += [f"bit {bit}: {got}, {number}"] * (got not in ("started", "not started"))
+        for state, (name, number, version) in enumerate(STATES):
+            flips = sum(seen[state].values())
+            with self.subTest(f"{name}: each of {flips} flips"):
+                self.assertEqual((number, 2 * [version]), usual[state])
+                self.assertEqual([], wrong[state][:5])
+                # Most bits are of no image that is started, and some are.
+                self.assertGreaterEqual(flips, BITS // STEP)
+                self.assertGreaterEqual(seen[state]["started"], flips // 2)
+                self.assertGreater(seen[state]["not started"], 0)
             if is_every:
-                print(f"{name}: {dict(sorted(counts.items()))}")
-            # Most bits are of no image that is started, and some are.
-            flips = sum(counts.values())
-            is_few = flips < BITS // STEP or counts["started"] < flips // 2 or not counts["not started"]
-            self.case(f"{name}: each of {flips} flips", wrong[:5] + [counts] * is_few)
+                print(f"{name}: {dict(sorted(seen[state].items()))}")
