@@ -1,5 +1,7 @@
-"""A device in C whose process is killed 1,000 times within its writes, and in emulators fewer times: each run takes
-longer."""
+"""A device in C whose process is killed 1,000 times within its writes: its flash is a file.
+
+On ARM it runs in an emulator as a whole, and is killed less often: each run takes three times as long.
+"""
 
 from support import file_device
 from support.compiled import needs_compiler
