@@ -86,11 +86,11 @@ class Whole:
         os.environ["TMPDIR"] = tempfile.tempdir = self.files
 
     def clear(self):
-        end_processes()
-        for it in (self.files, self.large):
-            shutil.rmtree(it, ignore_errors=True)
-        # A thread here may have started one more when that which it waited for was ended.
-        end_processes()
+        # A thread here may start one more process when that which it waited for is ended, and that one may write files.
+        for _ in range(2):
+            end_processes()
+            for it in (self.files, self.large):
+                shutil.rmtree(it, ignore_errors=True)
 
     def end(self, number, _):
         """Ends this process by a signal. A child that was forked, and runs no other program, has this handler too."""
