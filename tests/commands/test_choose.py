@@ -25,7 +25,7 @@ CHOICES = [
         "take 0 2.0.0+0, take 1 2.0.0+0",
     ),
     (
-        "the first unmet group is told, behind one that is met",
+        "the first unmet group is reported, after one that is met",
         f"{ASKING}, needs-one 7 1.0.0+0 1 1.0.0+0, needs-one 1 2.0.0+0 6 1.0.0+0, needs-one 5 1.0.0+0, "
         "image 1 1.0.0+0 0 0",
         f"{BOTH_RUN}, refuse 0 needs-one 1 2.0.0+0 6 1.0.0+0",

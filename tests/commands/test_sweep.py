@@ -128,7 +128,7 @@ class SweepTest(ProgramTest):
         self.assertRegex(out.decode(), re.compile(r"^8 confirm 0 from \d+ a$", re.M))
 
     def test_cut_that_leaves_one_of_two_requests(self):
-        """No cut next to it does, so it is told as `other`, and ends with status 1."""
+        """No cut next to it does, so it is reported as `other`, and ends with status 1."""
         whole, events = flash_of(self), replaced_requests(self)
         status, out, err = self.run_program(["sweep", PAIR, script_file(self, events), ONE, ONE])
         self.assertEqual((1, b""), (status, err))

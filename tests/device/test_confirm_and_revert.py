@@ -169,7 +169,7 @@ UPGRADES = [
     ("image 0 is damaged in its secondary slot", 3, SECONDARY[:1], DAMAGED[0]),
     ("image 1 is damaged in its primary slot", 3, PRIMARY[1:], DAMAGED[1]),
     ("image 1 is damaged in its secondary slot", 3, SECONDARY[1:], DAMAGED[1]),
-    ("both are damaged, and the lower one is told", 3, (SECONDARY[0], PRIMARY[1]), DAMAGED[0]),
+    ("both are damaged, and the lower one is reported", 3, (SECONDARY[0], PRIMARY[1]), DAMAGED[0]),
     ("the set wouldn't be chosen", 1, (), "refused boot 6 InvalidSet"),
 ]
 
@@ -192,7 +192,7 @@ class InterruptedUpgradeTest(DeviceTest):
         new = new_device(self)
         for kind, step in ((2, "a swap"), (3, "a settling")):
             for name, images, damaged, reply in UPGRADES:
-                with self.subTest(f"in the midst of {step}: {name}"):
+                with self.subTest(f"during {step}: {name}"):
                     whole = in_upgrade(new, kind, images, damaged)
                     self.file("flash", whole)
                     self.play("boot", [reply], int(reply.startswith("refused")))

@@ -14,7 +14,7 @@ TORN_UNITS = {"keep": False, "done": True, "hex:ff": False, "hex:00": True}
 # the cut, the reply of the next boot, its reply if the last write set its unit, and whether the event has one write.
 EVENTS = [
     (
-        "requests for good are taken once", PAIR,
+        "permanent requests are taken once", PAIR,
         "boot, accept for-good.json, piece 0 needing.img, piece 1 partner.img, finish 0, finish 1, boot",
         UPLOAD_REPLIES, "permanent|take 0 2.0.0+0|take 1 2.0.0+0", STAYED, False,
     ),

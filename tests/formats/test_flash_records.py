@@ -47,17 +47,17 @@ TRIED, STAYS = trailer(done=True, magic=MAGIC), trailer(done=True, confirmed=Tru
 # afterwards. A settled trailer is written once.
 SETTLED = [
     ("erased trailers of a trial", SETTLE, 0, ERASED, ERASED, TRIED, 3),
-    ("erased trailers for good", SETTLE, 1, ERASED, ERASED, STAYS, 4),
+    ("erased trailers, permanently", SETTLE, 1, ERASED, ERASED, STAYS, 4),
     ("erased trailers of a way back", BACK_SETTLE, 0, ERASED, ERASED, STAYS, 5),
-    ("a size and a status unit, for good", SETTLE, 1, trailer(1, 96), REQUEST,
+    ("a size and a status unit, permanently", SETTLE, 1, trailer(1, 96), REQUEST,
         trailer(1, 96, done=True, confirmed=True, magic=MAGIC), 4),
     ("a size and a status unit, of a way back", BACK_SETTLE, 0, trailer(1, 96), trailer(magic=MAGIC), STAYS, 5),
     ("a trial that is confirmed too early", SETTLE, 0, trailer(1, confirmed=True), ERASED, TRIED, 4),
     ("filled trailers of a trial", SETTLE, 0, BAD, BAD, TRIED, 4),
-    ("filled trailers for good", SETTLE, 1, BAD, BAD, STAYS, 5),
+    ("filled trailers, permanently", SETTLE, 1, BAD, BAD, STAYS, 5),
     ("filled trailers of a way back", BACK_SETTLE, 0, BAD, BAD, STAYS, 5),
     ("a settled trial", SETTLE, 0, TRIED, ERASED, TRIED, 1),
-    ("a settled trailer for good", SETTLE, 1, STAYS, ERASED, STAYS, 1),
+    ("a settled trailer, permanently", SETTLE, 1, STAYS, ERASED, STAYS, 1),
     ("a settled trailer of a way back", BACK_SETTLE, 0, STAYS, ERASED, STAYS, 5),
 ]
 
