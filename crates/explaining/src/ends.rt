@@ -7,7 +7,6 @@ use crate::lines::{explain_line, explain_report_line, explain_table_line};
 use crate::needs::explain_running;
 use crate::scripts::{explain_place, explain_script_line};
 use crate::texts::Images;
-use certificate::Table;
 use command_line::{DeviceOrder, Order, ReadOrder};
 use device_texts::NoteList;
 use host::{Refusal, Source, SourceFault, SourceRefusal, WrongLength};
@@ -39,10 +38,7 @@ pub fn explain_refusal(
         Refusal::TableLine(bad) => explain_table_line(notes, bad),
         Refusal::ReportLine(bad) => explain_report_line(notes, bad),
         Refusal::FleetLine => notes.add(FLEET),
-        Refusal::NotValid(text) => match Table::parse(text) {
-            Ok(table) => explain_running(notes, &table),
-            Err(_) => Ok(()),
-        },
+        Refusal::NotValid(table) => explain_running(notes, table),
         Refusal::DeviceFile(file) => {
             let device = Source::named(&file.name);
             notes.add(format_args!("{device} is no device file:"))?;

@@ -1,6 +1,7 @@
 //! Why a command doesn't do what it was asked to do.
 
 use crate::source::Source;
+use certificate::Table;
 use std::{fmt, io};
 use thiserror::Error;
 
@@ -15,8 +16,8 @@ pub enum Refusal {
     FleetLine,
     /// The arguments of `plan` request two files as the image of this number.
     RequestedTwice(u8),
-    /// The running images of the table with this text don't fit each other.
-    NotValid(Vec<u8>),
+    /// The running images of this table don't fit each other.
+    NotValid(Box<Table>),
     /// The text is no device file.
     DeviceFile(NamedText),
     /// Nothing can be made of the arguments. This text is never printed, because each fault is

@@ -27,21 +27,25 @@ pub record IsChoice (bytes : List ℕ) (table : Table) (report : Report) : Type 
   pub standard : IsInStandardOrder table report.refusals.items
   pub text : IsReportText (report_text report) report
 
+-- The bytes spell this table, and its running images don't fit each other.
+pub record IsUnfit (bytes : List ℕ) (table : Table) : Type 0 where
+  pub spelled : IsTableText bytes table
+  pub unfit : IsValid table running_set → ⊥
+
 -- The bytes spell a table whose running images don't fit each other.
 abbrev pub IsUnfitTable : List ℕ → Type 0
-IsUnfitTable bytes =
-    (table : Table) × IsTableText bytes table × (IsValid table running_set → ⊥)
+IsUnfitTable bytes = (table : Table) × IsUnfit bytes table
 
 -- The report is the choice over the table that the bytes spell.
 abbrev pub IsChosen : List ℕ → Report → Type 0
 IsChosen bytes report = (table : Table) × IsChoice bytes table report
 
 -- The result of the choice over these bytes: the table that they spell, and the report; or the first
--- bad line, or that the running images don't fit each other.
+-- bad line; or the table, whose running images don't fit each other.
 abbrev pub Chooses : Result Choice NoChoice → List ℕ → Type 0
 Chooses (Ok choice) bytes = IsChoice bytes choice.table choice.report
 Chooses (Err (no.BadLine n)) bytes = IsFirstBadLine IsSomeTable bytes n
-Chooses (Err no.NotValid) bytes = IsUnfitTable bytes
+Chooses (Err (no.NotValid table)) bytes = IsUnfit bytes table
 
 -- What `choose` finds.
 abbrev pub IsChoiceIn : List ℕ → Inspection → Type 0

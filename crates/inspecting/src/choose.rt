@@ -35,7 +35,15 @@ pub fn inspect_table<H: Host>(
     match choice_in(&bytes) {
         Ok(choice) => Ok(Inspection::Choice(choice)),
         Err(NoChoice::BadLine(line)) => Err(Refusal::TableLine(BadText { text: bytes, line })),
-        Err(NoChoice::NotValid) => Err(Refusal::NotValid(bytes)),
+        Err(NoChoice::NotValid(table)) => Err(not_valid(alloc, table)),
+    }
+}
+
+/// Returns the refusal of a table whose running images don't fit each other.
+fn not_valid(alloc: Global, table: Table) -> Refusal {
+    match Box::new(alloc, table) {
+        Ok(table) => Refusal::NotValid(table),
+        Err(_) => Refusal::NoMemory,
     }
 }
 
@@ -74,7 +82,7 @@ pub fn choose_over<R: Read, W: Write>(alloc: Global, input: &mut R, out: &mut W)
     let report = match choice_in(&bytes) {
         Ok(choice) => choice.report,
         Err(NoChoice::BadLine(line)) => return ChooseEnd::BadLine(line),
-        Err(NoChoice::NotValid) => return ChooseEnd::NotValid,
+        Err(NoChoice::NotValid(_)) => return ChooseEnd::NotValid,
     };
     let Ok(text) = format!(in alloc; "{report}") else {
         return ChooseEnd::NoMemory;
@@ -86,12 +94,12 @@ pub fn choose_over<R: Read, W: Write>(alloc: Global, input: &mut R, out: &mut W)
 }
 
 /// Why there is no choice over a text.
-#[derive(Clone, Copy, Debug)]
+#[derive(Debug, Drop)]
 pub enum NoChoice {
     /// It isn't a table. The number, from 1, is that of the first line that no table continues from.
     BadLine(usize),
-    /// It is a table whose running images don't fit each other.
-    NotValid,
+    /// It is this table, whose running images don't fit each other.
+    NotValid(Table),
 }
 
 /// Returns the table that `bytes` spell, and the report on it. Does not allocate.
@@ -103,7 +111,7 @@ pub fn choice_in(bytes: &[u8]) -> Result<Choice, NoChoice>
         Err(bad) => return Err(NoChoice::BadLine(bad.0)),
     };
     if !is_valid(&table) {
-        return Err(NoChoice::NotValid);
+        return Err(NoChoice::NotValid(table));
     }
     right_reports_have_a_text();
     let report = choose(&table);

@@ -4,7 +4,10 @@ use Rattle.inspecting.proofs.choose.choice_in.Goals as goal
 -- The running images of the table don't fit each other.
 pub returns-then-not-is_valid : goal.returns-then-not-is_valid
 returns-then-not-is_valid c =
-    (c.in-Ok.table, c.in-Ok.ensures.spelled, λ valid. false≢true (c.if-not-is_valid.ensures.1 valid))
+    record {
+      spelled = c.in-Ok.ensures.spelled;
+      unfit = λ valid. false≢true (c.if-not-is_valid.ensures.1 valid);
+    }
 
 pub choose-report-requires : goal.choose-report-requires
 choose-report-requires c = c.is_valid.ensures.0 c.if-not-is_valid.false

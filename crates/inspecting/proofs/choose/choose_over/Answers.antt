@@ -18,7 +18,7 @@ returns-in-Err-NotValid g c = (
   c.in-Ok.bytes.items,
   (c.in-Ok.ensures.bytes, c.in-Ok.ensures.end),
   (
-    rw (c.in-Err-NotValid.field-0-is, c.deref.ensures.value) at c.in-Err-NotValid.ensures,
+    (c.in-Err-NotValid.field-0-0, rw (c.in-Err-NotValid.field-0-is, c.deref.ensures.value) at c.in-Err-NotValid.ensures),
     Keeps-refl (g.W.Write.contents c.args.out.now),
   ),
 )
