@@ -8,7 +8,8 @@ use Rattle.sector_map.specs.declared.layout.SectorMap.{SectorMap}
 use Rattle.sector_map.specs.declared.layout.Side.{Side}
 use Rattle.sector_map.specs.declared.layout.Side.TheVariants.{Primary, Secondary}
 use Rattle.sector_map.specs.Map.{IsLaidOut, Keeps, slot_sectors}
-use Rattle.sector_map.specs.Part.{Log, TrailerOf, is_member, only}
+use Rattle.sector_map.specs.Part.{Log, TrailerOf, only}
+use Rattle.common.specs.Masks.{is_member}
 use Rattle.trailer.specs.Status.{set_units, status_count_of}
 use Rattle.set_log.specs.Log.{state_of}
 use Rattle.set_log.specs.declared.state.RecordKind.{RecordKind}

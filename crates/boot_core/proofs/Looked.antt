@@ -6,7 +6,7 @@ use Rattle.sector_map.specs.declared.layout.SectorMap.{SectorMap}
 use Rattle.sector_map.specs.declared.layout.Side.{Side}
 use Rattle.sector_map.specs.declared.layout.Side.TheVariants.{Primary}
 use Rattle.sector_map.specs.Map.{IsLaidOut}
-use Rattle.sector_map.specs.Part.{is_member}
+use Rattle.common.specs.Masks.{is_member}
 use Rattle.upload.specs.View.{View, view}
 use Rattle.machine.specs.Starting.{AreHeld, AreIntact, IsHeld, IsLost}
 use Rattle.machine.proofs.Starting.{held_lost}

@@ -5,7 +5,8 @@ use Rattle.std.proofs.lemmas.Bool.Decides.{nat_tests}
 use Rattle.flash_model.specs.Chip.{Chip}
 use Rattle.sector_map.specs.declared.layout.SectorMap.{SectorMap}
 use Rattle.sector_map.specs.declared.layout.Side.{Side}
-use Rattle.sector_map.specs.Part.{Log, is_member, only, trailers_on}
+use Rattle.sector_map.specs.Part.{Log, only, trailers_on}
+use Rattle.common.specs.Masks.{is_member}
 use Rattle.sector_map.specs.Map.{Keeps, slot_sectors}
 use Rattle.trailer.specs.Fields.{Fields}
 use Rattle.image_reading.specs.declared.desc.Desc.{Desc}

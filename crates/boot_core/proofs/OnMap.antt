@@ -4,7 +4,8 @@ use Rattle.std.proofs.lemmas.Bool.{false≢true}
 use Rattle.flash_model.specs.Chip.{Chip}
 use Rattle.sector_map.specs.declared.layout.SectorMap.{SectorMap}
 use Rattle.sector_map.specs.declared.layout.Side.{Side}
-use Rattle.sector_map.specs.Part.{Part, Slot, TrailerOf, Scratch, Log, any_part, is_member, only, same_side, swap_of, trailers_in, trailers_on}
+use Rattle.sector_map.specs.Part.{Part, Slot, TrailerOf, Scratch, Log, any_part, only, same_side, swap_of, trailers_in, trailers_on}
+use Rattle.common.specs.Masks.{is_member}
 use Rattle.sector_map.specs.Map.{IsLaidOut, Keeps}
 use Rattle.sector_map.proofs.Parts.{keeps_refl, keeps_trans, keeps_wider, laid_out_kept}
 use Rattle.sector_map.proofs.Touched.{LeavesLess}

@@ -8,7 +8,7 @@ use Rattle.flash_model.specs.Chip.{Chip}
 use Rattle.sector_map.specs.declared.layout.SectorMap.{SectorMap}
 use Rattle.sector_map.specs.Map.{IsWithin, Keeps}
 use Rattle.sector_map.specs.Part.{Part, Log}
-use Rattle.sector_map.proofs.Masks.{below_shift}
+use Rattle.common.proofs.Masks.{below_shift}
 use Rattle.set_log.specs.declared.state.State.{State}
 use Rattle.set_log.specs.declared.state.RecordKind.{RecordKind}
 use Rattle.set_log.specs.declared.state.RecordKind.TheVariants.{Steady, Swap, Settle, Trial, Back, BackSettle}

@@ -5,7 +5,8 @@ use Rattle.flash_model.specs.Chip.{Chip}
 use Rattle.sector_map.specs.declared.layout.SectorMap.{SectorMap}
 use Rattle.sector_map.specs.declared.layout.Side.{Side}
 use Rattle.sector_map.specs.declared.layout.Side.TheVariants.{Primary, Secondary}
-use Rattle.sector_map.specs.Part.{Part, Slot, TrailerOf, is_member, only, same_side, trailers_on}
+use Rattle.sector_map.specs.Part.{Part, Slot, TrailerOf, only, same_side, trailers_on}
+use Rattle.common.specs.Masks.{is_member}
 use Rattle.sector_map.proofs.Parts.{keeps_wider}
 use Rattle.sector_map.proofs.Touched.{trailer_on_side}
 use Rattle.sector_map.specs.Map.{Keeps}

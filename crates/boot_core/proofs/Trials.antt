@@ -8,7 +8,8 @@ use Rattle.flash_model.specs.declared.error.FlashError.TheVariants as flash
 use Rattle.sector_map.specs.declared.layout.SectorMap.{SectorMap}
 use Rattle.sector_map.specs.declared.layout.Side.TheVariants.{Primary}
 use Rattle.sector_map.specs.Map.{IsLaidOut, Keeps}
-use Rattle.sector_map.specs.Part.{TrailerOf, is_member, only}
+use Rattle.sector_map.specs.Part.{TrailerOf, only}
+use Rattle.common.specs.Masks.{is_member}
 use Rattle.sector_map.proofs.Parts.{laid_out_kept}
 use Rattle.common.specs.declared.event.Event.TheVariants as event
 use Rattle.upload.specs.Device.{DeviceState}

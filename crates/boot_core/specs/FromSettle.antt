@@ -5,7 +5,8 @@ use Rattle.common.specs.Limits.{MOST_BOOTS_LEFT}
 use Rattle.flash_model.specs.Chip.{Chip, Ends}
 use Rattle.flash_model.specs.declared.error.FlashError.{FlashError}
 use Rattle.sector_map.specs.Map.{IsLaidOut, Keeps}
-use Rattle.sector_map.specs.Part.{Log, is_member, only, trailers_in}
+use Rattle.sector_map.specs.Part.{Log, only, trailers_in}
+use Rattle.common.specs.Masks.{is_member}
 use Rattle.sector_map.specs.declared.layout.SectorMap.{SectorMap}
 use Rattle.certificate.specs.declared.table.Table.{Table}
 use Rattle.trailer.specs.Settled.{is_confirmed}

@@ -11,7 +11,7 @@ use Rattle.set_log.specs.declared.state.State.{State}
 use Rattle.upload.specs.Device.{DeviceState}
 use Rattle.upload.specs.Steady.{IsSteadyAt, request_in}
 use Rattle.upload.specs.View.{view}
-use Rattle.sector_map.specs.Part.{is_member}
+use Rattle.common.specs.Masks.{is_member}
 use Rattle.machine.specs.Boots.{IsDecision, IsChosen}
 use Rattle.machine.specs.Passing.{IsSwappingSome}
 use Rattle.machine.specs.Wear.{members}

@@ -4,7 +4,8 @@ use Rattle.std.specs.Prelude.{◌*◌, Option, is_some, slice_index}
 use Rattle.flash_model.specs.Chip.{Chip, Ends}
 use Rattle.flash_model.specs.declared.error.FlashError.{FlashError}
 use Rattle.sector_map.specs.Map.{Keeps}
-use Rattle.sector_map.specs.Part.{Log, is_member, only}
+use Rattle.sector_map.specs.Part.{Log, only}
+use Rattle.common.specs.Masks.{is_member}
 use Rattle.sector_map.specs.declared.layout.SectorMap.{SectorMap}
 use Rattle.sector_map.specs.declared.layout.Side.TheVariants.{Primary, Secondary}
 use Rattle.trailer.specs.Fields.{fields_at}

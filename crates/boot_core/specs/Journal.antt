@@ -5,7 +5,8 @@ use Rattle.sector_map.specs.declared.layout.SectorMap.{SectorMap}
 use Rattle.sector_map.specs.declared.layout.Side.{Side}
 use Rattle.sector_map.specs.declared.layout.Side.TheVariants.{Primary, Secondary}
 use Rattle.sector_map.specs.Map.{Keeps}
-use Rattle.sector_map.specs.Part.{Log, is_member, only}
+use Rattle.sector_map.specs.Part.{Log, only}
+use Rattle.common.specs.Masks.{is_member}
 use Rattle.set_log.specs.Log.{state_of}
 use Rattle.set_log.specs.declared.state.RecordKind.{RecordKind}
 use Rattle.set_log.specs.declared.state.RecordKind.TheVariants as log

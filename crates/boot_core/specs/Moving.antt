@@ -1,7 +1,8 @@
 -- Which parts of a flash a boot may write.
 use Rattle.std.specs.Prelude.{ℕ, Bool, true, false, ◌||◌, Option, Some, None, is_some}
 use Rattle.flash_model.specs.Chip.{Chip}
-use Rattle.sector_map.specs.Part.{Part, Slot, TrailerOf, Scratch, Log, is_member}
+use Rattle.sector_map.specs.Part.{Part, Slot, TrailerOf, Scratch, Log}
+use Rattle.common.specs.Masks.{is_member}
 use Rattle.sector_map.specs.declared.layout.SectorMap.{SectorMap}
 use Rattle.set_log.specs.declared.state.State.{State}
 use Rattle.set_log.specs.Log.{state_of}

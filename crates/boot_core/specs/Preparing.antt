@@ -5,7 +5,8 @@ use Rattle.flash_model.specs.Chip.{Chip, Ends}
 use Rattle.sector_map.specs.declared.layout.SectorMap.{SectorMap}
 use Rattle.sector_map.specs.declared.layout.Side.{Side}
 use Rattle.sector_map.specs.Map.{Keeps, slot_sectors}
-use Rattle.sector_map.specs.Part.{TrailerOf, is_member, only, trailers_on}
+use Rattle.sector_map.specs.Part.{TrailerOf, only, trailers_on}
+use Rattle.common.specs.Masks.{is_member}
 use Rattle.swap_scratch.specs.Swap.{share}
 use Rattle.image_reading.specs.Slot.{slot_bytes}
 use Rattle.upload.specs.View.{view}

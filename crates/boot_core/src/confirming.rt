@@ -11,9 +11,10 @@ ghost use Rattle.upload.specs.Sessions.{AllOpenAt};
 ghost use Rattle.upload.specs.View.{view};
 
 use crate::intake::stop;
+use common::mask::is_member;
 use flash_model::{Flash, Result};
 use machine::Fault;
-use sector_map::{SectorMap, is_member};
+use sector_map::SectorMap;
 use set_log::{LogError, RecordKind, State, read_state};
 use trailer::set_ok;
 use upload::Uploads;

@@ -3,7 +3,7 @@
 
 ghost use Rattle.std.specs.Prelude.{◌<◌, ◌≤◌, ◌≡◌, ℕ, ◌^◌, length};
 ghost use Rattle.sector_map.specs.Map.{HasImage, IsLaidOut};
-ghost use Rattle.sector_map.specs.Part.{is_member};
+ghost use Rattle.common.specs.Masks.{is_member};
 ghost use Rattle.certificate.specs.declared.table.Table.{Table};
 ghost use Rattle.certificate.specs.declared.report.Report.{Report};
 ghost use Rattle.certificate.specs.Combination.{entry_in};
@@ -18,10 +18,11 @@ use crate::outcome::Outcome;
 use arrayvec::ArrayVec;
 use certificate::{Image, Report, Request, Table};
 use common::limits::MOST_IMAGES;
+use common::mask::{is_member, mask_of};
 use decision::{Verdict, find_into};
 use flash_model::{Flash, Result};
 use machine::Fault;
-use sector_map::{SectorMap, is_member, mask_of};
+use sector_map::SectorMap;
 use trailer::{Kind, standing};
 
 /// The mask of the images that a report takes.

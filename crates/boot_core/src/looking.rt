@@ -4,9 +4,10 @@ ghost use Rattle.sector_map.specs.Map.{HasImage, IsLaidOut};
 ghost use Rattle.boot_core.specs.Looking.{IsLowestLostIn, IsMemberLost};
 ghost use Rattle.decision.specs.Telling.{Tells};
 
+use common::mask::is_member;
 use decision::read_slot;
 use flash_model::{Flash, Result};
-use sector_map::{SectorMap, Side, is_member};
+use sector_map::{SectorMap, Side};
 
 /// Whether an image is in a set and its slot on a side doesn't begin with an intact image.
 fn is_damaged_member<F: Flash>(

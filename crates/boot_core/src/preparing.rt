@@ -3,15 +3,16 @@
 ghost use Rattle.std.specs.Prelude.{◌≡◌, true};
 ghost use Rattle.decision.specs.Telling.{Tells};
 ghost use Rattle.sector_map.specs.Map.{HasImage, IsLaidOut};
-ghost use Rattle.sector_map.specs.Part.{is_member};
+ghost use Rattle.common.specs.Masks.{is_member};
 ghost use Rattle.image_reading.specs.Slot.{slot_bytes};
 ghost use Rattle.machine.specs.Starting.{IsHeld};
 ghost use Rattle.boot_core.specs.Preparing.{IsImageHeld, IsSetHeld, IsSizeIn, IsSwapSizeIn, IsUsedIn};
 ghost use Rattle.boot_core.specs.Preparing.{Prepares, PreparesImage, PreparesMember};
 
+use common::mask::is_member;
 use flash_model::{Flash, Result};
 use image_reading::{Desc, image_length, intact_image_into};
-use sector_map::{SectorMap, Side, is_member};
+use sector_map::{SectorMap, Side};
 use trailer::{clear, write_size};
 
 /// The length of the image that a slot begins with. The caller knows that the image is intact, so no

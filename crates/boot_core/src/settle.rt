@@ -17,9 +17,10 @@ use crate::deciding::{find_again, raised_floors, reply_to};
 use crate::outcome::Outcome;
 use certificate::{Report, Table};
 use common::limits::MOST_IMAGES;
+use common::mask::is_member;
 use decision::Verdict;
 use flash_model::{Flash, Result};
-use sector_map::{SectorMap, is_member};
+use sector_map::SectorMap;
 use set_log::{RecordKind, State, append};
 use trailer::{Settling, settle};
 

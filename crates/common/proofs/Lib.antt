@@ -6,6 +6,7 @@ pub mod Items
 pub mod LinesLaws
 pub mod Lists
 pub mod Mapped
+pub mod Masks
 pub mod Numbered
 pub mod Numbers
 pub mod Options

@@ -4,4 +4,5 @@ pub mod Checks
 pub mod Event
 pub mod Limits
 pub mod Lines
+pub mod Masks
 pub mod Reading

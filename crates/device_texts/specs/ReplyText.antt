@@ -3,7 +3,7 @@ use Rattle.std.specs.Prelude.{ℕ, ◌+◌, Bool, List, [], ◌∷◌, ◌++◌,
 use Rattle.std.specs.List.{flat_map, list_any, range_with_len}
 use Rattle.common.specs.Limits.{MOST_IMAGES}
 use Rattle.common.specs.Lines.{◌␣◌}
-use Rattle.sector_map.specs.Part.{is_member}
+use Rattle.common.specs.Masks.{is_member}
 use Rattle.image_reading.specs.Codes as image
 use Rattle.manifest.specs.Codes as manifest
 use Rattle.upload.specs.declared.error.UploadError.{UploadError}

@@ -15,10 +15,10 @@ mod report;
 
 use crate::notes::NoteList;
 use common::limits::MOST_IMAGES;
+use common::mask::is_member;
 pub use refusals::{code_value, fault_value, map_value, put_code, put_refused};
 pub use reply::{last_notes, map_refusal_line, note_line, reply_line};
 pub use report::put_report;
-use sector_map::is_member;
 use serde_json::{Map, Value, push, put};
 use std::alloc::{AllocError, Global};
 

@@ -8,8 +8,8 @@ ghost use Rattle.device_texts.specs.ReplyText.{refused_fault_text, reply_text, s
 
 use certificate::{Report, ReportedImage};
 use common::limits::MOST_IMAGES;
+use common::mask::is_member;
 use machine::{Fault, Reply};
-use sector_map::is_member;
 use std::alloc::{AllocError, Global};
 use std::fmt;
 use upload::UploadError;

@@ -6,7 +6,8 @@ use Rattle.sector_map.specs.declared.layout.SectorMap.{SectorMap}
 use Rattle.sector_map.specs.declared.layout.Side.{Side}
 use Rattle.sector_map.specs.declared.layout.Side.TheVariants.{Primary, Secondary}
 use Rattle.sector_map.specs.Map.{IsLaidOut, length_of, start_of}
-use Rattle.sector_map.specs.Part.{Slot, is_member}
+use Rattle.sector_map.specs.Part.{Slot}
+use Rattle.common.specs.Masks.{is_member}
 use Rattle.image_reading.specs.Fault.{IsFrontFault}
 use Rattle.image_reading.specs.Image.{BeginsIntact}
 use Rattle.image_reading.specs.Slot.{slot_bytes}

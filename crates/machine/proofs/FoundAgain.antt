@@ -2,7 +2,7 @@
 use Rattle.std.proofs.Common.{◌≡◌, ℕ, Bool, sym, ◌∙◌, subst}
 use Rattle.std.proofs.lemmas.Option.{none-some}
 use mathlib.Core.Path.{fun_ext}
-use Rattle.sector_map.specs.Part.{is_member}
+use Rattle.common.specs.Masks.{is_member}
 use Rattle.upload.specs.Device.{DeviceState}
 use Rattle.certificate.specs.declared.table.Table.{Table}
 use Rattle.certificate.specs.declared.report.Report.{Report}

@@ -9,7 +9,8 @@ use Rattle.flash_model.specs.Chip.{Chip}
 use Rattle.sector_map.specs.declared.layout.SectorMap.{SectorMap}
 use Rattle.sector_map.specs.declared.layout.Side.{Side}
 use Rattle.sector_map.specs.declared.layout.Side.TheVariants.{Primary, Secondary}
-use Rattle.sector_map.specs.Part.{Part, Slot, TrailerOf, Log, is_member, only, trailers_on}
+use Rattle.sector_map.specs.Part.{Part, Slot, TrailerOf, Log, only, trailers_on}
+use Rattle.common.specs.Masks.{is_member}
 use Rattle.sector_map.specs.Map.{Keeps}
 use Rattle.set_log.specs.declared.state.State.{State}
 use Rattle.set_log.specs.declared.state.RecordKind.TheVariants as log

@@ -2,7 +2,7 @@
 use Rattle.std.proofs.Common.{◌≡◌, true, false, subst, sym, ⊎_elim}
 use Rattle.flash_model.specs.Chip.{Chip}
 use Rattle.sector_map.specs.Map.{IsLaidOut}
-use Rattle.sector_map.specs.Part.{is_member}
+use Rattle.common.specs.Masks.{is_member}
 use Rattle.sector_map.specs.declared.layout.SectorMap.{SectorMap}
 use Rattle.upload.specs.Device.{DeviceState, Machine, Trial}
 use Rattle.upload.specs.Steady.{IsSteadyAt}

@@ -5,7 +5,8 @@ use Rattle.swap_scratch.proofs.Staying.{stays}
 use Rattle.flash_model.specs.Chip.{Chip}
 use Rattle.sector_map.specs.declared.layout.SectorMap.{SectorMap}
 use Rattle.sector_map.specs.declared.layout.Side.TheVariants.{Primary, Secondary}
-use Rattle.sector_map.specs.Part.{Log, is_member, only, trailers_in}
+use Rattle.sector_map.specs.Part.{Log, only, trailers_in}
+use Rattle.common.specs.Masks.{is_member}
 use Rattle.sector_map.specs.Map.{IsLaidOut, Keeps}
 use Rattle.set_log.specs.declared.state.State.{State}
 use Rattle.set_log.specs.declared.state.RecordKind.{RecordKind}

@@ -8,7 +8,7 @@ use mathlib.Core.Path.{fun_ext}
 use Rattle.std.proofs.Math.Nat.{zero-div}
 use Rattle.flash_model.specs.Chip.{Chip}
 use Rattle.sector_map.specs.declared.layout.SectorMap.{SectorMap}
-use Rattle.sector_map.specs.Part.{is_member}
+use Rattle.common.specs.Masks.{is_member}
 use Rattle.set_log.specs.declared.state.State.{State}
 use Rattle.upload.specs.View.{view}
 use Rattle.upload.specs.Device.{DeviceState}

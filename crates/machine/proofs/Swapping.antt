@@ -7,7 +7,8 @@ use Rattle.flash_model.specs.Chip.{Chip}
 use Rattle.sector_map.specs.declared.layout.SectorMap.{SectorMap}
 use Rattle.sector_map.specs.declared.layout.Side.{Side}
 use Rattle.sector_map.specs.declared.layout.Side.TheVariants.{Primary, Secondary}
-use Rattle.sector_map.specs.Part.{Part, Slot, TrailerOf, Scratch, Log, is_member, only, swap_of, trailers_in}
+use Rattle.sector_map.specs.Part.{Part, Slot, TrailerOf, Scratch, Log, only, swap_of, trailers_in}
+use Rattle.common.specs.Masks.{is_member}
 use Rattle.sector_map.specs.Part.{trailers_of}
 use Rattle.sector_map.specs.Map.{IsLaidOut, Keeps}
 use Rattle.trailer.specs.Settled.{IsSettled}

@@ -8,7 +8,8 @@ use Rattle.std.proofs.lemmas.Option.{none-some}
 use Rattle.flash_model.specs.Chip.{Chip}
 use Rattle.sector_map.specs.declared.layout.SectorMap.{SectorMap}
 use Rattle.sector_map.specs.declared.layout.Side.TheVariants.{Primary, Secondary}
-use Rattle.sector_map.specs.Part.{Log, is_member, only}
+use Rattle.sector_map.specs.Part.{Log, only}
+use Rattle.common.specs.Masks.{is_member}
 use Rattle.sector_map.specs.Map.{Keeps}
 use Rattle.trailer.specs.Fields.{Fields}
 use Rattle.set_log.specs.declared.state.State.{State}

@@ -2,7 +2,7 @@
 use Rattle.std.proofs.Common.{◌≡◌, ◌⊎◌, ℕ, ◌+◌, Bool, true, false, List, Some, None, refl, sym, subst, ⊎_elim, inl, inr}
 use Rattle.flash_model.specs.Chip.{Chip}
 use Rattle.sector_map.specs.declared.layout.SectorMap.{SectorMap}
-use Rattle.sector_map.specs.Part.{is_member}
+use Rattle.common.specs.Masks.{is_member}
 use Rattle.upload.specs.View.{view}
 use Rattle.upload.specs.Device.{DeviceState}
 use Rattle.upload.specs.Steady.{IsSteadyAt}

@@ -1,7 +1,7 @@
 -- The steps of a machine that boots, and of one that confirms an image.
 use Rattle.std.specs.Prelude.{◌≡◌, ◌⊎◌, ℕ, ◌+◌, ◌<◌, Bool, true, false, List, length, Option, Some, None, slice_get}
 use Rattle.std.specs.Prelude.{slice_index}
-use Rattle.sector_map.specs.Part.{is_member}
+use Rattle.common.specs.Masks.{is_member}
 use Rattle.trailer.specs.declared.kinds.Kind.TheVariants.{Permanent}
 use Rattle.certificate.specs.declared.table.Table.{Table}
 use Rattle.certificate.specs.declared.table.Image.{Image}

@@ -3,7 +3,7 @@ use Rattle.std.specs.Prelude.{◌≡◌, ◌⊎◌, ℕ, ◌<◌, Bool, true, fa
 use Rattle.flash_model.specs.Chip.{Chip}
 use Rattle.sector_map.specs.declared.layout.SectorMap.{SectorMap}
 use Rattle.sector_map.specs.declared.layout.Side.TheVariants.{Primary, Secondary}
-use Rattle.sector_map.specs.Part.{is_member}
+use Rattle.common.specs.Masks.{is_member}
 use Rattle.trailer.specs.declared.kinds.Magic.TheVariants.{Good, Unset}
 use Rattle.trailer.specs.Settled.{IsSettled}
 use Rattle.set_log.specs.declared.state.RecordKind.{RecordKind}

@@ -4,7 +4,8 @@ use Rattle.std.proofs.Common.{◌≡◌, ℕ, Bool, true, false, ◌==◌, ◌&&
 use Rattle.std.proofs.lemmas.Bool.{eqb-true, false≢true}
 use Rattle.sector_map.specs.declared.layout.Side.{Side}
 use Rattle.sector_map.specs.declared.layout.Side.TheVariants.{Secondary}
-use Rattle.sector_map.specs.Part.{Part, Slot, TrailerOf, Scratch, Log, only, same_side, is_member, trailers_of, trailers_on, trailers_in, incoming_of, swap_one}
+use Rattle.sector_map.specs.Part.{Part, Slot, TrailerOf, Scratch, Log, only, same_side, trailers_of, trailers_on, trailers_in, incoming_of, swap_one}
+use Rattle.common.specs.Masks.{is_member}
 
 -- The second test leaves out each part that the first one leaves out.
 abbrev pub LeavesLess : (Part → Bool) → (Part → Bool) → Type 0

@@ -5,7 +5,8 @@ use Rattle.flash_model.specs.Chip.{Chip, size_of}
 use Rattle.sector_map.specs.declared.layout.Side.{Side}
 use Rattle.sector_map.specs.declared.layout.Side.TheVariants.{Primary, Secondary}
 use Rattle.sector_map.specs.declared.layout.SectorMap.{SectorMap}
-use Rattle.sector_map.specs.Part.{Part, Slot, TrailerOf, Scratch, Log, is_member}
+use Rattle.sector_map.specs.Part.{Part, Slot, TrailerOf, Scratch, Log}
+use Rattle.common.specs.Masks.{is_member}
 use Rattle.sector_map.specs.Sizes.{MakeMap, before, all_sectors}
 
 -- The sizes of the map make a map.

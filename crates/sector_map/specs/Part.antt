@@ -1,5 +1,6 @@
 -- The parts of a flash, and tests of parts that say which of them a call may touch.
 use Rattle.std.specs.Prelude.{ℕ, Bool, true, false, ◌==◌, ◌&&◌, ◌/◌, ◌%◌, ◌^◌}
+use Rattle.common.specs.Masks.{is_member}
 use Rattle.sector_map.specs.declared.layout.Side.{Side}
 use Rattle.sector_map.specs.declared.layout.Side.TheVariants.{Primary, Secondary}
 
@@ -15,10 +16,6 @@ same_side Primary Primary = true
 same_side Primary Secondary = false
 same_side Secondary Primary = false
 same_side Secondary Secondary = true
-
--- Bit i of a mask: whether image i is in it.
-unfoldable pub is_member : ℕ → ℕ → Bool
-is_member mask i = mask / 2 ^ i % 2 == 1
 
 -- This part and no other.
 abbrev pub only : Part → Part → Bool

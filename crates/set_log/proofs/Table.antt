@@ -7,7 +7,7 @@ use Rattle.std.proofs.Math.Nat.{div-eq_of_lt, div-lt_iff_lt-mul}
 use Rattle.std.specs.List.{list_all}
 use Rattle.sector_map.specs.declared.layout.SectorMap.{SectorMap}
 use Rattle.sector_map.specs.Map.{IsWithin}
-use Rattle.sector_map.proofs.Masks.{below_shift, shift_below}
+use Rattle.common.proofs.Masks.{below_shift, shift_below}
 use Rattle.set_log.specs.declared.state.State.{State}
 use Rattle.set_log.specs.Record.{fits, kind_fits}
 

@@ -6,7 +6,8 @@ use Rattle.sector_map.specs.declared.layout.SectorMap.{SectorMap}
 use Rattle.sector_map.specs.declared.layout.Side.{Side}
 use Rattle.sector_map.specs.declared.layout.Side.TheVariants.{Primary, Secondary}
 use Rattle.sector_map.specs.Map.{IsLaidOut, IsWithin, Keeps, part_of, slot_sectors}
-use Rattle.sector_map.specs.Part.{Part, Slot, swap_of, is_member}
+use Rattle.sector_map.specs.Part.{Part, Slot, swap_of}
+use Rattle.common.specs.Masks.{is_member}
 use Rattle.trailer.specs.Fields.{fields_at}
 use Rattle.swap_scratch.specs.Used.{used_of, used_bytes}
 use Rattle.swap_scratch.specs.Swap.{AreSwapped, IsAllCounted, IsSwapAt}

@@ -6,7 +6,8 @@ use Rattle.flash_model.specs.Chip.{Chip, Ends}
 use Rattle.sector_map.specs.declared.layout.SectorMap.{SectorMap}
 use Rattle.sector_map.specs.declared.layout.Side.{Side}
 use Rattle.sector_map.specs.Map.{Keeps}
-use Rattle.sector_map.specs.Part.{swap_of, is_member}
+use Rattle.sector_map.specs.Part.{swap_of}
+use Rattle.common.specs.Masks.{is_member}
 use Rattle.swap_scratch.specs.Used.{steps_of}
 use Rattle.swap_scratch.specs.Place.{KeepsRest}
 use Rattle.swap_scratch.specs.Steps.{AsksForSteps}

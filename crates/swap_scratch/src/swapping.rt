@@ -5,8 +5,9 @@ ghost use Rattle.sector_map.specs.Map.{HasImages};
 ghost use Rattle.swap_scratch.specs.Swaps.{Swaps, SwapsMember};
 
 use crate::images::swap_image;
+use common::mask::is_member;
 use flash_model::{Flash, Result};
-use sector_map::{SectorMap, Side, is_member};
+use sector_map::{SectorMap, Side};
 
 /// Swaps the slots of an image if the image is in the mask.
 fn swap_member<F: Flash>(

@@ -2,7 +2,8 @@
 
 ghost use Rattle.std.specs.Prelude.{◌<◌};
 
-use sector_map::{MapError, SectorMap, Side, is_member, is_within, mask_of, parts_lie_apart};
+use common::mask::{is_member, mask_of};
+use sector_map::{MapError, SectorMap, Side, is_within, parts_lie_apart};
 use std::alloc::AllocError;
 
 /// The first sectors of a slot and of its trailer, and their addresses in bytes.

@@ -1,5 +1,5 @@
 use Rattle.std.proofs.Common.{rules, arith, ◌≡◌, ◌<◌, true, ap}
-use Rattle.sector_map.specs.Part.{is_member}
+use Rattle.common.specs.Masks.{is_member}
 use Rattle.trailer.specs.Fields.{Fields}
 use Rattle.upload.proofs.Ends.{err_passed}
 use Rattle.machine.proofs.Confirming.{confirm_either, confirm_yes}

@@ -1,6 +1,6 @@
 use Rattle.std.proofs.Common.{rules, arith, ◌≡◌, ◌∙◌, true, Some, sym, subst}
 use Rattle.sector_map.specs.Map.{IsLaidOut}
-use Rattle.sector_map.specs.Part.{is_member}
+use Rattle.common.specs.Masks.{is_member}
 use Rattle.trailer.specs.Standing.{standing_of}
 use Rattle.trailer.specs.declared.kinds.Kind.TheVariants.{Permanent}
 use Rattle.boot_core.proofs.Masks.{asked_for_good, members_more}

@@ -1,5 +1,5 @@
 use Rattle.std.proofs.Common.{rules, ◌≡◌, true, Err}
-use Rattle.sector_map.specs.Part.{is_member}
+use Rattle.common.specs.Masks.{is_member}
 use Rattle.boot_core.proofs.Passed.{err_ends, ok_ends}
 use Rattle.boot_core.proofs.SwapSizes.{member_kept, ready_kept}
 use Rattle.boot_core.proofs.preparing.prepare_member.Goals as goal

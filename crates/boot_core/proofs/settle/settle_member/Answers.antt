@@ -1,5 +1,6 @@
 use Rattle.std.proofs.Common.{rules, ◌≡◌, true, Err}
-use Rattle.sector_map.specs.Part.{is_member, trailers_in, trailers_of}
+use Rattle.sector_map.specs.Part.{trailers_in, trailers_of}
+use Rattle.common.specs.Masks.{is_member}
 use Rattle.sector_map.proofs.Parts.{keeps_wider}
 use Rattle.sector_map.proofs.Touched.{trailers_in_mask}
 use Rattle.machine.proofs.Swapping.{settled_kept}

@@ -1,7 +1,7 @@
 use Rattle.std.proofs.Common.{rules, arith, ◌≡◌, ◌<◌, ◌≤◌, true, sym, subst, ⊎_elim}
 use Rattle.std.proofs.lemmas.Bool.{cases_lt}
 use Rattle.sector_map.proofs.Parts.{keeps_trans, laid_out_kept}
-use Rattle.sector_map.specs.Part.{is_member}
+use Rattle.common.specs.Masks.{is_member}
 use Rattle.flash_model.proofs.Ending.{ends_after}
 use Rattle.swap_scratch.proofs.Sums.{sum_more}
 use Rattle.trailer.specs.Settled.{is_confirmed}

@@ -1,7 +1,8 @@
 use Rattle.std.proofs.Common.{◌≡◌, ◌+◌, ◌*◌, ◌<◌, ◌≤◌, ℕ, true, false}
 use Rattle.flash_model.specs.Chip.{IsUncut}
 use Rattle.sector_map.specs.Map.{IsLaidOut, Keeps}
-use Rattle.sector_map.specs.Part.{is_member, trailers_in}
+use Rattle.sector_map.specs.Part.{trailers_in}
+use Rattle.common.specs.Masks.{is_member}
 use Rattle.swap_scratch.specs.Swap.{sum_over}
 use Rattle.trailer.specs.Settled.{is_confirmed}
 use Rattle.upload.specs.View.{view}

@@ -16,7 +16,7 @@ use Rattle.boot_core.specs.Journal.{AsksAtMost, Begins}
 use Rattle.flash_model.specs.Chip.{Chip}
 use Rattle.decision.specs.Found.{HasTable, IsFindingHeld}
 use Rattle.sector_map.specs.Map.{IsLaidOut}
-use Rattle.sector_map.specs.Part.{is_member}
+use Rattle.common.specs.Masks.{is_member}
 use Rattle.boot_core.proofs.Measured.{fresh_same}
 use Rattle.boot_core.proofs.OnMap.{layout_same}
 use Rattle.boot_core.proofs.Resting.{rests_somehow}

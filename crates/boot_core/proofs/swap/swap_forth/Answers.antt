@@ -19,7 +19,8 @@ use Rattle.boot_core.proofs.Passed.{passes_err, then_ends, then_ok}
 use Rattle.boot_core.proofs.Undecided.{alone_for, never_again, never_recorded, starts_settled}
 use Rattle.boot_core.specs.Found.{StartsFound}
 use Rattle.boot_core.specs.Moving.{settled_parts}
-use Rattle.sector_map.specs.Part.{Log, is_member, only}
+use Rattle.sector_map.specs.Part.{Log, only}
+use Rattle.common.specs.Masks.{is_member}
 use Rattle.sector_map.specs.declared.layout.Side.TheVariants.{Primary}
 use Rattle.upload.specs.View.{view}
 use Rattle.boot_core.proofs.Undecided.{decided_in, undecided_in}

@@ -1,7 +1,7 @@
 use Rattle.std.proofs.Common.{◌≡◌, ◌∙◌, ◌+◌, ◌∷◌, ◌++◌, [], ℕ, true, false, ap, append-nil, arith, decimal, if◌then◌else◌, rules, sym}
 use Rattle.std.specs.List.{flat_map, range_with_len}
 use Rattle.std.proofs.Output.{has_written_append, has_written_of_eq}
-use Rattle.sector_map.specs.Part.{is_member}
+use Rattle.common.specs.Masks.{is_member}
 use Rattle.device_texts.specs.ReplyText.{member_text, set_text}
 use Rattle.device_texts.proofs.TextLaws.{flat_map-range_more}
 use Rattle.device_texts.proofs.replies.write_members.Goals as goal

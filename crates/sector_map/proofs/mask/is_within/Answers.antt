@@ -1,6 +1,6 @@
 use Rattle.std.proofs.Common.{rules, arith, ◌≡◌, ◌/◌, ◌^◌, ◌<◌, ap}
 use Rattle.std.proofs.lemmas.Bool.Decides.{nat_tests}
-use Rattle.sector_map.proofs.Masks.{below_shift, shift_below}
+use Rattle.common.proofs.Masks.{below_shift, shift_below}
 use Rattle.sector_map.proofs.mask.is_within.Goals as goal
 
 pub returns : goal.returns

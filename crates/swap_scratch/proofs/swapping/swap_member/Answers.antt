@@ -1,6 +1,6 @@
 use Rattle.std.proofs.Common.{rules, arith, ◌≡◌, true}
 use Rattle.std.proofs.lemmas.Result.{on_ok_weaker}
-use Rattle.sector_map.specs.Part.{is_member}
+use Rattle.common.specs.Masks.{is_member}
 use Rattle.swap_scratch.proofs.Members.{resumed, finished, counted_on}
 use Rattle.swap_scratch.proofs.Asking.{asks_shifted}
 use Rattle.swap_scratch.proofs.Sums.{done_by_one, shares_erased}

@@ -12,7 +12,7 @@ use Rattle.swap_scratch.proofs.Contents.{swapped_one}
 use Rattle.flash_model.specs.Chip.{Chip}
 use Rattle.sector_map.specs.declared.layout.SectorMap.{SectorMap}
 use Rattle.sector_map.specs.declared.layout.Side.{Side}
-use Rattle.sector_map.specs.Part.{is_member}
+use Rattle.common.specs.Masks.{is_member}
 use Rattle.flash_model.proofs.Ending.{uncut_refl, uncut_trans, ends_after}
 use Rattle.flash_model.proofs.Ending.{at_error, ends_passed, ends_well, asleep_trans}
 use Rattle.swap_scratch.proofs.swapping.swap_set.Goals as goal

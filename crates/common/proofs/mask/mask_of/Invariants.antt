@@ -1,6 +1,6 @@
 use Rattle.std.proofs.Common.{◌≡◌, ◌≤◌, drop, length}
-use Rattle.sector_map.proofs.Masks.{mask_in}
-use Rattle.sector_map.proofs.mask.mask_of.Given as goal
+use Rattle.common.proofs.Masks.{mask_in}
+use Rattle.common.proofs.mask.mask_of.Given as goal
 
 abbrev pub invariant-loop-left : goal.invariant-loop-left
 invariant-loop-left l = record {

@@ -4,7 +4,7 @@ use Rattle.std.proofs.lemmas.Bool.{cases_lt}
 use Rattle.std.proofs.lemmas.Bool.Decides.{nat_tests}
 use Rattle.std.proofs.lemmas.Nat.{pow-add}
 use Rattle.std.proofs.Math.Nat.{div-one, div-le_self, div-div-eq-div-mul, pow-succ'}
-use Rattle.sector_map.specs.Part.{is_member}
+use Rattle.common.specs.Masks.{is_member}
 
 -- Shifting a shifted mask is one shift by the sum.
 shifted : (mask n i : ℕ) → mask / 2 ^ n / 2 ^ i ≡ mask / 2 ^ (n + i)

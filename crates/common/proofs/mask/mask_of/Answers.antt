@@ -1,7 +1,7 @@
 use Rattle.std.proofs.Common.{◌≡◌, ◌^◌, ◌<◌, arith, ap, sym, ◌∙◌, drop, length-drop}
-use Rattle.sector_map.specs.Part.{is_member}
-use Rattle.sector_map.proofs.Masks.{mask_in, mask_below, members_in, same_members}
-use Rattle.sector_map.proofs.mask.mask_of.Goals as goal
+use Rattle.common.specs.Masks.{is_member}
+use Rattle.common.proofs.Masks.{mask_in, mask_below, members_in, same_members}
+use Rattle.common.proofs.mask.mask_of.Goals as goal
 
 pub overflow_mul-mask : goal.overflow_mul-mask
 overflow_mul-mask c =
