@@ -62,17 +62,17 @@ impl fmt::Display for Outcome {
     }
 }
 
-/// Decides over the table of a device, with its requests replaced by those of a release.
-pub fn outcome_of(requests: &Requests, table: &Bounded) -> Outcome
-    ensures { (text : List ℕ) → Holds text table.now → IsOutcome requests.now.entries text result }
+/// Decides over the table of a device with this text, with its requests replaced by those of a
+/// release. The table is written to `place`, since it is large.
+pub fn outcome_of(requests: &Requests, text: &Bounded, place: &mut Table) -> Outcome
+    ensures { (bytes : List ℕ) → Holds bytes text.now
+        → IsOutcome requests.now.entries bytes result }
 {
-    if table.is_too_long {
+    if text.is_too_long {
         return Outcome::TooLong;
     }
-    // The table is large, so it isn't moved.
-    let mut parsed = Table::parse(&table.bytes);
-    match &mut parsed {
-        Ok(table) => decide(requests, table),
+    match Table::parse_into(&text.bytes, place) {
+        Ok(()) => decide(requests, place),
         Err(bad) => Outcome::BadLine(bad.0),
     }
 }

@@ -18,6 +18,7 @@ use crate::fleet::requests::Requests;
 use crate::fleet::result_lines::write_result;
 use crate::fleet::summary::Summary;
 use crate::fleet::telling::{Telling, Told};
+use certificate::Table;
 use common::ascii::cut;
 use host::Refusal;
 use std::alloc::{AllocError, Global};
@@ -99,6 +100,8 @@ pub struct Planner {
     device: Option<Current>,
     /// A device that has its result. Its memory is used for the next one.
     spare: Option<Current>,
+    /// A place for the table of a device.
+    table: Table,
     /// Where the results go.
     pub told: Told,
     /// Whether the result of a device is no report.
@@ -115,6 +118,7 @@ impl Planner {
             line: Bounded::new(alloc),
             device: None,
             spare: None,
+            table: Table::default(),
             told: match telling {
                 Telling::Devices(form) => Told::Written(form),
                 Telling::Summary(form) => Told::Counted(form, Summary::new(alloc)),
@@ -322,7 +326,7 @@ impl Planner {
         let Some(device) = self.device.take() else {
             return Ok(());
         };
-        let outcome = outcome_of(requests, &device.table);
+        let outcome = outcome_of(requests, &device.table, &mut self.table);
         tell(self.alloc, &mut self.told, &device, &outcome, notes, out)?;
         self.has_bad = self.has_bad || outcome.is_bad();
         self.spare = Some(device);
