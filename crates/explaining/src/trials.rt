@@ -1,9 +1,9 @@
 //! Explains which images are on trial though they were requested permanently.
 
 use crate::Result;
-use certificate::Report;
 use common::limits::MOST_IMAGES;
 use device_texts::NoteList;
+use reports::Report;
 use sector_map::{SectorMap, Side, is_member};
 
 /// The distance in bytes of the unit `image_ok` from the end of its trailer's sector. The unit is
