@@ -9,7 +9,7 @@ use Rattle.sector_map.specs.Map.{IsLaidOut, Keeps}
 use Rattle.set_log.specs.declared.state.RecordKind.TheVariants as log
 use Rattle.set_log.specs.declared.state.State.{State}
 use Rattle.set_log.specs.Log.{state_of}
-use Rattle.certificate.specs.declared.table.Table.{Table}
+use Rattle.reports.specs.declared.table.Table.{Table}
 use Rattle.upload.specs.View.{view}
 use Rattle.upload.specs.Device.{DeviceState}
 use Rattle.machine.specs.Holding.{AreSettled, IsSwapped}

@@ -3,10 +3,10 @@ use Rattle.std.proofs.Common.{◌≡◌, ◌≢◌, ℕ, zero, suc, ◌+◌, ◌
 use Rattle.std.specs.Option.{option_map_or}
 use Rattle.std.proofs.lemmas.Bool.{cases_eq, cases_lt}
 use Rattle.std.proofs.lemmas.Option.{slice_get-map, unwrap_or-slice_get}
-use Rattle.common.specs.Masks.{is_member}
-use Rattle.certificate.specs.declared.report.Report.{Report}
-use Rattle.certificate.specs.declared.report.ReportedImage.{ReportedImage}
-use Rattle.certificate.specs.Rightness.{taken_in}
+use Rattle.sector_map.specs.Part.{is_member}
+use Rattle.reports.specs.declared.report.Report.{Report}
+use Rattle.reports.specs.declared.report.ReportedImage.{ReportedImage}
+use Rattle.reports.specs.Rightness.{taken_in}
 use Rattle.flash_model.specs.Chip.{Chip}
 use Rattle.sector_map.specs.declared.layout.SectorMap.{SectorMap}
 use Rattle.trailer.specs.Standing.{standing_of}

@@ -5,16 +5,15 @@ use Rattle.flash_model.specs.Chip.{Chip}
 use Rattle.sector_map.specs.declared.layout.SectorMap.{SectorMap}
 use Rattle.sector_map.specs.declared.layout.Side.TheVariants.{Primary, Secondary}
 use Rattle.sector_map.specs.Map.{Keeps}
-use Rattle.sector_map.specs.Part.{Log, only}
-use Rattle.common.specs.Masks.{is_member}
-use Rattle.certificate.specs.declared.table.Entry.{Entry}
-use Rattle.certificate.specs.declared.table.Image.{Image}
-use Rattle.certificate.specs.declared.table.Request.{Request}
-use Rattle.certificate.specs.declared.table.Table.{Table}
-use Rattle.certificate.specs.declared.table.Request.TheVariants as request
-use Rattle.certificate.specs.declared.report.Report.{Report}
-use Rattle.certificate.specs.Combination.{IsGreatest, MayReplace, entry_in, image_at, intact_entry}
-use Rattle.certificate.specs.Rightness.{taken_in}
+use Rattle.sector_map.specs.Part.{Log, is_member, only}
+use Rattle.reports.specs.declared.table.Entry.{Entry}
+use Rattle.reports.specs.declared.table.Image.{Image}
+use Rattle.reports.specs.declared.table.Request.{Request}
+use Rattle.reports.specs.declared.table.Table.{Table}
+use Rattle.reports.specs.declared.table.Request.TheVariants as request
+use Rattle.reports.specs.declared.report.Report.{Report}
+use Rattle.reports.specs.Combination.{IsGreatest, MayReplace, entry_in, image_at, intact_entry}
+use Rattle.reports.specs.Rightness.{taken_in}
 use Rattle.trailer.specs.Fields.{Fields}
 use Rattle.trailer.specs.declared.kinds.Kind.{Kind}
 use Rattle.set_log.specs.declared.state.State.{State}

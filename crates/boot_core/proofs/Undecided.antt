@@ -5,8 +5,8 @@ use Rattle.sector_map.specs.declared.layout.SectorMap.{SectorMap}
 use Rattle.sector_map.specs.declared.layout.Side.TheVariants.{Primary}
 use Rattle.sector_map.specs.Map.{Keeps}
 use Rattle.sector_map.specs.Part.{swap_of}
-use Rattle.certificate.specs.declared.table.Table.{Table}
-use Rattle.certificate.specs.declared.report.Report.{Report}
+use Rattle.reports.specs.declared.table.Table.{Table}
+use Rattle.reports.specs.declared.report.Report.{Report}
 use Rattle.set_log.specs.declared.state.State.{State}
 use Rattle.upload.specs.Device.{DeviceState}
 use Rattle.upload.specs.View.{View, view}
@@ -24,7 +24,7 @@ use Rattle.decision.specs.declared.places.Verdict.TheVariants as verdicts
 use Rattle.boot_core.specs.Found.{IsKeptFor, IsSwapAloneFor, IsToldAgain, StartsFound}
 use Rattle.boot_core.specs.Moving.{settled_parts}
 use Rattle.machine.proofs.Starting.{set_kept}
-use Rattle.certificate.specs.Rightness.{taken_in}
+use Rattle.reports.specs.Rightness.{taken_in}
 use Rattle.boot_core.specs.FromSwap.{IsSettleRecorded}
 
 -- A finding is no decision.

@@ -3,7 +3,7 @@ use Rattle.std.specs.Prelude.{◌≡◌, ℕ, Bool, true, List, Some, Result, If
 use Rattle.flash_model.specs.Chip.{Chip, Ends}
 use Rattle.flash_model.specs.declared.error.FlashError.{FlashError}
 use Rattle.sector_map.specs.declared.layout.SectorMap.{SectorMap}
-use Rattle.certificate.specs.declared.table.Table.{Table}
+use Rattle.reports.specs.declared.table.Table.{Table}
 use Rattle.trailer.specs.Standing.{standing_of}
 use Rattle.trailer.specs.declared.kinds.Kind.TheVariants.{Permanent}
 use Rattle.upload.specs.Device.{DeviceState}

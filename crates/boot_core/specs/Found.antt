@@ -5,11 +5,10 @@ use Rattle.flash_model.specs.Chip.{Chip}
 use Rattle.sector_map.specs.declared.layout.SectorMap.{SectorMap}
 use Rattle.sector_map.specs.declared.layout.Side.TheVariants.{Primary, Secondary}
 use Rattle.sector_map.specs.Map.{Keeps}
-use Rattle.sector_map.specs.Part.{swap_of}
-use Rattle.common.specs.Masks.{is_member}
-use Rattle.certificate.specs.declared.table.Table.{Table}
-use Rattle.certificate.specs.Combination.{IsGreatest, IsValid, running_set}
-use Rattle.certificate.specs.Rightness.{taken_in}
+use Rattle.sector_map.specs.Part.{is_member, swap_of}
+use Rattle.reports.specs.declared.table.Table.{Table}
+use Rattle.reports.specs.Combination.{IsGreatest, IsValid, running_set}
+use Rattle.reports.specs.Rightness.{taken_in}
 use Rattle.set_log.specs.declared.state.State.{State}
 use Rattle.set_log.specs.declared.state.RecordKind.TheVariants as log
 use Rattle.upload.specs.View.{View, view}

@@ -8,7 +8,7 @@ use Rattle.sector_map.specs.Map.{IsLaidOut, Keeps}
 use Rattle.sector_map.specs.Part.{Log, only, trailers_in}
 use Rattle.common.specs.Masks.{is_member}
 use Rattle.sector_map.specs.declared.layout.SectorMap.{SectorMap}
-use Rattle.certificate.specs.declared.table.Table.{Table}
+use Rattle.reports.specs.declared.table.Table.{Table}
 use Rattle.trailer.specs.Settled.{is_confirmed}
 use Rattle.trailer.specs.declared.kinds.Settling.{Settling}
 use Rattle.set_log.specs.Log.{state_of}

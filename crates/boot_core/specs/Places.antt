@@ -1,6 +1,6 @@
 -- The reply of a boot that fills places of its caller.
-use Rattle.certificate.specs.declared.table.Table.{Table}
-use Rattle.certificate.specs.declared.report.Report.{Report}
+use Rattle.reports.specs.declared.table.Table.{Table}
+use Rattle.reports.specs.declared.report.Report.{Report}
 use Rattle.machine.specs.declared.reply.Reply.{Reply}
 use Rattle.machine.specs.declared.reply.Reply.TheVariants as reply
 use Rattle.boot_core.specs.declared.outcome.Outcome.{Outcome}

@@ -2,8 +2,8 @@
 //!
 //! It continues a boot from `trial`, or one that a power cut interrupted.
 
-ghost use Rattle.certificate.specs.declared.table.Table.{Table};
-ghost use Rattle.certificate.specs.declared.report.Report.{Report};
+ghost use Rattle.reports.specs.declared.table.Table.{Table};
+ghost use Rattle.reports.specs.declared.report.Report.{Report};
 ghost use Rattle.decision.specs.Places.{read_as};
 ghost use Rattle.boot_core.specs.Places.{reply_in};
 ghost use Rattle.boot_core.specs.FromBack.{BootsFromBack, BootsFromBackSettle, FinishesBack, RecordsBack, RecordsReturned, Reverts, SettlesAndReturns, SwapsBack};

@@ -3,11 +3,11 @@
 
 ghost use Rattle.std.specs.Prelude.{◌<◌, ◌≤◌, ◌≡◌, ℕ, ◌^◌, length};
 ghost use Rattle.sector_map.specs.Map.{HasImage, IsLaidOut};
-ghost use Rattle.common.specs.Masks.{is_member};
-ghost use Rattle.certificate.specs.declared.table.Table.{Table};
-ghost use Rattle.certificate.specs.declared.report.Report.{Report};
-ghost use Rattle.certificate.specs.Combination.{entry_in};
-ghost use Rattle.certificate.specs.Rightness.{taken_in};
+ghost use Rattle.sector_map.specs.Part.{is_member};
+ghost use Rattle.reports.specs.declared.table.Table.{Table};
+ghost use Rattle.reports.specs.declared.report.Report.{Report};
+ghost use Rattle.reports.specs.Combination.{entry_in};
+ghost use Rattle.reports.specs.Rightness.{taken_in};
 ghost use Rattle.machine.specs.Reading.{AreRaisedBy};
 ghost use Rattle.decision.specs.Telling.{Tells};
 ghost use Rattle.decision.specs.Places.{finding_in, read_as};
@@ -16,13 +16,13 @@ ghost use Rattle.boot_core.specs.Deciding.{AnswersFinding, AreForGoodIn, FindsAg
 
 use crate::outcome::Outcome;
 use arrayvec::ArrayVec;
-use certificate::{Image, Report, Request, Table};
 use common::limits::MOST_IMAGES;
 use common::mask::{is_member, mask_of};
 use decision::{Verdict, find_into};
 use flash_model::{Flash, Result};
 use machine::Fault;
-use sector_map::SectorMap;
+use reports::{Image, Report, Request, Table};
+use sector_map::{SectorMap, is_member, mask_of};
 use trailer::{Kind, standing};
 
 /// The mask of the images that a report takes.

@@ -4,8 +4,8 @@ ghost use Rattle.std.specs.Prelude.{◌≡◌, ℕ, ◌*◌, ◌<◌, ◌≤◌,
 ghost use Rattle.common.specs.Limits.{MOST_IMAGES};
 ghost use Rattle.sector_map.specs.Map.{HasImage, IsLaidOut};
 ghost use Rattle.sector_map.specs.Part.{trailers_of};
-ghost use Rattle.certificate.specs.declared.table.Entry.{Entry};
-ghost use Rattle.certificate.specs.Running.{running_row, running_table};
+ghost use Rattle.reports.specs.declared.table.Entry.{Entry};
+ghost use Rattle.validity.specs.Running.{running_row, running_table};
 ghost use Rattle.boot_core.specs.FirstState.{HoldsFirst};
 ghost use Rattle.boot_core.specs.Provisioned.{AreCounters, IsReadThere};
 ghost use Rattle.boot_core.specs.Provisioned.{any_trailer};
@@ -15,15 +15,16 @@ ghost use Rattle.decision.specs.Places.{read_as, reading_in, some_if};
 ghost use Rattle.decision.specs.Telling.{TellsUnlessOff};
 
 use arrayvec::ArrayVec;
-use certificate::{Entry, can_run_together};
 use common::limits::MOST_IMAGES;
 use decision::put_entry;
 use flash_model::{Flash, Result};
 use image_reading::{Desc, intact_image_into};
 use machine::Fault;
+use reports::Entry;
 use sector_map::{SectorMap, Side};
 use set_log::{State, start};
 use trailer::clear;
+use validity::can_run_together;
 
 /// Reads what is known of the image that a primary slot begins with into a place. Returns whether the
 /// image is intact.

@@ -14,10 +14,10 @@ use crate::outcome::Outcome;
 use crate::preparing::prepare_set;
 use crate::recording::append_state;
 use crate::swap::finish_swap;
-use certificate::{Report, Table};
 use decision::{Verdict, find_into};
 use flash_model::{Flash, Result};
 use machine::Fault;
+use reports::{Report, Table};
 use sector_map::{SectorMap, Side};
 use set_log::{RecordKind, State};
 

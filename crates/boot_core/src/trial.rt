@@ -7,8 +7,8 @@ ghost use Rattle.std.specs.Prelude.{◌<◌, ◌≤◌, ◌≡◌, ℕ, false, s
 ghost use Rattle.common.specs.Limits.{MOST_BOOTS_LEFT};
 ghost use Rattle.decision.specs.Places.{read_as};
 ghost use Rattle.boot_core.specs.Places.{reply_in};
-ghost use Rattle.certificate.specs.declared.table.Table.{Table};
-ghost use Rattle.certificate.specs.declared.report.Report.{Report};
+ghost use Rattle.reports.specs.declared.table.Table.{Table};
+ghost use Rattle.reports.specs.declared.report.Report.{Report};
 ghost use Rattle.boot_core.specs.FromTrial.{AreConfirmedIn, BeginsBack, BootsAgain, BootsBack, BootsConfirmed, BootsFromTrial, DecidesTrial, IsConfirmedIn, IsFloorIn, IsGoingOn, RaisesFloors, RecordsOver};
 ghost use Rattle.machine.specs.Reading.{AreSetOk};
 ghost use Rattle.machine.specs.Starting.{AreIntact};
@@ -25,13 +25,13 @@ use crate::outcome::Outcome;
 use crate::preparing::prepare_set;
 use crate::recording::append_state;
 use crate::steady::boot_from_steady;
-use certificate::{Report, Table};
 use common::limits::MOST_IMAGES;
 use common::mask::is_member;
 use decision::read_slot;
 use flash_model::{Flash, Result};
 use machine::{Fault, Passage};
-use sector_map::{SectorMap, Side};
+use reports::{Report, Table};
+use sector_map::{SectorMap, Side, is_member};
 use set_log::{RecordKind, State, append};
 use trailer::read_trailer;
 

@@ -33,8 +33,8 @@ pub use denote.Triple.Spec.{triple_of}
 pub use denote.Triple.Table.{framed}
 pub use denote.Triple.Walked.{Stays, says, walk_of, ends_at, stay_dropped, gave_ref, gave_slice, Goes-dropped, Goes-gave_ref, Goes-gave_slice}
 pub use borrow.Table.OneValue.{part_in}
-pub use Rattle.certificate.specs.contracts.table.Table.{the_row as table}
-pub use Rattle.certificate.proofs.table.Table.TheLaws.{the_row_laws as table_laws}
+pub use Rattle.reports.specs.contracts.table.Table.{the_row as table}
+pub use Rattle.reports.proofs.table.Table.TheLaws.{the_row_laws as table_laws}
 pub use Rattle.c_interface.specs.contracts.workspace.Workspace.{the_row as workspace}
 use seplogic.Ra.Ura.{Ura}
 use base.Logic.{SProp, ent, sep, wand, apply∗}

@@ -13,7 +13,7 @@ use Rattle.swap_scratch.specs.Place.{IsBetween, IsImagePlace, IsPartway, Sectors
 use Rattle.swap_scratch.specs.Swap.{IsSwapAt}
 use Rattle.swap_scratch.specs.Used.{used_of}
 use Rattle.set_log.specs.Log.{state_of}
-use Rattle.certificate.specs.declared.table.Table.{Table}
+use Rattle.reports.specs.declared.table.Table.{Table}
 use Rattle.upload.specs.View.{view}
 use Rattle.upload.specs.Device.{DeviceState, Machine, Session, Trial}
 use Rattle.upload.specs.Sessions.{AllClosed, HasSession, IsUploadAt, IsWritten, session_of, upload_at}

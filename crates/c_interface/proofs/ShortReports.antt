@@ -10,14 +10,14 @@ use Rattle.version_order.specs.declared.version.Version.{Version}
 use Rattle.version_order.specs.declared.dependency.Dependency.{Dependency}
 use Rattle.version_order.specs.declared.group.Group.{Group}
 use Rattle.version_order.specs.VersionText.{FitsFields, version_text}
-use Rattle.certificate.specs.declared.report.Reason.{Reason}
-use Rattle.certificate.specs.declared.report.Reason.TheVariants.{Damaged, Older, Counter, NoSuchImage, Needs, NeedsOne}
-use Rattle.certificate.specs.declared.report.Refusal.{Refusal}
-use Rattle.certificate.specs.declared.report.Report.{Report}
-use Rattle.certificate.specs.declared.report.ReportedImage.{ReportedImage}
-use Rattle.certificate.specs.declared.report_line.ReportLine.TheVariants as line
-use Rattle.certificate.specs.DependencyText.{alternatives_text, needs_one_text, FitsDependency, FitsGroup}
-use Rattle.certificate.specs.ReportText.{reason_text, refuse_lines, report_line_text, report_text, reported_line, reported_lines, FitsReason, FitsReport, FitsReportLine}
+use Rattle.reports.specs.declared.report.Reason.{Reason}
+use Rattle.reports.specs.declared.report.Reason.TheVariants.{Damaged, Older, Counter, NoSuchImage, Needs, NeedsOne}
+use Rattle.reports.specs.declared.report.Refusal.{Refusal}
+use Rattle.reports.specs.declared.report.Report.{Report}
+use Rattle.reports.specs.declared.report.ReportedImage.{ReportedImage}
+use Rattle.reports.specs.declared.report_line.ReportLine.TheVariants as line
+use Rattle.reports.specs.DependencyText.{alternatives_text, needs_one_text, FitsDependency, FitsGroup}
+use Rattle.reports.specs.ReportText.{reason_text, refuse_lines, report_line_text, report_text, reported_line, reported_lines, FitsReason, FitsReport, FitsReportLine}
 use Rattle.c_interface.specs.Texts.{HasNoRoom}
 
 -- Two texts with a byte between them.

@@ -1,7 +1,7 @@
 -- Laws of the lengths of texts in the result of a call.
 use Rattle.std.proofs.Common.{◌≡◌, ◌∙◌, ℕ, List, refl, sym, subst, ap}
-use Rattle.certificate.specs.ReportText.{report_text}
-use Rattle.certificate.specs.TableText.{table_text}
+use Rattle.reports.specs.ReportText.{report_text}
+use Rattle.reports.specs.TableText.{table_text}
 use Rattle.machine.specs.declared.reply.Reply.{Reply}
 use Rattle.machine.specs.declared.reply.Reply.TheVariants.{Done, Booted, Reverted, TrialAgain, Refused, Cut}
 use Rattle.c_interface.specs.declared.call_result.CallResult.{CallResult}

@@ -1,8 +1,8 @@
 -- The answers of the calls of a device.
 use Rattle.std.specs.Prelude.{◌≡◌, ◌<◌, ℕ, List}
 use Rattle.std.specs.Borrow.{Bor}
-use Rattle.certificate.specs.ReportText.{report_text}
-use Rattle.certificate.specs.TableText.{table_text}
+use Rattle.reports.specs.ReportText.{report_text}
+use Rattle.reports.specs.TableText.{table_text}
 use Rattle.manifest.specs.declared.manifest.Manifest.{Manifest}
 use Rattle.machine.specs.declared.reply.Reply.{Reply}
 use Rattle.machine.specs.declared.reply.Reply.TheVariants.{Booted}

@@ -1,13 +1,13 @@
 -- The answers of the choice and of the check, for tables and reports that are texts.
 use Rattle.std.specs.Prelude.{◌≡◌, ℕ, ◌<◌, ◌≤◌, ◌++◌, List, drop, length}
 use Rattle.common.specs.Lines.{IsFirstBadLine}
-use Rattle.certificate.specs.declared.table.Table.{Table}
-use Rattle.certificate.specs.declared.report.Report.{Report}
-use Rattle.certificate.specs.Combination.{IsValid, running_set}
-use Rattle.certificate.specs.ReportText.{IsReportText, IsSomeReport, report_text}
-use Rattle.certificate.specs.Rightness.{IsRight}
-use Rattle.certificate.specs.StandardOrder.{IsInStandardOrder}
-use Rattle.certificate.specs.TableText.{IsSomeTable, IsTableText}
+use Rattle.reports.specs.declared.table.Table.{Table}
+use Rattle.reports.specs.declared.report.Report.{Report}
+use Rattle.reports.specs.Combination.{IsValid, running_set}
+use Rattle.reports.specs.ReportText.{IsReportText, IsSomeReport, report_text}
+use Rattle.reports.specs.Rightness.{IsRight}
+use Rattle.reports.specs.StandardOrder.{IsInStandardOrder}
+use Rattle.reports.specs.TableText.{IsSomeTable, IsTableText}
 use Rattle.c_interface.specs.Texts.{MOST_REPORT}
 use Rattle.c_interface.specs.Numbers.{DONE, INVALID_SET, NO_REPORT, TOO_SMALL, NO_TABLE, WRONG}
 

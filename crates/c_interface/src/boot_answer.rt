@@ -11,8 +11,8 @@ use crate::call_result::{CallResult, NO_RESULT, fault_result, report_result};
 use crate::numbers::{BOOTED, CUT, REFUSED, REVERTED, TRIAL_AGAIN};
 use crate::texts::{Lengths, NO_TEXTS, put_report, put_table};
 use boot_core::apart::Outcome;
-use certificate::{Report, Table};
 use machine::Fault;
+use reports::{Report, Table};
 
 /// What a boot answers: its outcome, and the places of the table and the report of its decision. They
 /// have 8 kB, so the boot fills them where they are.

@@ -11,9 +11,9 @@ ghost use Rattle.machine.specs.Codes.{code_of};
 
 use crate::texts::Lengths;
 use arrayvec::ArrayVec;
-use certificate::{Reason, Refusal, Report, ReportedImage};
 use common::limits::{MOST_ALTERNATIVES, MOST_IMAGES};
 use machine::Fault;
+use reports::{Reason, Refusal, Report, ReportedImage};
 use upload::UploadError;
 use version_order::{Dependency, Version};
 

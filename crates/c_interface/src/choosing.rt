@@ -12,8 +12,10 @@ ghost use Rattle.c_interface.specs.contracts.workspace.Workspace.{the_row as wor
 use crate::numbers::{DONE, INVALID_SET, NO_REPORT, NO_TABLE, TOO_SMALL, WRONG};
 use crate::texts::put_report;
 use crate::workspace::Workspace;
-use certificate::{BadReport, BadTable, Report, Table, check, is_valid};
+use checker::check;
 use chooser::choose_into;
+use reports::{BadReport, BadTable, Report, Table};
+use validity::is_valid;
 
 /// Chooses among the requests of a table, which is a text, and writes the text of the report to the
 /// front of `buffer`. The table is read to a place, which may hold any. Both calls from C have this

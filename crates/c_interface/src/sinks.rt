@@ -5,7 +5,7 @@
 ghost use Rattle.std.specs.Prelude.{◌≡◌, MatchOption};
 ghost use Rattle.c_interface.specs.Sinks.{FitsIn, IsWithin};
 
-use certificate::Sink;
+use reports::Sink;
 use std::convert::Infallible;
 
 /// Counts the bytes of a text, up to 2^64 - 1.

@@ -1,11 +1,11 @@
 //! Tables and reports as texts in the caller's buffer.
 
-ghost use Rattle.certificate.specs.ReportText.{report_text};
-ghost use Rattle.certificate.specs.TableText.{table_text};
+ghost use Rattle.reports.specs.ReportText.{report_text};
+ghost use Rattle.reports.specs.TableText.{table_text};
 ghost use Rattle.c_interface.specs.Texts.{IsTried};
 
 use crate::sinks::{BufferSink, LengthSink};
-use certificate::{Report, Table};
+use reports::{Report, Table};
 
 /// Writes the text of a table to the front of a buffer, if it fits, and returns its length.
 pub(crate) fn put_table(table: &Table, buffer: &mut [u8]) -> Option<u32>

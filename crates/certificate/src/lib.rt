@@ -1,43 +1,17 @@
-//! Tables of running and requested images, reports of a choice among them, and the check that a
-//! report is right.
+//! The names of tables, reports and their check in one crate, for programs that use the libraries.
 //!
-//! - Promises: Tables and reports are read exactly, and a refusal names the first bad line. A yes
-//!   says that a report is right, and the set of a right report is the greatest valid one.
-//! - Main calls: `Table::parse`, `Report::parse`, and `parse_into` of both; `is_valid`, `check`,
-//!   `first_flaw`
 //! - Allocates: no.
 //! - Callers: any crate.
 //!
-//! A report says why each request is refused, so anybody can check a choice without the program
-//! that made it.
+//! It only passes on names: those of `reports`, and of the calls that check a table (`validity`) or
+//! a report (`checker`).
 #![tactic(auto)]
 
-mod checking;
-mod depending;
-mod error;
-mod laws;
-mod needs;
-mod printing;
-mod report;
-mod report_line;
-mod report_reading;
-mod running;
-mod sink;
-mod table;
-mod table_line;
-mod table_placing;
-mod table_reading;
-mod validity;
-
-pub use checking::{Flaw, check, first_flaw};
-pub use depending::dependants;
-pub use error::{BadReport, BadTable};
-pub use laws::{
-    greatest_sets_are_equal, greatest_sets_have_the_newest_versions, reports_are_read_back,
-    right_reports_are_greatest, right_reports_have_a_text, tables_are_read_back,
+pub use checker::{Flaw, check, first_flaw};
+pub use reports::{
+    BadReport, BadTable, Entry, Image, MOST_REFUSALS, Needs, NeedsOne, Reason, Refusal, Report,
+    ReportedImage, Request, Sink, Table, greatest_sets_are_equal,
+    greatest_sets_have_the_newest_versions, reports_are_read_back, right_reports_are_greatest,
+    right_reports_have_a_text, tables_are_read_back,
 };
-pub use needs::{Needs, NeedsOne};
-pub use report::{MOST_REFUSALS, Reason, Refusal, Report, ReportedImage};
-pub use sink::Sink;
-pub use table::{Entry, Image, Request, Table};
-pub use validity::{can_run_together, is_valid};
+pub use validity::{can_run_together, dependants, is_valid};

@@ -8,23 +8,23 @@ use Rattle.std.proofs.lemmas.List.Folds.{list_any-append}
 use Rattle.std.proofs.lemmas.List.Sums.{sum_by_push}
 use Rattle.version_order.specs.declared.dependency.Dependency.{Dependency}
 use Rattle.version_order.specs.Order.{is_older}
-use Rattle.certificate.specs.declared.table.Entry.{Entry}
-use Rattle.certificate.specs.declared.table.Request.{Request}
-use Rattle.certificate.specs.declared.table.Request.TheVariants as request
-use Rattle.certificate.specs.declared.table.Image.{Image}
-use Rattle.certificate.specs.declared.table.Table.{Table}
-use Rattle.certificate.specs.declared.report.Reason.{Reason}
-use Rattle.certificate.specs.declared.report.Reason.TheVariants.{Damaged, Older, Counter, NoSuchImage}
-use Rattle.certificate.specs.declared.report.Refusal.{Refusal}
-use Rattle.certificate.specs.Combination.{image_at, intact_entry}
-use Rattle.certificate.specs.Dependants.{asks_for, is_dependant, names}
-use Rattle.certificate.specs.Reasons.{is_refused}
-use Rattle.certificate.specs.Rightness.{has_request, once_if}
-use Rattle.certificate.specs.StandardOrder.{is_missing, own_reason, own_refusal, own_refusals, IsNextNeed}
+use Rattle.reports.specs.declared.table.Entry.{Entry}
+use Rattle.reports.specs.declared.table.Request.{Request}
+use Rattle.reports.specs.declared.table.Request.TheVariants as request
+use Rattle.reports.specs.declared.table.Image.{Image}
+use Rattle.reports.specs.declared.table.Table.{Table}
+use Rattle.reports.specs.declared.report.Reason.{Reason}
+use Rattle.reports.specs.declared.report.Reason.TheVariants.{Damaged, Older, Counter, NoSuchImage}
+use Rattle.reports.specs.declared.report.Refusal.{Refusal}
+use Rattle.reports.specs.Combination.{image_at, intact_entry}
+use Rattle.validity.specs.Dependants.{asks_for, is_dependant, names}
+use Rattle.reports.specs.Reasons.{is_refused}
+use Rattle.reports.specs.Rightness.{has_request, once_if}
+use Rattle.reports.specs.StandardOrder.{is_missing, own_reason, own_refusal, own_refusals, IsNextNeed}
 use Rattle.common.proofs.Options.{option_map_or-true}
 use Rattle.common.proofs.Lists.{count_by-none}
-use Rattle.certificate.proofs.Counts.{IsOnce, IsOnce-push, length-once}
-use Rattle.certificate.proofs.Requests.{has_request-intact}
+use Rattle.reports.proofs.Counts.{IsOnce, IsOnce-push, length-once}
+use Rattle.reports.proofs.Requests.{has_request-intact}
 use Rattle.chooser.specs.declared.steps.Steps.{Steps}
 use Rattle.chooser.specs.Counted.{drops_in, is_dependent, is_drop}
 use Rattle.chooser.proofs.Order.{HasNeed-from_reason}

@@ -7,17 +7,17 @@ use Rattle.std.proofs.lemmas.Map.Keys.{any_passes_from_place}
 use Rattle.std.proofs.lemmas.Option.{IfSome_then, none-some, same_Some}
 use Rattle.version_order.specs.declared.dependency.Dependency.{Dependency}
 use Rattle.version_order.specs.Order.{is_older, IsOlder}
-use Rattle.certificate.specs.declared.table.Entry.{Entry}
-use Rattle.certificate.specs.declared.table.Request.{Request}
-use Rattle.certificate.specs.declared.table.Request.TheVariants as request
-use Rattle.certificate.specs.declared.table.Image.{Image}
-use Rattle.certificate.specs.declared.table.Table.{Table}
-use Rattle.certificate.specs.declared.report.Reason.{Reason}
-use Rattle.certificate.specs.declared.report.Reason.TheVariants.{Damaged, Older, Counter, NoSuchImage, Needs, NeedsOne}
-use Rattle.certificate.specs.declared.report.Refusal.{Refusal}
-use Rattle.certificate.specs.Combination.{image_at, intact_entry, RequestMeets}
-use Rattle.certificate.specs.Reasons.{is_group_out_of_reach, is_out_of_reach, ReasonHolds, IsFounded}
-use Rattle.certificate.specs.StandardOrder.{missing_image, own_reason, own_reason_of_entry, own_refusal, own_refusals, needs_reason, IsInStandardOrder}
+use Rattle.reports.specs.declared.table.Entry.{Entry}
+use Rattle.reports.specs.declared.table.Request.{Request}
+use Rattle.reports.specs.declared.table.Request.TheVariants as request
+use Rattle.reports.specs.declared.table.Image.{Image}
+use Rattle.reports.specs.declared.table.Table.{Table}
+use Rattle.reports.specs.declared.report.Reason.{Reason}
+use Rattle.reports.specs.declared.report.Reason.TheVariants.{Damaged, Older, Counter, NoSuchImage, Needs, NeedsOne}
+use Rattle.reports.specs.declared.report.Refusal.{Refusal}
+use Rattle.reports.specs.Combination.{image_at, intact_entry, RequestMeets}
+use Rattle.reports.specs.Reasons.{is_group_out_of_reach, is_out_of_reach, ReasonHolds, IsFounded}
+use Rattle.reports.specs.StandardOrder.{missing_image, own_reason, own_reason_of_entry, own_refusal, own_refusals, needs_reason, IsInStandardOrder}
 use Rattle.common.proofs.Options.{IfSome-from, IsSomeAnd-from, no_value, option_map-Some}
 use Rattle.common.proofs.Lists.{StandsIn, find-Some, Contains-from_stands, filter_map-source, each-append}
 use Rattle.common.proofs.Numbered.{numbered-stands}

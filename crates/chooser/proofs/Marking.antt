@@ -11,18 +11,18 @@ use Rattle.std.proofs.lemmas.Option.{none-some, slice_get_past, slice_get_within
 use Rattle.version_order.specs.declared.dependency.Dependency.{Dependency}
 use Rattle.version_order.specs.declared.group.Group.{Group}
 use Rattle.version_order.specs.Order.{is_older}
-use Rattle.certificate.specs.declared.table.Entry.{Entry}
-use Rattle.certificate.specs.declared.table.Image.{Image}
-use Rattle.certificate.specs.declared.table.Table.{Table}
-use Rattle.certificate.specs.declared.report.Reason.{Reason}
-use Rattle.certificate.specs.declared.report.Reason.TheVariants.{Needs, NeedsOne}
-use Rattle.certificate.specs.declared.report.Refusal.{Refusal}
-use Rattle.certificate.specs.Combination.{image_at, intact_entry}
-use Rattle.certificate.specs.Dependants.{asks_for, has_alternative, is_dependant, names}
-use Rattle.certificate.specs.Reasons.{depends_on, is_group_out_of_reach, is_in_reach, is_out_of_reach, is_refused, newest_version, requested_version}
-use Rattle.certificate.specs.Rightness.{once_if}
-use Rattle.certificate.specs.StandardOrder.{needs_reason, needs_reason_of_entry, unmet_dependency, unmet_group, IsNextNeed}
-use Rattle.certificate.proofs.DependantLaws.{is_dependant-past}
+use Rattle.reports.specs.declared.table.Entry.{Entry}
+use Rattle.reports.specs.declared.table.Image.{Image}
+use Rattle.reports.specs.declared.table.Table.{Table}
+use Rattle.reports.specs.declared.report.Reason.{Reason}
+use Rattle.reports.specs.declared.report.Reason.TheVariants.{Needs, NeedsOne}
+use Rattle.reports.specs.declared.report.Refusal.{Refusal}
+use Rattle.reports.specs.Combination.{image_at, intact_entry}
+use Rattle.validity.specs.Dependants.{asks_for, has_alternative, is_dependant, names}
+use Rattle.reports.specs.Reasons.{depends_on, is_group_out_of_reach, is_in_reach, is_out_of_reach, is_refused, newest_version, requested_version}
+use Rattle.reports.specs.Rightness.{once_if}
+use Rattle.reports.specs.StandardOrder.{needs_reason, needs_reason_of_entry, unmet_dependency, unmet_group, IsNextNeed}
+use Rattle.validity.proofs.DependantLaws.{is_dependant-past}
 use Rattle.chooser.specs.Marks.{AreMarks, AreMarksApartFrom, has_need, is_left_dependant}
 use Rattle.chooser.proofs.Order.{HasNeed-from_reason}
 use Rattle.chooser.proofs.Searches.{find-same, list_any-same}

@@ -7,19 +7,19 @@ use Rattle.std.proofs.lemmas.List.Folds.{list_any-append}
 use Rattle.std.proofs.lemmas.Option.{option_and_then_some}
 use Rattle.version_order.specs.declared.dependency.Dependency.{Dependency}
 use Rattle.version_order.specs.declared.group.Group.{Group}
-use Rattle.certificate.specs.declared.table.Entry.{Entry}
-use Rattle.certificate.specs.declared.table.Image.{Image}
-use Rattle.certificate.specs.declared.table.Table.{Table}
-use Rattle.certificate.specs.declared.report.Reason.{Reason}
-use Rattle.certificate.specs.declared.report.Reason.TheVariants.{Needs, NeedsOne}
-use Rattle.certificate.specs.declared.report.Refusal.{Refusal}
-use Rattle.certificate.specs.Combination.{image_at, intact_entry}
-use Rattle.certificate.specs.Reasons.{is_refused, is_group_out_of_reach, is_out_of_reach}
-use Rattle.certificate.specs.StandardOrder.{own_reason, own_refusals, needs_reason, needs_reason_of_entry, unmet_dependency, unmet_group, IsNextNeed, IsInStandardOrder}
+use Rattle.reports.specs.declared.table.Entry.{Entry}
+use Rattle.reports.specs.declared.table.Image.{Image}
+use Rattle.reports.specs.declared.table.Table.{Table}
+use Rattle.reports.specs.declared.report.Reason.{Reason}
+use Rattle.reports.specs.declared.report.Reason.TheVariants.{Needs, NeedsOne}
+use Rattle.reports.specs.declared.report.Refusal.{Refusal}
+use Rattle.reports.specs.Combination.{image_at, intact_entry}
+use Rattle.reports.specs.Reasons.{is_refused, is_group_out_of_reach, is_out_of_reach}
+use Rattle.reports.specs.StandardOrder.{own_reason, own_refusals, needs_reason, needs_reason_of_entry, unmet_dependency, unmet_group, IsNextNeed, IsInStandardOrder}
 use Rattle.common.proofs.Options.{option_map-Some}
 use Rattle.common.proofs.Lists.{each-push}
-use Rattle.certificate.proofs.Requests.{has_request-intact}
-use Rattle.certificate.proofs.Counts.{IsOnce, IsOnce-push, length-once}
+use Rattle.reports.proofs.Requests.{has_request-intact}
+use Rattle.reports.proofs.Counts.{IsOnce, IsOnce-push, length-once}
 use Rattle.chooser.proofs.Searches.{option_or-Some}
 use Rattle.chooser.proofs.OwnRefusals.{IsOnce-own_refusals, own_reason-unlisted}
 

@@ -5,19 +5,19 @@ use Rattle.std.specs.List.{cons_option, enumerate_from, filter_map}
 use Rattle.std.specs.Option.{option_map_or}
 use Rattle.std.proofs.lemmas.Bool.{eqb-false, ne_eqb}
 use Rattle.std.proofs.lemmas.List.Sums.{sum_by-cons}
-use Rattle.certificate.specs.declared.table.Request.{Request}
-use Rattle.certificate.specs.declared.table.Request.TheVariants as request
-use Rattle.certificate.specs.declared.table.Image.{Image}
-use Rattle.certificate.specs.declared.table.Table.{Table}
-use Rattle.certificate.specs.declared.report.Reason.{Reason}
-use Rattle.certificate.specs.declared.report.Refusal.{Refusal}
-use Rattle.certificate.specs.Combination.{image_at}
-use Rattle.certificate.specs.Reasons.{is_refused, times_refused}
-use Rattle.certificate.specs.Rightness.{is_requested, once_if}
-use Rattle.certificate.specs.StandardOrder.{own_reason, own_reason_of_entry, own_refusal, own_refusals}
+use Rattle.reports.specs.declared.table.Request.{Request}
+use Rattle.reports.specs.declared.table.Request.TheVariants as request
+use Rattle.reports.specs.declared.table.Image.{Image}
+use Rattle.reports.specs.declared.table.Table.{Table}
+use Rattle.reports.specs.declared.report.Reason.{Reason}
+use Rattle.reports.specs.declared.report.Refusal.{Refusal}
+use Rattle.reports.specs.Combination.{image_at}
+use Rattle.reports.specs.Reasons.{is_refused, times_refused}
+use Rattle.reports.specs.Rightness.{is_requested, once_if}
+use Rattle.reports.specs.StandardOrder.{own_reason, own_reason_of_entry, own_refusal, own_refusals}
 use Rattle.common.proofs.Lists.{filter_map-none}
 use Rattle.common.proofs.Numbered.{filter_map-numbered_more, take-numbered_all, slice_get-enumerate_from}
-use Rattle.certificate.proofs.Counts.{IsOnce, once_if-le}
+use Rattle.reports.proofs.Counts.{IsOnce, once_if-le}
 
 -- The refusals of the first images.
 abbrev pub own_refusals_below : Table → ℕ → List Refusal

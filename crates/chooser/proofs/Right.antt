@@ -7,20 +7,20 @@ use Rattle.std.proofs.lemmas.Bool.{cases_Bool}
 use Rattle.std.proofs.lemmas.List.{length-map}
 use Rattle.std.proofs.lemmas.List.FromFn.{length-enumerate_from}
 use Rattle.std.proofs.lemmas.Option.{same_Some, slice_get-map}
-use Rattle.certificate.specs.declared.table.Image.{Image}
-use Rattle.certificate.specs.declared.table.Table.{Table}
-use Rattle.certificate.specs.declared.report.Refusal.{Refusal}
-use Rattle.certificate.specs.declared.report.ReportedImage.{ReportedImage}
-use Rattle.certificate.specs.declared.report.Report.{Report}
-use Rattle.certificate.specs.Combination.{image_at, entry_in, IsValid, running_set}
-use Rattle.certificate.specs.Reasons.{is_refused, times_refused}
-use Rattle.certificate.specs.Rightness.{IsRight, taken_in, has_request, once_if}
-use Rattle.certificate.specs.StandardOrder.{IsInStandardOrder, needs_reason}
+use Rattle.reports.specs.declared.table.Image.{Image}
+use Rattle.reports.specs.declared.table.Table.{Table}
+use Rattle.reports.specs.declared.report.Refusal.{Refusal}
+use Rattle.reports.specs.declared.report.ReportedImage.{ReportedImage}
+use Rattle.reports.specs.declared.report.Report.{Report}
+use Rattle.reports.specs.Combination.{image_at, entry_in, IsValid, running_set}
+use Rattle.reports.specs.Reasons.{is_refused, times_refused}
+use Rattle.reports.specs.Rightness.{IsRight, taken_in, has_request, once_if}
+use Rattle.reports.specs.StandardOrder.{IsInStandardOrder, needs_reason}
 use Rattle.chooser.specs.Reported.{is_taken_unless_refused, reported_image, reported_images}
 use Rattle.common.proofs.Options.{IfSome-from, option_map-option_map, option_map_or-option_map}
 use Rattle.common.proofs.Numbered.{slice_get-enumerate_from}
 use Rattle.common.proofs.Lists.{count_by-none, count_by-some}
-use Rattle.certificate.proofs.Counts.{IsOnce, once_if-le}
+use Rattle.reports.proofs.Counts.{IsOnce, once_if-le}
 use Rattle.chooser.proofs.Order.{own_reason-unrefused}
 use Rattle.chooser.proofs.Founded.{IsFounded-from_standard}
 use Rattle.chooser.proofs.Taken.{IsSettled, IsValid-taken, taken-refused, taken-unrefused}

@@ -8,23 +8,23 @@ use Rattle.std.proofs.lemmas.Option.{MatchOption-at_some, none-some, same_Some}
 use Rattle.version_order.specs.declared.dependency.Dependency.{Dependency}
 use Rattle.version_order.specs.declared.group.Group.{Group}
 use Rattle.version_order.specs.Order.{is_older, IsAtLeast}
-use Rattle.certificate.specs.declared.table.Entry.{Entry}
-use Rattle.certificate.specs.declared.table.Request.{Request}
-use Rattle.certificate.specs.declared.table.Request.TheVariants as request
-use Rattle.certificate.specs.declared.table.Image.{Image}
-use Rattle.certificate.specs.declared.table.Table.{Table}
-use Rattle.certificate.specs.declared.report.Reason.TheVariants.{Damaged, Older, Counter}
-use Rattle.certificate.specs.declared.report.Refusal.{Refusal}
-use Rattle.certificate.specs.Combination.{image_at, intact_entry, entry_in, is_group_met, is_met, meets_all, IsValid, running_set}
-use Rattle.certificate.specs.Reasons.{is_refused, best_version, is_group_out_of_reach, is_in_reach, is_out_of_reach}
-use Rattle.certificate.specs.Rightness.{has_request, is_requested}
-use Rattle.certificate.specs.StandardOrder.{own_reason, own_reason_of_entry, needs_reason, unmet_dependency, unmet_group}
+use Rattle.reports.specs.declared.table.Entry.{Entry}
+use Rattle.reports.specs.declared.table.Request.{Request}
+use Rattle.reports.specs.declared.table.Request.TheVariants as request
+use Rattle.reports.specs.declared.table.Image.{Image}
+use Rattle.reports.specs.declared.table.Table.{Table}
+use Rattle.reports.specs.declared.report.Reason.TheVariants.{Damaged, Older, Counter}
+use Rattle.reports.specs.declared.report.Refusal.{Refusal}
+use Rattle.reports.specs.Combination.{image_at, intact_entry, entry_in, is_group_met, is_met, meets_all, IsValid, running_set}
+use Rattle.reports.specs.Reasons.{is_refused, best_version, is_group_out_of_reach, is_in_reach, is_out_of_reach}
+use Rattle.reports.specs.Rightness.{has_request, is_requested}
+use Rattle.reports.specs.StandardOrder.{own_reason, own_reason_of_entry, needs_reason, unmet_dependency, unmet_group}
 use Rattle.chooser.specs.Reported.{is_taken_unless_refused}
 use Rattle.chooser.proofs.Searches.{list_any-weaker, option_or-None}
 use Rattle.common.proofs.Options.{IfSome-from, IsSomeAnd-from, is_some_value, some_value, option_map-None, option_and_then-None, option_map_or-true}
 use Rattle.common.proofs.Lists.{list_all-from_finds, list_all-weaker}
-use Rattle.certificate.proofs.Members.{entry_in-member}
-use Rattle.certificate.proofs.BestVersion.{version_of_request, newer_version}
+use Rattle.reports.proofs.Members.{entry_in-member}
+use Rattle.reports.proofs.BestVersion.{version_of_request, newer_version}
 use Rattle.version_order.proofs.OrderLaws.{IsAtLeast_refl, IsAtLeast_trans}
 
 -- The requested entry has the requested version.

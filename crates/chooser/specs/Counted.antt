@@ -1,8 +1,8 @@
 -- What a choice adds to the counts of its steps.
 use Rattle.std.specs.Prelude.{ℕ, ◌+◌, ◌^◌, ◌<◌, ◌≤◌, Bool, false, true, List, count_by}
-use Rattle.certificate.specs.declared.report.Reason.{Reason}
-use Rattle.certificate.specs.declared.report.Reason.TheVariants.{Needs, NeedsOne}
-use Rattle.certificate.specs.declared.report.Refusal.{Refusal}
+use Rattle.reports.specs.declared.report.Reason.{Reason}
+use Rattle.reports.specs.declared.report.Reason.TheVariants.{Needs, NeedsOne}
+use Rattle.reports.specs.declared.report.Refusal.{Refusal}
 use Rattle.chooser.specs.declared.steps.Steps.{Steps}
 
 -- Whether a reason depends on what is refused before.

@@ -1,10 +1,10 @@
 -- Marks: which of the remaining requests have a dependency or a group out of reach.
 use Rattle.std.specs.Prelude.{◌≡◌, ℕ, Bool, false, ◌&&◌, not, is_some, List, slice_index_or}
-use Rattle.certificate.specs.declared.table.Table.{Table}
-use Rattle.certificate.specs.declared.report.Refusal.{Refusal}
-use Rattle.certificate.specs.Dependants.{is_dependant}
-use Rattle.certificate.specs.Reasons.{is_refused}
-use Rattle.certificate.specs.StandardOrder.{needs_reason}
+use Rattle.reports.specs.declared.table.Table.{Table}
+use Rattle.reports.specs.declared.report.Refusal.{Refusal}
+use Rattle.validity.specs.Dependants.{is_dependant}
+use Rattle.reports.specs.Reasons.{is_refused}
+use Rattle.reports.specs.StandardOrder.{needs_reason}
 
 -- Whether the request of image i isn't refused so far, and has a dependency or a group out of
 -- reach.

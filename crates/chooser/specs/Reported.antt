@@ -1,12 +1,12 @@
 -- What a report says of each image if these requests are refused.
 use Rattle.std.specs.Prelude.{ℕ, Bool, ◌&&◌, not, is_some, List, map}
 use Rattle.std.specs.List.{enumerate_from}
-use Rattle.certificate.specs.declared.table.Image.{Image}
-use Rattle.certificate.specs.declared.table.Table.{Table}
-use Rattle.certificate.specs.declared.report.Refusal.{Refusal}
-use Rattle.certificate.specs.declared.report.ReportedImage.{ReportedImage}
-use Rattle.certificate.specs.Combination.{intact_entry, entry_in}
-use Rattle.certificate.specs.Reasons.{is_refused}
+use Rattle.reports.specs.declared.table.Image.{Image}
+use Rattle.reports.specs.declared.table.Table.{Table}
+use Rattle.reports.specs.declared.report.Refusal.{Refusal}
+use Rattle.reports.specs.declared.report.ReportedImage.{ReportedImage}
+use Rattle.reports.specs.Combination.{intact_entry, entry_in}
+use Rattle.reports.specs.Reasons.{is_refused}
 
 -- Whether the request of image j is taken: it is intact and isn't refused.
 abbrev pub is_taken_unless_refused : List Refusal → ℕ → Image → Bool

@@ -1,10 +1,10 @@
 //! Chooses among the requests of a table.
 
 ghost use Rattle.std.specs.Prelude.{◌≡◌, ◌+◌, ◌≤◌, ℕ, None, false};
-ghost use Rattle.certificate.specs.Combination.{IsGreatest, IsValid, running_set};
-ghost use Rattle.certificate.specs.Reasons.{is_refused, times_refused};
-ghost use Rattle.certificate.specs.Rightness.{IsRight, has_request, once_if, taken_in};
-ghost use Rattle.certificate.specs.StandardOrder.{IsInStandardOrder, needs_reason};
+ghost use Rattle.reports.specs.Combination.{IsGreatest, IsValid, running_set};
+ghost use Rattle.reports.specs.Reasons.{is_refused, times_refused};
+ghost use Rattle.reports.specs.Rightness.{IsRight, has_request, once_if, taken_in};
+ghost use Rattle.reports.specs.StandardOrder.{IsInStandardOrder, needs_reason};
 ghost use Rattle.common.specs.Limits.{MOST_DROPS, MOST_LOOKS, MOST_PASSES};
 ghost use Rattle.chooser.specs.Counted.{HasRoom, RisesAtMost, drops_in};
 
@@ -14,15 +14,15 @@ use crate::own_reasons::put_own_refusals;
 use crate::reporting::put_images;
 use crate::steps::Steps;
 use arrayvec::ArrayVec;
-use certificate::{MOST_REFUSALS, Refusal, Report, Table, right_reports_are_greatest};
+use reports::{MOST_REFUSALS, Refusal, Report, Table, right_reports_are_greatest};
 
 /// Chooses among the requests of a table. Takes the requests of the greatest valid combination, and
 /// refuses each other one with the lowest reason that holds of it, in the standard order.
 ///
-/// The running images must fit each other, which `certificate::is_valid` checks. The call doesn't
+/// The running images must fit each other, which `validity::is_valid` checks. The call doesn't
 /// allocate and never fails. A table of no images has an empty report. If the table fits its
 /// fields, as any table does that was read, its report has a text: see
-/// `certificate::right_reports_have_a_text`.
+/// `reports::right_reports_have_a_text`.
 ///
 /// # Examples
 ///

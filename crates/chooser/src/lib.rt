@@ -7,7 +7,7 @@
 //! - Callers: anybody who has a table: a bootloader of its slots, a program of its input.
 //!
 //! `choose` never fails. It looks at all requests once. After it drops a request, it looks again
-//! only at those that depend on it or have it as an alternative. `certificate::check` checks a
+//! only at those that depend on it or have it as an alternative. `checker::check` checks a
 //! report without this crate.
 #![tactic(auto)]
 

@@ -2,14 +2,15 @@
 
 ghost use Rattle.std.specs.Prelude.{◌≡◌, ◌+◌, ◌^◌, ◌<◌, ◌≤◌, ℕ, length};
 ghost use Rattle.std.specs.Int.{bit_at};
-ghost use Rattle.certificate.specs.Reasons.{times_refused};
-ghost use Rattle.certificate.specs.Rightness.{has_request, once_if};
+ghost use Rattle.reports.specs.Reasons.{times_refused};
+ghost use Rattle.reports.specs.Rightness.{has_request, once_if};
 ghost use Rattle.chooser.specs.Marks.{AreMarks, AreMarksApartFrom, has_need};
 
 use crate::needs::{has_unmet, is_refused};
 use crate::steps::Steps;
-use certificate::{Refusal, Table, dependants};
 use common::limits::MOST_IMAGES;
+use reports::{Refusal, Table};
+use validity::dependants;
 
 /// Returns the marks after these refusals, with one look at each remaining request.
 pub(crate) fn marks_after(table: &Table, refusals: &[Refusal]) -> [bool; MOST_IMAGES]

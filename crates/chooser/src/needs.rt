@@ -3,13 +3,13 @@
 ghost use Rattle.std.specs.List.{list_any};
 ghost use Rattle.std.specs.Option.{option_copied};
 ghost use Rattle.std.specs.Prelude.{◌≡◌, ℕ, false, IfNone, IfSome, None, is_some, position};
-ghost use Rattle.certificate.specs.Combination.{intact_entry};
-ghost use Rattle.certificate.specs.Reasons.{best_version, is_group_out_of_reach, is_in_reach, is_out_of_reach, is_refused, newest_version, requested_version};
-ghost use Rattle.certificate.specs.StandardOrder.{IsNextNeed, needs_reason, needs_reason_of_entry, unmet_dependency, unmet_group};
+ghost use Rattle.reports.specs.Combination.{intact_entry};
+ghost use Rattle.reports.specs.Reasons.{best_version, is_group_out_of_reach, is_in_reach, is_out_of_reach, is_refused, newest_version, requested_version};
+ghost use Rattle.reports.specs.StandardOrder.{IsNextNeed, needs_reason, needs_reason_of_entry, unmet_dependency, unmet_group};
 ghost use Rattle.chooser.specs.Marks.{AreMarks};
 
-use certificate::{Entry, Image, Reason, Refusal, Request, Table};
 use common::limits::MOST_IMAGES;
+use reports::{Entry, Image, Reason, Refusal, Request, Table};
 use version_order::{Dependency, Group, Version};
 
 /// Returns the next refusal after `before`: that of the lowest marked request. Its reason is the

@@ -2,10 +2,10 @@
 
 ghost use Rattle.std.specs.Option.{option_copied};
 ghost use Rattle.std.specs.Prelude.{◌≡◌, find};
-ghost use Rattle.certificate.specs.StandardOrder.{is_missing, missing_image, own_reason, own_reason_of_entry, own_refusal, own_refusals};
+ghost use Rattle.reports.specs.StandardOrder.{is_missing, missing_image, own_reason, own_reason_of_entry, own_refusal, own_refusals};
 
 use arrayvec::ArrayVec;
-use certificate::{Entry, Image, MOST_REFUSALS, Reason, Refusal, Request, Table};
+use reports::{Entry, Image, MOST_REFUSALS, Reason, Refusal, Request, Table};
 use version_order::Dependency;
 
 /// Writes to a place the requests that are refused by themselves, in the order of their images,

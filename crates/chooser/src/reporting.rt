@@ -5,8 +5,8 @@ ghost use Rattle.chooser.specs.Reported.{reported_image, reported_images};
 
 use crate::needs::is_refused;
 use arrayvec::ArrayVec;
-use certificate::{Image, Refusal, ReportedImage, Request, Table};
 use common::limits::MOST_IMAGES;
+use reports::{Image, Refusal, ReportedImage, Request, Table};
 
 /// Writes to a place what the report says of each image: it takes each intact request that these
 /// refusals don't name.

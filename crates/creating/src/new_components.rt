@@ -6,13 +6,13 @@ ghost use Rattle.creating.specs.NewManifestSteps.{ReadsComponent, ReadsComponent
 
 use crate::next_boot::{request, write_lack};
 use arrayvec::ArrayVec;
-use certificate::Table;
 use command_line::NewComponent;
 use device_texts::NoteList;
 use host::{Host, MOST_FILE, Refusal, Source, SourceFault};
 use image_reading::{Desc, ImageError, describe};
 use inputs::OwnNeed;
 use manifest::{Component, MOST_COMPONENTS};
+use reports::Table;
 use sector_map::SectorMap;
 use sha2::{Digest, Sha256};
 use std::alloc::{AllocError, Global};

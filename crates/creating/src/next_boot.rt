@@ -1,14 +1,15 @@
 //! Predicts what a device and its boots decide about a manifest and its files, for its notes.
 
 use crate::make_manifest::is_named;
-use certificate::{Reason, Request, Table, is_valid};
 use chooser::choose;
 use command_line::NewComponent;
 use decision::entry_of;
 use device_texts::NoteList;
 use image_reading::{Desc, ImageError};
 use inputs::Intake;
+use reports::{Reason, Request, Table};
 use std::alloc::AllocError;
+use validity::is_valid;
 use version_order::Dependency;
 
 /// Requests a file for an image of a table, if there is one.

@@ -10,7 +10,6 @@ ghost use Rattle.creating.specs.NewManifestSteps.{FindsNone, FindsPrecursor};
 ghost use Rattle.creating.specs.NewManifestSteps.{FindsPrecursors, ReadsPrecursors};
 
 use arrayvec::ArrayVec;
-use certificate::Table;
 use command_line::{NewComponent, NewManifest};
 use device_texts::flash_of;
 use flash_model::Flash;
@@ -18,6 +17,7 @@ use host::{Access, Host, Refusal, Source};
 use image_reading::describe_slot;
 use inputs::{Intake, Notes, intake_on, read_flash, table_on};
 use manifest::MOST_COMPONENTS;
+use reports::Table;
 use sector_map::{SectorMap, Side};
 use std::alloc::Global;
 use std::marker::Brand;

@@ -3,10 +3,10 @@ use Rattle.std.proofs.Common.{◌≡◌, ℕ, ◌+◌, ◌<◌, ◌≤◌, Bool,
 use Rattle.std.proofs.lemmas.Bool.Decides.{leb_tells}
 use Rattle.flash_model.specs.Chip.{Chip}
 use Rattle.sector_map.specs.declared.layout.SectorMap.{SectorMap}
-use Rattle.common.specs.Masks.{is_member}
-use Rattle.certificate.specs.declared.table.Image.{Image}
+use Rattle.sector_map.specs.Part.{is_member}
+use Rattle.reports.specs.declared.table.Image.{Image}
 use Rattle.upload.specs.View.{view}
-use Rattle.certificate.specs.declared.table.Table.{Table}
+use Rattle.reports.specs.declared.table.Table.{Table}
 use Rattle.machine.specs.declared.finding.Reading.{Reading}
 use Rattle.machine.specs.declared.finding.Reading.TheVariants.{Read}
 use Rattle.decision.specs.Found.{AreReadable, IsDamagedAt, IsLowestAt, IsReadingAt, IsRowAt}

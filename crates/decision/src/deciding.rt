@@ -6,12 +6,13 @@ ghost use Rattle.decision.specs.Places.{finding_in, read_as};
 
 use crate::device_table::read_table_into;
 use crate::places::Verdict;
-use certificate::{Report, Table, is_valid};
 use chooser::choose_into;
 use common::limits::MOST_IMAGES;
 use flash_model::{Flash, Result};
 use machine::Finding;
+use reports::{Report, Table};
 use sector_map::SectorMap;
+use validity::is_valid;
 
 /// Reads the table of a device, and returns the decision on its requests.
 ///

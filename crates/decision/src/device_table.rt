@@ -4,18 +4,18 @@ ghost use Rattle.std.specs.Prelude.{◌≡◌, ◌<◌, ◌++◌, ◌∷◌, [],
 ghost use Rattle.sector_map.specs.Map.{HasImage, IsLaidOut};
 ghost use Rattle.machine.specs.States.{entry_of};
 ghost use Rattle.common.specs.Limits.{MOST_IMAGES};
-ghost use Rattle.certificate.specs.declared.table.Image.{Image};
+ghost use Rattle.reports.specs.declared.table.Image.{Image};
 ghost use Rattle.decision.specs.Places.{IsEntryRequest, read_as, reading_in, some_if};
 ghost use Rattle.decision.specs.Rows.{PushesRow, ReadsRequest, ReadsRow, ReadsSlot, ReadsTable, ReadsWanted};
 
 use arrayvec::ArrayVec;
-use certificate::{Entry, Image, Request, Table};
 use common::limits::MOST_IMAGES;
 use common::mask::is_member;
 use flash_model::{Flash, Result};
 use image_reading::{Desc, intact_image_into};
 use machine::Reading;
-use sector_map::{SectorMap, Side};
+use reports::{Entry, Image, Request, Table};
+use sector_map::{SectorMap, Side, is_member};
 use trailer::standing;
 
 /// Returns what a decision uses of an image's description.

@@ -10,6 +10,7 @@ use crate::texts::Images;
 use command_line::{DeviceOrder, Order, ReadOrder};
 use device_texts::NoteList;
 use host::{Refusal, Source, SourceFault, SourceRefusal, WrongLength};
+use reports::Table;
 use std::alloc::Global;
 use std::io;
 use std::io::ErrorKind;

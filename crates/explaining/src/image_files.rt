@@ -4,12 +4,12 @@ use crate::Result;
 use crate::image_notes::explain_image;
 use crate::needs::explain_running;
 use arrayvec::ArrayVec;
-use certificate::{Image, Request, Table};
 use decision::entry_of;
 use device_texts::NoteList;
 use host::Source;
 use image_reading::{Desc, ImageError, describe};
 use inputs::OwnNeed;
+use reports::{Image, Request, Table};
 
 /// The files for the images of a device, as far as they were read.
 #[derive(Drop)]

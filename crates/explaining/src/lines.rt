@@ -2,11 +2,11 @@
 
 use crate::Result;
 use crate::texts::Shown;
-use certificate::{Entry, MOST_REFUSALS, Report, Request, Table};
 use common::limits::{MOST_DEPENDENCIES, MOST_GROUPS, MOST_IMAGES};
 use common::lines::first_line;
 use device_texts::NoteList;
 use host::BadText;
+use reports::{Entry, MOST_REFUSALS, Report, Request, Table};
 use std::fmt;
 
 /// How versions and numbers are written in tables and reports.

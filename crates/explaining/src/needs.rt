@@ -2,9 +2,9 @@
 
 use crate::Result;
 use crate::texts::Images;
-use certificate::{Entry, Image, Reason, Refusal, Report, Request, Table};
 use common::limits::MOST_IMAGES;
 use device_texts::NoteList;
+use reports::{Entry, Image, Reason, Refusal, Report, Request, Table};
 use std::fmt;
 use version_order::{Dependency, Group, Version};
 

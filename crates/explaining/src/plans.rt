@@ -1,9 +1,9 @@
 //! Explains the results of the devices of a plan, and the rows of its summary.
 
 use crate::{Result, write_notes};
-use certificate::{Reason, Refusal, Report};
 use device_texts::NoteList;
 use inspecting::{Outcome, PlanNotes, RowKey, Rows, Tally};
+use reports::{Reason, Refusal, Report};
 use std::alloc::Global;
 use std::fmt;
 use std::io::Write;

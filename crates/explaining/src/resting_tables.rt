@@ -3,9 +3,9 @@
 ghost use Rattle.flash_model.specs.Blanks.{IsBlankOf};
 ghost use Rattle.device_texts.specs.FlashOf.{IsFlashOf};
 
-use certificate::Table;
 use device_texts::flash_of;
 use inputs::table_on;
+use reports::Table;
 use sector_map::SectorMap;
 use std::alloc::{AllocError, Global};
 use std::marker::Brand;

@@ -1,11 +1,11 @@
 //! Explains which images are on trial though they were requested permanently.
 
 use crate::Result;
-use certificate::Report;
 use common::limits::MOST_IMAGES;
 use common::mask::is_member;
 use device_texts::NoteList;
-use sector_map::{SectorMap, Side};
+use reports::Report;
+use sector_map::{SectorMap, Side, is_member};
 
 /// The distance in bytes of the unit `image_ok` from the end of its trailer's sector. The unit is
 /// set if the request is permanent.

@@ -3,8 +3,9 @@
 use crate::Result;
 use crate::needs::{explain_set, is_taken, times_refused, version_in};
 use crate::texts::Images;
-use certificate::{Flaw, Image, Report, Request, Table, first_flaw};
+use checker::{Flaw, first_flaw};
 use device_texts::NoteList;
+use reports::{Image, Report, Request, Table};
 
 /// Adds why a report is wrong for a table: the first condition of a right report that doesn't hold, as
 /// the checker finds it. Lines of the report are numbered from 1.

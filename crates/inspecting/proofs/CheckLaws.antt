@@ -1,7 +1,7 @@
 -- The verdict on the texts of a table and of a report.
 use Rattle.std.proofs.Common.{Bool, List, Ok, false, subst, sym, true, ℕ}
-use Rattle.certificate.specs.Rightness.{IsRight}
-use Rattle.certificate.specs.declared.table.Table.{Table}
+use Rattle.reports.specs.Rightness.{IsRight}
+use Rattle.reports.specs.declared.table.Table.{Table}
 use Rattle.inspecting.specs.Check.{AreChecked, ChecksReport, IsChecked, IsVerdictOf, ReadsTable}
 use Rattle.inspecting.specs.declared.check.Verdict.{Verdict}
 

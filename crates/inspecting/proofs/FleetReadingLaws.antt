@@ -7,7 +7,7 @@ use Rattle.std.proofs.lemmas.List.{append-nil}
 use Rattle.std.proofs.lemmas.List.Concat.{flat_map-cons}
 use Rattle.std.specs.Io.KnownBytes.{Appends}
 use Rattle.std.specs.List.{AllByRecursion, flat_map}
-use Rattle.certificate.specs.declared.table.Entry.{Entry}
+use Rattle.reports.specs.declared.table.Entry.{Entry}
 use Rattle.common.proofs.LinesLaws.{lines_of-text_of_lines}
 use Rattle.common.proofs.Lists.{AllByRecursion-append}
 use Rattle.common.specs.Ascii.{LacksByte}

@@ -3,8 +3,8 @@ use Rattle.std.proofs.Common.{ℕ, ◌==◌, List, [], ◌∷◌, Bool, true, fa
 use Rattle.std.specs.List.{flat_map}
 use Rattle.std.specs.Prelude.{if◌then◌else◌}
 use Rattle.serde_json.specs.Data.{Data, Members, no_members, object}
-use Rattle.certificate.specs.declared.report.Reason.{Reason}
-use Rattle.certificate.specs.declared.report.Reason.TheVariants as reason
+use Rattle.reports.specs.declared.report.Reason.{Reason}
+use Rattle.reports.specs.declared.report.Reason.TheVariants as reason
 use Rattle.image_reading.specs.declared.desc.Desc.{Desc}
 use Rattle.machine.specs.declared.error.Fault.TheVariants as fault
 use Rattle.manifest.specs.declared.manifest.Component.{Component}

@@ -9,13 +9,13 @@ use Rattle.std.specs.Str.{bytes_eq}
 use Rattle.common.specs.Ascii.{LacksByte, cut, number_below}
 use Rattle.common.specs.Lines.{◌␣◌}
 use Rattle.common.proofs.AsciiLaws.{LacksByte-decimal, cut-found, cut-missing, number_below-decimal}
-use Rattle.certificate.specs.DependencyText.{AreAlternativesText}
-use Rattle.certificate.specs.LineReading.{alternative_of, more_alternatives, reason_of, refuse_line_of, report_line_of}
-use Rattle.certificate.specs.ReportText.{FitsReason, reason_text}
-use Rattle.certificate.specs.declared.report.Reason.{Reason}
-use Rattle.certificate.specs.declared.report.ReportedImage.{ReportedImage}
-use Rattle.certificate.specs.declared.report_line.ReportLine.TheVariants as line
-use Rattle.certificate.proofs.LineLaws.{report_line_of-text, report_line_text-said}
+use Rattle.reports.specs.DependencyText.{AreAlternativesText}
+use Rattle.reports.specs.LineReading.{alternative_of, more_alternatives, reason_of, refuse_line_of, report_line_of}
+use Rattle.reports.specs.ReportText.{FitsReason, reason_text}
+use Rattle.reports.specs.declared.report.Reason.{Reason}
+use Rattle.reports.specs.declared.report.ReportedImage.{ReportedImage}
+use Rattle.reports.specs.declared.report_line.ReportLine.TheVariants as line
+use Rattle.reports.proofs.LineLaws.{report_line_of-text, report_line_text-said}
 use Rattle.version_order.specs.VersionText.{FitsFields, IsVersionText, version_of, version_text}
 use Rattle.version_order.specs.declared.dependency.Dependency.{Dependency}
 use Rattle.version_order.specs.declared.version.Version.{Version}

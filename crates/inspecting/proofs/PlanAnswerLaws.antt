@@ -4,7 +4,7 @@ use Rattle.std.proofs.KnownBytes.{Appends-kept}
 use Rattle.std.proofs.lemmas.List.{append-nil, map-append, take_more}
 use Rattle.std.specs.List.{AllZip}
 use Rattle.std.specs.Io.KnownBytes.{Keeps}
-use Rattle.certificate.specs.declared.table.Entry.{Entry}
+use Rattle.reports.specs.declared.table.Entry.{Entry}
 use Rattle.command_line.specs.declared.orders.PlanOrder.{PlanOrder}
 use Rattle.command_line.specs.declared.orders.PlanOrder.TheVariants.{Fleet, Merge}
 use Rattle.device_texts.specs.declared.form.Form.{Form}

@@ -3,7 +3,7 @@ use Rattle.std.proofs.Common.{◌≡◌, ℕ, List, [], ◌++◌, append_assoc, 
 use Rattle.std.proofs.KnownBytes.{Appends-nil, Appends-trans, Consumes-kept, Consumes-trans}
 use Rattle.std.proofs.lemmas.List.{append-nil}
 use Rattle.std.specs.Io.KnownBytes.{Appends, Consumes, IsAtEnd, Keeps}
-use Rattle.certificate.specs.declared.table.Entry.{Entry}
+use Rattle.reports.specs.declared.table.Entry.{Entry}
 use Rattle.device_texts.specs.declared.form.Form.{Form}
 use Rattle.host.specs.declared.answer.Answer.{Answer}
 use Rattle.inspecting.proofs.FleetReadingLaws.{told-append, told-both}

@@ -7,7 +7,7 @@ use Rattle.std.proofs.lemmas.List.Folds.{list_any-append}
 use Rattle.std.specs.Io.KnownBytes.{Appends}
 use Rattle.std.specs.List.{flat_map}
 use Rattle.std.proofs.KnownBytes.{Appends-nil}
-use Rattle.certificate.specs.declared.table.Entry.{Entry}
+use Rattle.reports.specs.declared.table.Entry.{Entry}
 use Rattle.common.specs.Lines.{lines_of}
 use Rattle.device_texts.specs.declared.form.Form.{Form}
 use Rattle.inspecting.proofs.FleetReadingLaws.{AllByRecursion-map_devices, planned_lines-are, told-both}

@@ -4,7 +4,7 @@ use Rattle.std.proofs.lemmas.List.{take_more}
 use Rattle.std.specs.Prelude.{IfSome, slice_get}
 use Rattle.std.specs.List.{AllByRecursion}
 use Rattle.std.specs.Io.KnownBytes.{Keeps}
-use Rattle.certificate.specs.declared.table.Entry.{Entry}
+use Rattle.reports.specs.declared.table.Entry.{Entry}
 use Rattle.command_line.specs.declared.orders.RequestedFile.{RequestedFile}
 use Rattle.host.specs.Input.{FileBytes, KeepsFiles}
 use Rattle.host.proofs.InputLaws.{IsKnownAs-kept}

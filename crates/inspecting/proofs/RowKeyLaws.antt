@@ -5,11 +5,11 @@ use Rattle.std.specs.Prelude.{if◌then◌else◌, option_and_then}
 use Rattle.std.proofs.lemmas.Option.{none-some, same_Some}
 use Rattle.common.specs.Ascii.{cut}
 use Rattle.common.specs.declared.limits.TheConstants.{MOST_IMAGES}
-use Rattle.certificate.specs.LineReading.{alternative_of, more_alternatives}
-use Rattle.certificate.specs.ReportReading.{with_report_line}
-use Rattle.certificate.specs.declared.report.Report.{Report}
-use Rattle.certificate.specs.declared.report_line.ReportLine.{ReportLine}
-use Rattle.certificate.specs.declared.report_line.ReportLine.TheVariants as line
+use Rattle.reports.specs.LineReading.{alternative_of, more_alternatives}
+use Rattle.reports.specs.ReportReading.{with_report_line}
+use Rattle.reports.specs.declared.report.Report.{Report}
+use Rattle.reports.specs.declared.report_line.ReportLine.{ReportLine}
+use Rattle.reports.specs.declared.report_line.ReportLine.TheVariants as line
 use Rattle.version_order.specs.declared.dependency.Dependency.{Dependency}
 use Rattle.inspecting.specs.RowKey.{refusal_said, taken_from}
 

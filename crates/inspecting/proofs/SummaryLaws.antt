@@ -4,7 +4,7 @@ use Rattle.std.proofs.lemmas.Grind.{flat_map-append}
 use Rattle.std.proofs.lemmas.List.{append-nil}
 use Rattle.std.proofs.lemmas.List.Concat.{flat_map-cons}
 use Rattle.std.specs.List.{flat_map}
-use Rattle.certificate.specs.declared.report.ReportedImage.{ReportedImage}
+use Rattle.reports.specs.declared.report.ReportedImage.{ReportedImage}
 use Rattle.inspecting.specs.Plan.{Planned}
 use Rattle.inspecting.specs.Row.{Row}
 use Rattle.inspecting.specs.Rows.{IsTallied}

@@ -1,11 +1,11 @@
 -- What `check` finds in a table and a report.
 use Rattle.std.specs.Prelude.{◌≡◌, ℕ, Bool, true, false, List, [], ◌∷◌, ◌++◌, Result, Ok, Err, codes, if◌then◌else◌}
-use Rattle.certificate.specs.declared.table.Table.{Table}
-use Rattle.certificate.specs.declared.report.Report.{Report}
+use Rattle.reports.specs.declared.table.Table.{Table}
+use Rattle.reports.specs.declared.report.Report.{Report}
 use Rattle.common.specs.Lines.{IsFirstBadLine}
-use Rattle.certificate.specs.TableText.{IsTableText, IsSomeTable}
-use Rattle.certificate.specs.ReportText.{IsReportText, IsSomeReport}
-use Rattle.certificate.specs.Rightness.{IsRight}
+use Rattle.reports.specs.TableText.{IsTableText, IsSomeTable}
+use Rattle.reports.specs.ReportText.{IsReportText, IsSomeReport}
+use Rattle.reports.specs.Rightness.{IsRight}
 use Rattle.host.specs.declared.error.Refusal.{Refusal}
 use Rattle.host.specs.declared.error.Refusal.TheVariants.{TableLine, ReportLine}
 use Rattle.inspecting.specs.declared.check.Verdict.{Verdict}

@@ -1,14 +1,14 @@
 -- What `choose` reads and writes, by its result.
 use Rattle.std.specs.Prelude.{◌≡◌, ℕ, List, Option, Result, Ok, Err}
 use Rattle.std.specs.Io.KnownBytes.{Appends, Keeps, Consumes, IsAtEnd}
-use Rattle.certificate.specs.declared.table.Table.{Table}
-use Rattle.certificate.specs.declared.report.Report.{Report}
+use Rattle.reports.specs.declared.table.Table.{Table}
+use Rattle.reports.specs.declared.report.Report.{Report}
 use Rattle.common.specs.Lines.{IsFirstBadLine}
-use Rattle.certificate.specs.TableText.{IsTableText, IsSomeTable}
-use Rattle.certificate.specs.Combination.{IsValid, running_set}
-use Rattle.certificate.specs.Rightness.{IsRight}
-use Rattle.certificate.specs.StandardOrder.{IsInStandardOrder}
-use Rattle.certificate.specs.ReportText.{report_text, IsReportText}
+use Rattle.reports.specs.TableText.{IsTableText, IsSomeTable}
+use Rattle.reports.specs.Combination.{IsValid, running_set}
+use Rattle.reports.specs.Rightness.{IsRight}
+use Rattle.reports.specs.StandardOrder.{IsInStandardOrder}
+use Rattle.reports.specs.ReportText.{report_text, IsReportText}
 use Rattle.inspecting.specs.Written.{TakesPrefix}
 use Rattle.inspecting.specs.declared.choose.Choice.{Choice}
 use Rattle.inspecting.specs.declared.choose.ChooseEnd.{ChooseEnd}

@@ -3,7 +3,7 @@ use Rattle.std.specs.Prelude.{ℕ, List, ◌++◌, codes, decimal}
 use Rattle.hex.specs.Hex.{encode_lower}
 use Rattle.common.specs.Lines.{printed_lines}
 use Rattle.version_order.specs.VersionText.{version_text}
-use Rattle.certificate.specs.DependencyText.{needs_one_text, needs_text}
+use Rattle.reports.specs.DependencyText.{needs_one_text, needs_text}
 use Rattle.image_reading.specs.declared.desc.Desc.{Desc}
 use Rattle.image_reading.specs.declared.error.ImageError.{ImageError}
 use Rattle.image_reading.specs.Codes.{code_of, name_of}

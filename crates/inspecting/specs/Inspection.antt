@@ -5,7 +5,7 @@ use Rattle.serde_json.specs.Data.{Data, Members, boolean, no_members, object}
 use Rattle.device_texts.specs.AnswerText.{map_refusal_text}
 use Rattle.device_texts.specs.Json.{code_json, fault_json, json_line, map_json, with_member, with_notes, with_refused, with_report}
 use Rattle.device_texts.specs.ReplyText.{refused_fault_text}
-use Rattle.certificate.specs.ReportText.{report_text}
+use Rattle.reports.specs.ReportText.{report_text}
 use Rattle.command_line.specs.declared.codes.TheConstants.{REFUSALS}
 use Rattle.host.specs.declared.answer.Answer.{Answer}
 use Rattle.host.specs.declared.answer.Answer.TheVariants.{Done, Refused}

@@ -2,8 +2,8 @@
 use Rattle.std.specs.Prelude.{ℕ, ◌+◌, ◌^◌, ◌<◌, ◌≤◌, IfSome, List, [], ◌∷◌, ◌++◌, length, if◌then◌else◌}
 use Rattle.std.specs.List.{AllByRecursion}
 use Rattle.common.specs.Limits.{MOST_IMAGES}
-use Rattle.certificate.specs.ReportText.{FitsReason}
-use Rattle.certificate.specs.declared.report.ReportedImage.{ReportedImage}
+use Rattle.reports.specs.ReportText.{FitsReason}
+use Rattle.reports.specs.declared.report.ReportedImage.{ReportedImage}
 use Rattle.version_order.specs.VersionText.{FitsFields}
 use Rattle.version_order.specs.declared.dependency.Dependency.{Dependency}
 use Rattle.inspecting.specs.declared.fleet.key.Key.{Key}

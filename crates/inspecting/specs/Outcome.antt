@@ -1,13 +1,13 @@
 -- The result for the table of a device.
 use Rattle.std.specs.Prelude.{◌≡◌, ℕ, ◌<◌, ◌≤◌, Bool, true, false, List, ◌∷◌, ◌++◌, [], length, codes, decimal, Option}
-use Rattle.certificate.specs.declared.table.Entry.{Entry}
-use Rattle.certificate.specs.declared.table.Table.{Table}
+use Rattle.reports.specs.declared.table.Entry.{Entry}
+use Rattle.reports.specs.declared.table.Table.{Table}
 use Rattle.common.specs.Lines.{◌␣◌, IsFirstBadLine}
-use Rattle.certificate.specs.Combination.{IsValid, running_set}
-use Rattle.certificate.specs.ReportText.{report_text}
-use Rattle.certificate.specs.Rightness.{IsRight}
-use Rattle.certificate.specs.StandardOrder.{IsInStandardOrder}
-use Rattle.certificate.specs.TableText.{IsSomeTable, IsTableText}
+use Rattle.reports.specs.Combination.{IsValid, running_set}
+use Rattle.reports.specs.ReportText.{report_text}
+use Rattle.reports.specs.Rightness.{IsRight}
+use Rattle.reports.specs.StandardOrder.{IsInStandardOrder}
+use Rattle.reports.specs.TableText.{IsSomeTable, IsTableText}
 use Rattle.inspecting.specs.Requested.{requested_versions}
 use Rattle.inspecting.specs.Requests.{Replaces}
 use Rattle.inspecting.specs.declared.fleet.outcome.Outcome.{Outcome}

@@ -1,7 +1,7 @@
 -- What is written for a fleet: each device with its result.
 use Rattle.std.specs.Prelude.{ℕ, Bool, List, map, Option}
 use Rattle.std.specs.List.{AllByRecursion, flat_map, list_any}
-use Rattle.certificate.specs.declared.table.Entry.{Entry}
+use Rattle.reports.specs.declared.table.Entry.{Entry}
 use Rattle.common.specs.Lines.{text_of_lines}
 use Rattle.inspecting.specs.Fleet.{Device, IsFleetText}
 use Rattle.inspecting.specs.Outcome.{IsOutcome, is_bad}

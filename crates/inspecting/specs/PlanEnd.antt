@@ -1,7 +1,7 @@
 -- What a plan reads and writes.
 use Rattle.std.specs.Prelude.{◌≡◌, ℕ, Bool, true, false, List, ◌++◌, Option}
 use Rattle.std.specs.Io.KnownBytes.{Appends, Consumes, IsAtEnd}
-use Rattle.certificate.specs.declared.table.Entry.{Entry}
+use Rattle.reports.specs.declared.table.Entry.{Entry}
 use Rattle.host.specs.declared.answer.Answer.{Answer}
 use Rattle.host.specs.declared.answer.Answer.TheVariants.{Done, Refused, Cut}
 use Rattle.inspecting.specs.Plan.{IsPlan, Planned, has_bad, plan_text}

@@ -2,7 +2,7 @@
 use Rattle.std.specs.Prelude.{◌≡◌, ℕ, ◌<◌, IfSome, unwrap_or, length, List, ◌∷◌, ◌++◌, [], codes, Option, Some, None}
 use Rattle.std.specs.Io.KnownBytes.{Appends}
 use Rattle.std.specs.List.{AllByRecursion, flat_map}
-use Rattle.certificate.specs.declared.table.Entry.{Entry}
+use Rattle.reports.specs.declared.table.Entry.{Entry}
 use Rattle.common.specs.Ascii.{LacksByte}
 use Rattle.common.specs.Lines.{◌␣◌, lines_of, text_of_lines}
 use Rattle.inspecting.specs.Bounded.{Holds}

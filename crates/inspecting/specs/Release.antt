@@ -1,7 +1,7 @@
 -- The images of a release, as the files that are named for it have them.
 use Rattle.std.specs.Prelude.{◌≡◌, ◌≢◌, ◌∷◌, [], ℕ, List, length, Option, Some, None, IfSome, slice_get}
 use Rattle.std.specs.List.{AllByRecursion}
-use Rattle.certificate.specs.declared.table.Entry.{Entry}
+use Rattle.reports.specs.declared.table.Entry.{Entry}
 use Rattle.command_line.specs.declared.orders.RequestedFile.{RequestedFile}
 use Rattle.machine.specs.States.{entry_of}
 use Rattle.host.specs.Input.{FileBytes, IsKnownAs}

@@ -1,8 +1,8 @@
 -- The versions that a table requests.
 use Rattle.std.specs.Prelude.{ℕ, List, ◌∷◌, [], map, slice_get, Option, Some, None, option_and_then}
-use Rattle.certificate.specs.declared.table.Request.{Request}
-use Rattle.certificate.specs.declared.table.Request.TheVariants as request
-use Rattle.certificate.specs.declared.table.Table.{Table}
+use Rattle.reports.specs.declared.table.Request.{Request}
+use Rattle.reports.specs.declared.table.Request.TheVariants as request
+use Rattle.reports.specs.declared.table.Table.{Table}
 use Rattle.version_order.specs.declared.version.Version.{Version}
 
 -- The version that is requested, if an intact image is.

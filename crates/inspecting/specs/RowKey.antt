@@ -5,10 +5,10 @@ use Rattle.std.specs.Str.{bytes_eq}
 use Rattle.common.specs.Ascii.{cut}
 use Rattle.common.specs.Limits.{MOST_IMAGES}
 use Rattle.common.specs.Lines.{◌␣◌}
-use Rattle.certificate.specs.LineReading.{◌>>=◌, more_alternatives, report_line_of}
-use Rattle.certificate.specs.declared.report.Refusal.{Refusal}
-use Rattle.certificate.specs.declared.report_line.ReportLine.{ReportLine}
-use Rattle.certificate.specs.declared.report_line.ReportLine.TheVariants as line
+use Rattle.reports.specs.LineReading.{◌>>=◌, more_alternatives, report_line_of}
+use Rattle.reports.specs.declared.report.Refusal.{Refusal}
+use Rattle.reports.specs.declared.report_line.ReportLine.{ReportLine}
+use Rattle.reports.specs.declared.report_line.ReportLine.TheVariants as line
 use Rattle.version_order.specs.VersionText.{version_of}
 use Rattle.version_order.specs.declared.dependency.Dependency.{Dependency}
 use Rattle.inspecting.specs.declared.fleet.row_key.RowKey.{RowKey}

@@ -6,7 +6,7 @@ use Rattle.trailer.specs.declared.kinds.Kind.{Kind}
 use Rattle.trailer.specs.declared.kinds.Kind.TheVariants as request
 use Rattle.swap_scratch.specs.declared.progress.Progress.{Progress}
 use Rattle.image_reading.specs.Codes.{code_of, name_of}
-use Rattle.certificate.specs.ReportText.{report_text}
+use Rattle.reports.specs.ReportText.{report_text}
 use Rattle.machine.specs.declared.error.Fault.TheVariants.{InvalidSet, RunningDamaged}
 use Rattle.device_texts.specs.AnswerText.{line_text}
 use Rattle.inspecting.specs.ImageText.{description_text}

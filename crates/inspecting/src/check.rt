@@ -5,8 +5,9 @@ ghost use Rattle.inspecting.specs.Check.{ChecksReport, ReadsTable, verdict_text}
 
 use crate::inspection::Inspection;
 use crate::table_input::{Text, read_text};
-use certificate::{Report, Table, check};
+use checker::check;
 use host::{Answer, BadText, Host, Refusal, Source};
+use reports::{Report, Table};
 use std::alloc::Global;
 
 /// A table and a report, and whether the report is right for the table.

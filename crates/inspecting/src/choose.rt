@@ -6,12 +6,13 @@ ghost use Rattle.inspecting.specs.Choose.{Chooses, Reads, Writes};
 use crate::inspection::Inspection;
 use crate::reading::{ReadError, read_all};
 use crate::table_input::{Text, read_text};
-use certificate::{Report, Table, is_valid, right_reports_have_a_text};
 use chooser::choose;
 use device_texts::write_all;
 use host::{BadText, Host, Refusal, Source};
+use reports::{Report, Table, right_reports_have_a_text};
 use std::alloc::Global;
 use std::io::{Read, Write};
+use validity::is_valid;
 
 /// A table, and the report on it.
 #[derive(Drop)]

@@ -4,14 +4,14 @@ ghost use Rattle.std.specs.Prelude.{◌≡◌, IfOk, Some, string_bytes};
 ghost use Rattle.inspecting.specs.Answers.{FindsDescription};
 ghost use Rattle.inspecting.specs.Describe.{IsDescribed};
 ghost use Rattle.inspecting.specs.ImageText.{described_text, description_text, refusal_text};
-ghost use Rattle.certificate.specs.DependencyText.{needs_one_text, needs_text};
+ghost use Rattle.reports.specs.DependencyText.{needs_one_text, needs_text};
 ghost use Rattle.common.specs.Lines.{printed_lines};
 
 use crate::inspection::Inspection;
-use certificate::{Needs, NeedsOne};
 use device_texts::refused_text;
 use host::{Host, MOST_FILE, Refusal, Source};
 use image_reading::{Desc, ImageError, describe};
+use reports::{Needs, NeedsOne};
 use std::alloc::{AllocError, Global};
 use std::fmt;
 use version_order::{Dependency, Group};

@@ -12,14 +12,14 @@ ghost use Rattle.inspecting.specs.SlotsFound.{counting_side, moved_in};
 ghost use Rattle.inspecting.specs.SlotsFound.{progress_of, progress_on};
 
 use arrayvec::ArrayVec;
-use certificate::{Report, Table};
 use common::limits::MOST_IMAGES;
 use common::mask::is_member;
 use decision::{find, read_table};
 use flash_model::{Flash, is_erased};
 use image_reading::{Desc, ImageError, SlotError, describe_slot};
 use machine::{Finding, Reading};
-use sector_map::{SectorMap, Side};
+use reports::{Report, Table};
+use sector_map::{SectorMap, Side, is_member};
 use set_log::{RecordKind, State};
 use std::alloc::{AllocError, Global};
 use swap_scratch::{Progress, swap_progress};

@@ -2,8 +2,8 @@
 ghost use Rattle.std.specs.Prelude.{IfOk};
 ghost use Rattle.host.specs.Input.{Gives, KeepsOthers};
 
-use certificate::{Report, Table};
 use host::{BadText, Host, MOST_TABLE, Refusal, Source, SourceFault};
+use reports::{Report, Table};
 use std::alloc::Global;
 
 /// The kind of a text.

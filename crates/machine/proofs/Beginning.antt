@@ -19,11 +19,11 @@ use Rattle.upload.specs.View.{view}
 use Rattle.upload.proofs.Views.{view_kept}
 use Rattle.upload.specs.Device.{DeviceState, Wanted}
 use Rattle.upload.specs.Steady.{IsFront, IsImageAt, IsSteadyAt, logged}
-use Rattle.certificate.specs.declared.table.Table.{Table}
-use Rattle.certificate.specs.declared.table.Image.{Image}
-use Rattle.certificate.specs.declared.table.Entry.{Entry}
-use Rattle.certificate.specs.declared.table.Request.{Request}
-use Rattle.certificate.specs.Combination.{IsValid, image_at, intact_entry}
+use Rattle.reports.specs.declared.table.Table.{Table}
+use Rattle.reports.specs.declared.table.Image.{Image}
+use Rattle.reports.specs.declared.table.Entry.{Entry}
+use Rattle.reports.specs.declared.table.Request.{Request}
+use Rattle.reports.specs.Combination.{IsValid, image_at, intact_entry}
 use Rattle.version_order.specs.Order.{IsAtLeast}
 use Rattle.machine.specs.States.{wanted_bytes}
 use Rattle.machine.specs.Boots.{IsEntryOf, IsRequestOf, IsTableOf, IsDecision}
@@ -32,7 +32,7 @@ use Rattle.machine.specs.Passing.{IsSwappingSome}
 use Rattle.machine.specs.Prepared.{IsRoomFor, IsPrepared}
 use Rattle.machine.proofs.Frames.{image_same, steady_kept, steady_logged, primary_aside}
 use Rattle.machine.proofs.Frames.{same_state, starts_take, swaps_with}
-use Rattle.certificate.specs.declared.table.Request.TheVariants as request
+use Rattle.reports.specs.declared.table.Request.TheVariants as request
 use Rattle.set_log.specs.declared.state.RecordKind.TheVariants as log
 
 entry_bytes : (held : Option (List ℕ)) (entry : Entry) → IsEntryOf held entry → (bytes : List ℕ) × (held ≡ Some bytes)

@@ -14,7 +14,7 @@ use Rattle.upload.specs.View.{view}
 use Rattle.upload.proofs.Views.{view_kept}
 use Rattle.upload.specs.Device.{DeviceState}
 use Rattle.upload.specs.Steady.{IsFront, IsRequested, IsImageAt, IsSteadyAt, logged}
-use Rattle.certificate.specs.declared.table.Table.{Table}
+use Rattle.reports.specs.declared.table.Table.{Table}
 use Rattle.machine.specs.States.{wanted_bytes, settled, with_taken, bytes_or_none, new_trial}
 use Rattle.machine.specs.Holding.{IsTrialAt, IsSwapped, AreSettled}
 use Rattle.machine.specs.Passing.{IsTakenAt}

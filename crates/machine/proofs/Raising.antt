@@ -6,17 +6,17 @@ use Rattle.common.specs.Masks.{is_member}
 use Rattle.image_reading.specs.declared.desc.Desc.{Desc}
 use Rattle.image_reading.specs.Image.{IsIntact}
 use Rattle.upload.specs.Device.{DeviceState, Wanted}
-use Rattle.certificate.specs.declared.table.Table.{Table}
-use Rattle.certificate.specs.declared.table.Image.{Image}
-use Rattle.certificate.specs.declared.table.Entry.{Entry}
-use Rattle.certificate.specs.declared.table.Request.{Request}
-use Rattle.certificate.specs.Combination.{entry_in}
+use Rattle.reports.specs.declared.table.Table.{Table}
+use Rattle.reports.specs.declared.table.Image.{Image}
+use Rattle.reports.specs.declared.table.Entry.{Entry}
+use Rattle.reports.specs.declared.table.Request.{Request}
+use Rattle.reports.specs.Combination.{entry_in}
 use Rattle.machine.specs.States.{wanted_bytes, IsRaised, running_after}
 use Rattle.machine.specs.Boots.{IsEntryOf, IsRequestOf, IsRowOf, IsTableOf, IsDecision}
 use Rattle.machine.specs.Reading.{AreRaisedBy}
 use Rattle.machine.proofs.Beginning.{row_at, running_bytes, member_bytes}
 use Rattle.machine.proofs.Unique.{one_description}
-use Rattle.certificate.specs.declared.table.Request.TheVariants as request
+use Rattle.reports.specs.declared.table.Request.TheVariants as request
 
 pub entry_counter : (held : Option (List ℕ)) (entry : Entry) (bytes : List ℕ) (d : Desc)
     → IsEntryOf held entry → held ≡ Some bytes → IsIntact bytes d → entry.counter ≡ d.counter

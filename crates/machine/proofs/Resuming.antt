@@ -9,8 +9,8 @@ use Rattle.set_log.specs.declared.state.RecordKind.{RecordKind}
 use Rattle.upload.specs.View.{view}
 use Rattle.upload.specs.Device.{DeviceState}
 use Rattle.upload.specs.Steady.{IsImageAt, logged}
-use Rattle.certificate.specs.declared.table.Table.{Table}
-use Rattle.certificate.specs.declared.report.Report.{Report}
+use Rattle.reports.specs.declared.table.Table.{Table}
+use Rattle.reports.specs.declared.report.Report.{Report}
 use Rattle.machine.specs.States.{settled}
 use Rattle.machine.specs.Boots.{IsDecision}
 use Rattle.machine.specs.Holding.{IsSwapped}

@@ -13,14 +13,14 @@ use Rattle.upload.specs.View.{view}
 use Rattle.upload.specs.Device.{DeviceState, Wanted}
 use Rattle.common.specs.Bytes.{Starts}
 use Rattle.upload.specs.Steady.{IsFront, IsRequested, told_by}
-use Rattle.certificate.specs.declared.table.Table.{Table}
-use Rattle.certificate.specs.declared.table.Image.{Image}
-use Rattle.certificate.specs.declared.table.Entry.{Entry}
+use Rattle.reports.specs.declared.table.Table.{Table}
+use Rattle.reports.specs.declared.table.Image.{Image}
+use Rattle.reports.specs.declared.table.Entry.{Entry}
 use Rattle.machine.specs.States.{entry_of}
 use Rattle.machine.specs.Boots.{IsEntryOf, IsRequestOf, IsRowOf, IsTableOf, IsLowestDamaged}
 use Rattle.machine.specs.Reading.{IsReadOf, CanReadAt, CanRead, IsRowRead, AreRowsOf}
 use Rattle.machine.proofs.Unique.{one_front}
-use Rattle.certificate.specs.declared.table.Request.TheVariants as request
+use Rattle.reports.specs.declared.table.Request.TheVariants as request
 use Rattle.trailer.specs.declared.kinds.Kind as request_kind
 
 pub read_some : (whole : List ℕ) (d : Desc) (held : Option (List ℕ))

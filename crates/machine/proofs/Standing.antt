@@ -8,7 +8,7 @@ use Rattle.set_log.specs.declared.state.RecordKind.TheVariants as log
 use Rattle.upload.specs.View.{view}
 use Rattle.upload.specs.Device.{DeviceState, Trial}
 use Rattle.upload.specs.Steady.{IsSteadyAt, logged}
-use Rattle.certificate.specs.declared.table.Table.{Table}
+use Rattle.reports.specs.declared.table.Table.{Table}
 use Rattle.machine.specs.States.{reverted}
 use Rattle.machine.specs.Boots.{GoesBack, IsDecision}
 use Rattle.machine.specs.Holding.{IsSwapped, IsSwappedBack}

@@ -5,8 +5,8 @@ use Rattle.sector_map.specs.declared.layout.SectorMap.{SectorMap}
 use Rattle.sector_map.specs.declared.layout.Side.TheVariants.{Primary}
 use Rattle.sector_map.specs.Map.{Keeps}
 use Rattle.sector_map.specs.Part.{Part, Slot}
-use Rattle.certificate.specs.Combination.{entry_in}
-use Rattle.certificate.specs.declared.table.Table.{Table}
+use Rattle.reports.specs.Combination.{entry_in}
+use Rattle.reports.specs.declared.table.Table.{Table}
 use Rattle.upload.specs.Steady.{IsFront}
 use Rattle.upload.specs.View.{view}
 use Rattle.upload.proofs.Views.{view_kept}

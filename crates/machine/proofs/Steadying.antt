@@ -13,10 +13,10 @@ use Rattle.set_log.specs.declared.state.State.{State}
 use Rattle.upload.specs.View.{view}
 use Rattle.upload.specs.Device.{DeviceState}
 use Rattle.upload.specs.Steady.{IsSteadyAt, logged}
-use Rattle.certificate.specs.declared.table.Table.{Table}
-use Rattle.certificate.specs.declared.report.Report.{Report}
-use Rattle.certificate.specs.Combination.{IsGreatest}
-use Rattle.certificate.specs.Rightness.{taken_in}
+use Rattle.reports.specs.declared.table.Table.{Table}
+use Rattle.reports.specs.declared.report.Report.{Report}
+use Rattle.reports.specs.Combination.{IsGreatest}
+use Rattle.reports.specs.Rightness.{taken_in}
 use Rattle.machine.specs.Boots.{IsChosen, IsReported, IsLowestDamaged}
 use Rattle.machine.specs.Holding.{Rests}
 use Rattle.machine.specs.Passing.{EndsBoot}

@@ -13,7 +13,7 @@ use Rattle.sector_map.specs.Map.{IsLaidOut, Keeps}
 use Rattle.sector_map.proofs.Parts.{keeps_bytes}
 use Rattle.set_log.specs.declared.state.State.{State}
 use Rattle.set_log.specs.declared.state.RecordKind.TheVariants as log
-use Rattle.certificate.specs.Combination.{IsValid, running_set}
+use Rattle.reports.specs.Combination.{IsValid, running_set}
 use Rattle.upload.specs.View.{view}
 use Rattle.upload.specs.Device.{DeviceState, Machine, Session}
 use Rattle.upload.specs.Sessions.{AllClosed, HasSessions, upload_at}

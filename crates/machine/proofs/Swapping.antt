@@ -20,7 +20,7 @@ use Rattle.upload.proofs.Views.{view_kept}
 use Rattle.upload.specs.Device.{DeviceState}
 use Rattle.common.specs.Bytes.{Starts}
 use Rattle.upload.specs.Steady.{IsFront, IsImageAt, logged}
-use Rattle.certificate.specs.declared.table.Table.{Table}
+use Rattle.reports.specs.declared.table.Table.{Table}
 use Rattle.machine.specs.States.{wanted_bytes}
 use Rattle.machine.specs.Holding.{IsSwapped, IsSettledAt}
 use Rattle.machine.specs.Passing.{IsSwappingSome}

@@ -18,7 +18,7 @@ use Rattle.upload.specs.View.{KeepsView, view}
 use Rattle.upload.proofs.Views.{view_kept}
 use Rattle.upload.specs.Device.{DeviceState, Trial}
 use Rattle.upload.specs.Steady.{IsFront, IsImageAt, IsSteadyAt, logged}
-use Rattle.certificate.specs.declared.table.Entry.{Entry}
+use Rattle.reports.specs.declared.table.Entry.{Entry}
 use Rattle.machine.specs.States.{IsConfirmed, IsRaised, settled, tried_again}
 use Rattle.machine.specs.Boots.{Boots, GoesBack, GoesOn, HasDamaged, IsBootCut, IsEntryOf, IsReadAs}
 use Rattle.machine.specs.Holding.{IsTriedAt, IsTrialAt, IsTrialOpen, Stands, Rests, Tries, Opens, SwapsBack}

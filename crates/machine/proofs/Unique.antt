@@ -8,15 +8,15 @@ use Rattle.upload.proofs.Images.{same_front}
 use Rattle.machine.specs.States.{entry_of}
 use Rattle.upload.specs.Device.{DeviceState, Wanted}
 use Rattle.common.specs.Bytes.{Starts}
-use Rattle.certificate.specs.declared.table.Table.{Table}
-use Rattle.certificate.specs.declared.table.Image.{Image}
-use Rattle.certificate.specs.declared.table.Entry.{Entry}
-use Rattle.certificate.specs.declared.table.Request.{Request}
-use Rattle.certificate.specs.Combination.{IsGreatest}
-use Rattle.certificate.specs.declared.report.Report.{Report}
-use Rattle.certificate.specs.Rightness.{taken_in}
+use Rattle.reports.specs.declared.table.Table.{Table}
+use Rattle.reports.specs.declared.table.Image.{Image}
+use Rattle.reports.specs.declared.table.Entry.{Entry}
+use Rattle.reports.specs.declared.table.Request.{Request}
+use Rattle.reports.specs.Combination.{IsGreatest}
+use Rattle.reports.specs.declared.report.Report.{Report}
+use Rattle.reports.specs.Rightness.{taken_in}
 use Rattle.machine.specs.Boots.{IsEntryOf, IsReported, IsRequestOf, IsRowOf, IsTableOf}
-use Rattle.certificate.specs.declared.table.Request.TheVariants as request
+use Rattle.reports.specs.declared.table.Request.TheVariants as request
 
 -- At most one prefix is an intact image, and it has one description.
 pub one_front : (whole first second : List ℕ) (a b : Desc) → Starts whole first → Starts whole second

@@ -6,9 +6,9 @@ use Rattle.common.specs.Masks.{is_member}
 use Rattle.upload.specs.View.{view}
 use Rattle.upload.specs.Device.{DeviceState}
 use Rattle.upload.specs.Steady.{IsSteadyAt}
-use Rattle.certificate.specs.declared.table.Table.{Table}
-use Rattle.certificate.specs.declared.report.Report.{Report}
-use Rattle.certificate.specs.Rightness.{taken_in}
+use Rattle.reports.specs.declared.table.Table.{Table}
+use Rattle.reports.specs.declared.report.Report.{Report}
+use Rattle.reports.specs.Rightness.{taken_in}
 use Rattle.machine.specs.States.{IsRaised, running_after, with_taken, new_trial}
 use Rattle.machine.specs.Boots.{AsksForGood, IsChosen, IsDecision, IsReported}
 use Rattle.machine.specs.Holding.{IsSwapped, Stands, Rests, Tries, Swaps, Settles}

@@ -9,7 +9,7 @@ use Rattle.trailer.specs.Settled.{IsSettled}
 use Rattle.set_log.specs.declared.state.RecordKind.{RecordKind}
 use Rattle.set_log.specs.declared.state.RecordKind.TheVariants as log
 use Rattle.swap_scratch.specs.Swap.{IsSwapAt}
-use Rattle.certificate.specs.declared.table.Table.{Table}
+use Rattle.reports.specs.declared.table.Table.{Table}
 use Rattle.upload.specs.declared.sessions.Upload.{Upload}
 use Rattle.upload.specs.View.{View, view}
 use Rattle.upload.specs.Device.{DeviceState, Machine, Trial}

@@ -5,9 +5,9 @@ use Rattle.flash_model.specs.Chip.{Chip}
 use Rattle.sector_map.specs.declared.layout.SectorMap.{SectorMap}
 use Rattle.common.specs.Masks.{is_member}
 use Rattle.set_log.specs.declared.state.RecordKind.TheVariants as log
-use Rattle.certificate.specs.declared.table.Table.{Table}
-use Rattle.certificate.specs.declared.report.Report.{Report}
-use Rattle.certificate.specs.Rightness.{taken_in}
+use Rattle.reports.specs.declared.table.Table.{Table}
+use Rattle.reports.specs.declared.report.Report.{Report}
+use Rattle.reports.specs.Rightness.{taken_in}
 use Rattle.upload.specs.View.{View, view}
 use Rattle.upload.specs.Device.{DeviceState, Machine, Trial}
 use Rattle.upload.specs.Steady.{IsSteadyAt}

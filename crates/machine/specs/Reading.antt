@@ -2,12 +2,12 @@
 use Rattle.std.specs.Prelude.{◌≡◌, ℕ, ◌<◌, ◌≤◌, max, Bool, true, false, List, length, Option, Some, None, slice_get}
 use Rattle.std.specs.Prelude.{slice_index}
 use Rattle.sector_map.specs.declared.layout.Side.TheVariants.{Primary, Secondary}
-use Rattle.common.specs.Masks.{is_member}
-use Rattle.certificate.specs.declared.table.Entry.{Entry}
-use Rattle.certificate.specs.declared.table.Image.{Image}
-use Rattle.certificate.specs.declared.table.Table.{Table}
-use Rattle.certificate.specs.Combination.{entry_in, IsValid, running_set}
-use Rattle.certificate.specs.Rightness.{taken_in}
+use Rattle.sector_map.specs.Part.{is_member}
+use Rattle.reports.specs.declared.table.Entry.{Entry}
+use Rattle.reports.specs.declared.table.Image.{Image}
+use Rattle.reports.specs.declared.table.Table.{Table}
+use Rattle.reports.specs.Combination.{entry_in, IsValid, running_set}
+use Rattle.reports.specs.Rightness.{taken_in}
 use Rattle.image_reading.specs.declared.desc.Desc.{Desc}
 use Rattle.image_reading.specs.Image.{IsIntact}
 use Rattle.upload.specs.View.{View}

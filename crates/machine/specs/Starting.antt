@@ -2,12 +2,12 @@
 use Rattle.std.specs.Prelude.{◌≡◌, ℕ, ◌<◌, Bool, true, List, length, Option, Some, None, slice_get}
 use Rattle.sector_map.specs.declared.layout.Side.{Side}
 use Rattle.sector_map.specs.declared.layout.Side.TheVariants.{Primary}
-use Rattle.common.specs.Masks.{is_member}
-use Rattle.certificate.specs.declared.table.Entry.{Entry}
-use Rattle.certificate.specs.declared.table.Image.{Image}
-use Rattle.certificate.specs.declared.table.Table.{Table}
-use Rattle.certificate.specs.Combination.{IsValid, entry_in}
-use Rattle.certificate.specs.Rightness.{taken_in}
+use Rattle.sector_map.specs.Part.{is_member}
+use Rattle.reports.specs.declared.table.Entry.{Entry}
+use Rattle.reports.specs.declared.table.Image.{Image}
+use Rattle.reports.specs.declared.table.Table.{Table}
+use Rattle.reports.specs.Combination.{IsValid, entry_in}
+use Rattle.reports.specs.Rightness.{taken_in}
 use Rattle.upload.specs.Steady.{IsFront}
 use Rattle.upload.specs.View.{View}
 use Rattle.machine.specs.Boots.{IsEntryOf}

@@ -1,6 +1,6 @@
 //! Results of reading a flash, from which a boot continues.
 
-use certificate::{Report, Table};
+use reports::{Report, Table};
 
 /// What a boot reads of the images of a device.
 #[derive(Drop)]

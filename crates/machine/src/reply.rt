@@ -1,7 +1,7 @@
 //! Replies of a device to events.
 
 use crate::error::Fault;
-use certificate::{Report, Table};
+use reports::{Report, Table};
 
 /// A device's reply to an event.
 #[derive(Drop, PartialEq, Eq)]

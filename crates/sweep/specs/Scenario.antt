@@ -10,7 +10,7 @@ use Rattle.flash_model.specs.Memory.{with_armed}
 use Rattle.sector_map.specs.declared.layout.SectorMap.{SectorMap}
 use Rattle.sector_map.specs.declared.layout.Side.TheVariants.{Primary}
 use Rattle.version_order.specs.declared.version.Version.{Version}
-use Rattle.certificate.specs.declared.table.Entry.{Entry}
+use Rattle.reports.specs.declared.table.Entry.{Entry}
 use Rattle.image_reading.specs.Slot.{slot_bytes}
 use Rattle.upload.specs.Sessions.{AllClosed}
 use Rattle.upload.specs.Steady.{IsFront}

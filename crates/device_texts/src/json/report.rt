@@ -5,7 +5,7 @@ ghost use Rattle.device_texts.specs.Json.{dependency_json, group_json, needs_of,
 ghost use Rattle.device_texts.specs.Json.{reported_images, versioned_json, with_report};
 
 use crate::json::{Json, Object, put_each, put_number, put_text, put_values, values_of};
-use certificate::{Reason, Refusal, Report, ReportedImage};
+use reports::{Reason, Refusal, Report, ReportedImage};
 use serde_json::{Map, Value, push};
 use std::alloc::{AllocError, Global};
 use version_order::{Dependency, Group, Version};

@@ -5,7 +5,7 @@ ghost use Rattle.std.specs.Prelude.{◌≡◌, ◌+◌, ◌^◌, ◌<◌, Some, 
 ghost use Rattle.inspecting.specs.Key.{key_text};
 ghost use Rattle.inspecting.specs.Summary.{take_key, taken_image, taken_images};
 
-use certificate::{Reason, ReportedImage};
+use reports::{Reason, ReportedImage};
 use std::fmt;
 use version_order::Version;
 

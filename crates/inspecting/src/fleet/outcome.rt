@@ -8,10 +8,11 @@ ghost use Rattle.inspecting.specs.Outcome.{IsDecision, IsOutcome, is_bad, outcom
 use crate::fleet::bounded::Bounded;
 use crate::fleet::requested::requested_versions;
 use crate::fleet::requests::Requests;
-use certificate::{Report, Table, is_valid};
 use chooser::choose;
 use common::limits::MOST_IMAGES;
+use reports::{Report, Table};
 use std::fmt;
+use validity::is_valid;
 use version_order::Version;
 
 /// What was requested of a device, and the decision.

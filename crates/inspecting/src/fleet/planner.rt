@@ -1,7 +1,7 @@
 //! Reads a fleet piece by piece, and writes each device with its result once its table is complete.
 
 ghost use Rattle.std.specs.Prelude.{◌≡◌, ◌++◌, ◌∷◌, ℕ, IfOk, List, None, Option, [], OnOk, option_copied};
-ghost use Rattle.certificate.specs.declared.table.Entry.{Entry};
+ghost use Rattle.reports.specs.declared.table.Entry.{Entry};
 ghost use Rattle.common.specs.Ascii.{LacksByte};
 ghost use Rattle.common.specs.Lines.{lines_of};
 ghost use Rattle.inspecting.specs.Bounded.{Holds};

@@ -6,12 +6,12 @@ ghost use Rattle.host.specs.Input.{KeepsFiles};
 ghost use Rattle.inspecting.specs.Release.{IsEntryOfFile, IsRelease, PutsRequest, none_of_eight};
 
 use crate::fleet::requests::Requests;
-use certificate::Entry;
 use command_line::RequestedFile;
 use common::limits::MOST_IMAGES;
 use decision::entry_of;
 use host::{Host, MOST_FILE, Refusal, Source, SourceFault};
 use image_reading::describe;
+use reports::Entry;
 use std::alloc::Global;
 
 /// Reads the files that are requested, and returns their requests. The bytes of one file at a time

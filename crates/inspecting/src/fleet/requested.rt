@@ -3,8 +3,8 @@
 ghost use Rattle.std.specs.Prelude.{◌≡◌};
 ghost use Rattle.inspecting.specs.Requested.{requested_version, requested_versions, version_at, version_of};
 
-use certificate::{Request, Table};
 use common::limits::MOST_IMAGES;
+use reports::{Request, Table};
 use version_order::Version;
 
 /// Returns for each image number the version that a table requests, if it requests an intact image.

@@ -4,8 +4,8 @@ ghost use Rattle.std.specs.Prelude.{◌≡◌, ◌≤◌, length};
 ghost use Rattle.common.specs.Limits.{MOST_IMAGES};
 ghost use Rattle.inspecting.specs.Requests.{Replaces, with_request};
 
-use certificate::{Entry, Image, Request, Table};
 use common::limits::MOST_IMAGES;
+use reports::{Entry, Image, Request, Table};
 
 /// The images of a release: what is requested of each device in place of its own requests.
 #[derive(Drop)]

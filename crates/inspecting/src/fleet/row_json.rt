@@ -10,8 +10,8 @@ ghost use Rattle.inspecting.specs.declared.fleet.row_key.RowKey.TheVariants as k
 
 use crate::fleet::row_key::RowKey;
 use crate::fleet::rows::{Rows, Tally};
-use certificate::Refusal;
 use device_texts::json::{Json, Object, put_each, put_number, put_text};
+use reports::Refusal;
 use serde_json::{Map, Value, push};
 use std::alloc::{AllocError, Global};
 use version_order::Version;

@@ -1,16 +1,16 @@
 //! Reads the keys of a summary: what the devices of a row do.
 
 ghost use Rattle.std.specs.Prelude.{◌≡◌, IfOk, option_copied, option_map, unwrap_or};
-ghost use Rattle.certificate.specs.LineReading.{alternative_of};
+ghost use Rattle.reports.specs.LineReading.{alternative_of};
 ghost use Rattle.common.specs.Lines.{◌␣◌};
 ghost use Rattle.inspecting.specs.RowKey.{refusal_of, refuse_key_of, row_key_of, take_key_of, taken_of, versioned_of};
 ghost use Rattle.inspecting.specs.declared.fleet.row_key.RowKey.TheVariants as key;
 
 use arrayvec::ArrayVec;
-use certificate::{Refusal, Report, ReportedImage};
 use common::ascii::{cut, number_u8};
 use common::limits::MOST_IMAGES;
 use common::lines::TakesLines;
+use reports::{Refusal, Report, ReportedImage};
 use std::alloc::{AllocError, Global};
 use version_order::{Dependency, Version};
 
@@ -92,7 +92,7 @@ fn taken(fields: Option<&[u8]>) -> Option<ArrayVec<Dependency, MOST_IMAGES>>
 }
 
 /// Reads the number of an image and its version.
-#[tactic(auto, unfolding(certificate::specs::LineReading::alternative_of))]
+#[tactic(auto, unfolding(reports::specs::LineReading::alternative_of))]
 fn image_in(image: &[u8], version: &[u8]) -> Option<Dependency>
     ensures { result ≡ alternative_of image.now version.now }
 {

@@ -10,7 +10,7 @@ use crate::fleet::key::Key;
 use crate::fleet::outcome::{Decision, Outcome};
 use crate::fleet::requested::version_at;
 use crate::fleet::rows::{RowFault, Rows, add_row};
-use certificate::Refusal;
+use reports::Refusal;
 use std::alloc::Global;
 use std::collections::BTreeMap;
 

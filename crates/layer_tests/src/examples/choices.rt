@@ -20,7 +20,7 @@ fn versions_are_compared(rt: HostRuntime) -> Result<(), Fail> {
 
 #[test]
 fn a_report_is_checked(rt: HostRuntime) -> Result<(), Fail> {
-    // example: certificate::check
+    // example: checker::check
     // Image 0 requests 2.0.0+0, which needs image 1 at 2.0.0+0. Nothing is requested for image 1.
     let table = Table::parse(
         b"image 0 1.0.0+0 0 0\nrequest 2.0.0+0 0\nneeds 1 2.0.0+0\nimage 1 1.0.0+0 0 0\n",

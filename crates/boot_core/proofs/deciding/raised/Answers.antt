@@ -1,6 +1,6 @@
 use Rattle.std.proofs.Common.{◌≡◌, ◌<◌, ◌∙◌, length, max, slice_index, ap, arith}
-use Rattle.common.specs.Masks.{is_member}
-use Rattle.certificate.specs.Combination.{entry_in}
+use Rattle.sector_map.specs.Part.{is_member}
+use Rattle.reports.specs.Combination.{entry_in}
 use Rattle.boot_core.proofs.Raised.{raised_next}
 use Rattle.boot_core.proofs.deciding.raised.Goals as goal
 

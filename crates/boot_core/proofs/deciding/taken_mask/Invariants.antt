@@ -1,5 +1,5 @@
 use Rattle.std.proofs.Common.{◌≡◌, map, take}
-use Rattle.certificate.specs.declared.report.ReportedImage.{ReportedImage}
+use Rattle.reports.specs.declared.report.ReportedImage.{ReportedImage}
 use Rattle.boot_core.proofs.deciding.taken_mask.Given as goal
 
 abbrev pub invariant-loop-image : goal.invariant-loop-image

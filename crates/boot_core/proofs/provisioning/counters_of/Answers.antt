@@ -1,5 +1,5 @@
 use Rattle.std.proofs.Common.{◌≡◌, ℕ, ◌+◌, ◌<◌, length, arith, set, subst}
-use Rattle.certificate.specs.declared.table.Entry.{Entry}
+use Rattle.reports.specs.declared.table.Entry.{Entry}
 use Rattle.boot_core.proofs.Afresh.{AreWritten, all_written, none_written, one_written}
 use Rattle.boot_core.proofs.provisioning.counters_of.Goals as goal
 

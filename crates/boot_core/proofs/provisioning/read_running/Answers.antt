@@ -2,7 +2,7 @@ use Rattle.std.proofs.Common.{rules, ap, sym, subst, arith, ◌≡◌, ◌<◌, 
 use Rattle.flash_model.specs.Chip.{Chip}
 use Rattle.sector_map.specs.Map.{IsLaidOut}
 use Rattle.boot_core.specs.Provisioned.{AreRunningRows, IsRowThere, running_bytes}
-use Rattle.certificate.specs.Running.{running_row}
+use Rattle.validity.specs.Running.{running_row}
 use Rattle.decision.specs.Places.{some_if}
 use Rattle.boot_core.proofs.Afresh.{entries_more, first_damaged, rows_none}
 use Rattle.boot_core.proofs.provisioning.read_running.Goals as goal

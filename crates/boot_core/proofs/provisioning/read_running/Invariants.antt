@@ -1,6 +1,6 @@
 use Rattle.std.proofs.Common.{◌≡◌, ◌<◌, ◌≤◌, true, map}
 use Rattle.sector_map.specs.Map.{IsLaidOut}
-use Rattle.certificate.specs.Running.{running_row}
+use Rattle.validity.specs.Running.{running_row}
 use Rattle.boot_core.specs.Provisioned.{AreRunningRows}
 use Rattle.boot_core.proofs.provisioning.read_running.Given as goal
 

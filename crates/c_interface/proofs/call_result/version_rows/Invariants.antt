@@ -1,5 +1,5 @@
 use Rattle.std.proofs.Common.{◌≡◌, ◌<◌, ◌≤◌, ℕ, Some, length, slice_get}
-use Rattle.certificate.specs.declared.report.ReportedImage.{ReportedImage}
+use Rattle.reports.specs.declared.report.ReportedImage.{ReportedImage}
 use Rattle.c_interface.specs.CallResult.{no_version, version_row}
 use Rattle.c_interface.proofs.call_result.version_rows.Given as goal
 

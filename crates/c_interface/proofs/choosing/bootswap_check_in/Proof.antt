@@ -1,7 +1,7 @@
 -- The walk of a check with a workspace: a table is made in the room, lent to the check, and given up.
 use Rattle.c_interface.proofs.Lending.{ℕ, [], ◌∷◌, length, refl, w32, MutBor, proved, full_share, id⊢, ftrue, flft, flent, froom, named, vptr, WpFn, fact, tables, ‵, raw, ◌⊛◌, some, later, prop, ◌$◌, ◌∵◌, !, qed, done, move, drop, use1, use2, use3, split, join, fsplit, pick, await, regoal, suffices, frame, group, enter, of_opd, addr, init, stop, no_more, and_then, assigns, returns, alloc_all, pass_all, free_all, look_at, get, through, sets, lands_as, Body, lft_new, lft_end, u8, u32, u64, yes, Is, shows, lends_ref, mem, part_at, uint_Lawful, Ptr, RawPtr, block_ptr, ptr_val, room_at, in_a_block, rawptr_vals, rawptr_Tells, MutRef, mut_vals, mut_Tells, plain, shr_slice_of, ShrSlice, slice_val, shr_slice_vals, shr_slice_Tells, nothing, heard, peeks, calls_at, ensured, lasts, triple_of, framed, Stays, says, walk_of, ends_at, stay_dropped, gave_ref, Goes-dropped, Goes-gave_ref, part_in, table, table_laws, workspace, τ, ω, Back, opened, closed}
-use Rattle.certificate.specs.contracts.table.TableDefault.default as default
-use Rattle.certificate.proofs.table.TableDefault.default.Met as default_thm
+use Rattle.reports.specs.contracts.table.TableDefault.default as default
+use Rattle.reports.proofs.table.TableDefault.default.Met as default_thm
 use Rattle.c_interface.specs.Choosing.{AnswersCheck}
 use Rattle.c_interface.specs.contracts.choosing.bootswap_check_in as f
 use Rattle.c_interface.proofs.choosing.bootswap_check_in.Statement.{statement}
@@ -47,7 +47,7 @@ bootswap_check_in_spec 𝓤 𝓛 𝓜 𝓡 wired =
     let D = triple_of 𝓛 default.signature (default.spec 𝓛 𝓜.mem 𝓡.returns) in
     let z : D.Ghost = ((tt, tt, tt, tt, tt), tt) in
     nothing ! $ nothing ! $ join ! $ nothing ! $ move ! (1 ∷ 0 ∷ []) $ use2 𝓛 (raw (D.pre z)) (id⊢ 𝓤 _) $
-    calls_at ! (framed 𝓤 𝓛.H 𝓜 𝓣) D (default_thm.met 𝓤 𝓛 𝓜 𝓡 (code.calls-certificate::table::TableDefault::default 𝓡.env wired)) z (no_more !) (λ v.
+    calls_at ! (framed 𝓤 𝓛.H 𝓜 𝓣) D (default_thm.met 𝓤 𝓛 𝓜 𝓡 (code.calls-reports::table::TableDefault::default 𝓡.env wired)) z (no_more !) (λ v.
     use1 𝓛 (later (some (λ (t : table.Denot). (‵ ftrue ⊛ ‵ (table.own_val t (v ∷ []))) ⊛ raw (ensured 𝓛 default.ended (default.clauses 𝓛 𝓜.mem 𝓡.returns) tt tt tt t)))) (id⊢ 𝓤 _) $
     await ! tt $ pick ! (λ t. split ! $ split ! $ drop ! $ move ! (1 ∷ []) $ drop ! $
     peeks ! table (Is table) (shows 𝓛 table) t (v ∷ []) (λ is. let good = ((table_laws.lawful 𝓛).typed t (v ∷ []) is).0 in

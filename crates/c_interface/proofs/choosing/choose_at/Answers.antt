@@ -1,8 +1,8 @@
 use Rattle.std.proofs.Common.{◌≡◌, ◌++◌, true, false, drop, length, refl, sym, ◌∙◌, subst, rules}
-use Rattle.certificate.specs.ReportText.{report_text}
+use Rattle.reports.specs.ReportText.{report_text}
 use Rattle.c_interface.specs.Choosing.{Chosen, Invalid, NoRoom, NoTable}
-use Rattle.certificate.proofs.ReportTextLaws.{FitsReport-from_text}
-use Rattle.certificate.proofs.RightFits.{right_report_has_text}
+use Rattle.reports.proofs.ReportTextLaws.{FitsReport-from_text}
+use Rattle.reports.proofs.RightFits.{right_report_has_text}
 use Rattle.c_interface.proofs.ShortReports.{longer, report_short}
 use Rattle.c_interface.proofs.choosing.choose_at.Goals as goal
 

@@ -1,8 +1,8 @@
 use Rattle.std.proofs.Common.{rules, arith, ◌≡◌, ℕ, ◌+◌, ◌≤◌, false, List, ◌∷◌, [], ◌++◌, length, set, refl, sym, ap, subst, ◌∙◌}
 use Rattle.std.proofs.lemmas.Grind.{common_steps}
 use Rattle.std.proofs.lemmas.List.{length_push}
-use Rattle.certificate.specs.declared.report.Refusal.{Refusal}
-use Rattle.certificate.specs.StandardOrder.{IsNextNeed}
+use Rattle.reports.specs.declared.report.Refusal.{Refusal}
+use Rattle.reports.specs.StandardOrder.{IsNextNeed}
 use Rattle.chooser.specs.declared.steps.Steps.{Steps}
 use Rattle.chooser.specs.Counted.{drops_in}
 use Rattle.chooser.specs.Marks.{AreMarks, AreMarksApartFrom}

@@ -1,7 +1,7 @@
 use Rattle.std.proofs.Common.{rules, ◌≡◌, ◌+◌, ◌<◌, ◌≤◌, Bool, false, List, length, set, sym, ap, subst, ◌∙◌}
 use Rattle.std.proofs.lemmas.Bool.{and_left, and_right, not_from_true}
-use Rattle.certificate.specs.Dependants.{is_dependant}
-use Rattle.certificate.specs.Reasons.{is_refused}
+use Rattle.validity.specs.Dependants.{is_dependant}
+use Rattle.reports.specs.Reasons.{is_refused}
 use Rattle.chooser.specs.declared.steps.Steps.{Steps}
 use Rattle.chooser.specs.Marks.{is_left_dependant}
 use Rattle.chooser.proofs.Counting.{AreLooks, AreLooks-look, AreLooks-skip, counts_only_looks, looks-le}

@@ -3,12 +3,12 @@ use Rattle.std.specs.List.{list_any}
 use Rattle.std.proofs.lemmas.Bool.{or_left}
 use Rattle.version_order.specs.declared.dependency.Dependency.{Dependency}
 use Rattle.version_order.specs.declared.group.Group.{Group}
-use Rattle.certificate.specs.declared.report.Reason.TheVariants.{Needs, NeedsOne}
-use Rattle.certificate.specs.declared.report.Refusal.{Refusal}
-use Rattle.certificate.specs.declared.table.Entry.{Entry}
-use Rattle.certificate.specs.declared.table.Table.{Table}
-use Rattle.certificate.specs.Reasons.{is_group_out_of_reach, is_out_of_reach}
-use Rattle.certificate.specs.StandardOrder.{needs_reason_of_entry}
+use Rattle.reports.specs.declared.report.Reason.TheVariants.{Needs, NeedsOne}
+use Rattle.reports.specs.declared.report.Refusal.{Refusal}
+use Rattle.reports.specs.declared.table.Entry.{Entry}
+use Rattle.reports.specs.declared.table.Table.{Table}
+use Rattle.reports.specs.Reasons.{is_group_out_of_reach, is_out_of_reach}
+use Rattle.reports.specs.StandardOrder.{needs_reason_of_entry}
 use Rattle.chooser.proofs.Searches.{is_some-first_found}
 use Rattle.chooser.proofs.needs.is_unmet.Goals as goal
 

@@ -1,8 +1,8 @@
 use Rattle.std.proofs.Common.{◌≡◌, ℕ, false, Option, None, sym, subst, ◌∙◌}
 use Rattle.std.specs.Prelude.{IfNone}
-use Rattle.certificate.specs.declared.report.Refusal.{Refusal}
-use Rattle.certificate.specs.Reasons.{is_refused}
-use Rattle.certificate.specs.StandardOrder.{needs_reason}
+use Rattle.reports.specs.declared.report.Refusal.{Refusal}
+use Rattle.reports.specs.Reasons.{is_refused}
+use Rattle.reports.specs.StandardOrder.{needs_reason}
 use Rattle.chooser.proofs.Marking.{none-left, lowest-reason, lowest-next}
 use Rattle.chooser.proofs.needs.next_need.Goals as goal
 

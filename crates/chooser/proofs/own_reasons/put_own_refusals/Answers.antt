@@ -1,7 +1,7 @@
 use Rattle.std.proofs.Common.{◌∷◌, [], ◌++◌, Some, None, sym, ap, ◌∙◌, arith}
 use Rattle.std.proofs.lemmas.List.{append-nil}
 use Rattle.arrayvec.specs.ArrayVec.{ArrayVec, array_vec_len}
-use Rattle.certificate.specs.declared.report.Refusal.{Refusal}
+use Rattle.reports.specs.declared.report.Refusal.{Refusal}
 use Rattle.chooser.proofs.OwnRefusals.{own_refusals_below, own_refusals_below-more, own_refusals_below-all}
 use Rattle.chooser.proofs.own_reasons.put_own_refusals.Goals as goal
 use Rattle.chooser.proofs.own_reasons.put_own_refusals.Goals.{in-Some, in_default}

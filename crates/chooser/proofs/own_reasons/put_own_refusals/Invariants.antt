@@ -1,7 +1,7 @@
 use Rattle.std.proofs.Common.{◌≡◌, ◌≤◌, take}
 use Rattle.std.specs.List.{enumerate_from, filter_map}
 use Rattle.arrayvec.specs.ArrayVec.{array_vec_len}
-use Rattle.certificate.specs.StandardOrder.{own_refusal}
+use Rattle.reports.specs.StandardOrder.{own_refusal}
 use Rattle.chooser.proofs.own_reasons.put_own_refusals.Given as goal
 
 -- The refusals of the images so far are listed.

@@ -1,5 +1,5 @@
 use Rattle.std.proofs.Common.{rules, ◌≡◌, ◌∙◌, length, subst}
-use Rattle.certificate.specs.Combination.{IsValid, running_set}
+use Rattle.reports.specs.Combination.{IsValid, running_set}
 use Rattle.upload.specs.View.{view}
 use Rattle.machine.specs.Reading.{HasRows, IsReading}
 use Rattle.machine.proofs.Steadying.{taken_below}

@@ -1,7 +1,7 @@
 use Rattle.std.proofs.Common.{take}
 use Rattle.std.specs.Fmt.{IsPlainFormatter, HasWritten}
 use Rattle.common.specs.Lines.{printed_lines}
-use Rattle.certificate.specs.DependencyText.{needs_one_text}
+use Rattle.reports.specs.DependencyText.{needs_one_text}
 use Rattle.inspecting.proofs.image.write_groups.Given as goal
 
 abbrev pub invariant-loop-group : goal.invariant-loop-group

@@ -1,6 +1,6 @@
 use Rattle.std.proofs.Common.{rules}
 use Rattle.std.proofs.Output.{has_written_append, has_written_of_eq}
-use Rattle.certificate.specs.DependencyText.{needs_text}
+use Rattle.reports.specs.DependencyText.{needs_text}
 use Rattle.inspecting.proofs.TextLaws.{printed-more}
 use Rattle.inspecting.proofs.image.write_needs.Goals as goal
 

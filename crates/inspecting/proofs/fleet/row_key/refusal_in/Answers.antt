@@ -1,7 +1,7 @@
 use Rattle.std.proofs.Common.{◌≡◌, ◌∙◌, Bool, true, false, Result, Ok, Err, OnOk, ap, is_ok, length, refl, rules}
 use Rattle.std.specs.Prelude.{MatchBool}
-use Rattle.certificate.specs.LineReading.{report_line_of}
-use Rattle.certificate.specs.declared.report.Report.{Report}
+use Rattle.reports.specs.LineReading.{report_line_of}
+use Rattle.reports.specs.declared.report.Report.{Report}
 use Rattle.inspecting.proofs.RowKeyLaws.{refusal-not_taken, refusal-taken}
 use Rattle.inspecting.specs.RowKey.{refusal_of}
 use Rattle.inspecting.proofs.fleet.row_key.refusal_in.Goals as goal

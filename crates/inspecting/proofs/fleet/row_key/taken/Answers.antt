@@ -2,7 +2,7 @@ use Rattle.std.proofs.Common.{◌≡◌, ◌<◌, ◌≤◌, ◌∙◌, true, Re
 use Rattle.std.proofs.lemmas.Bool.{cases_lt, false≢true}
 use Rattle.std.specs.Prelude.{option_map}
 use Rattle.common.specs.declared.limits.TheConstants.{MOST_IMAGES}
-use Rattle.certificate.specs.LineReading.{more_alternatives}
+use Rattle.reports.specs.LineReading.{more_alternatives}
 use Rattle.inspecting.proofs.RowKeyLaws.{taken-full, taken-no_version, taken-step, taken-wrong}
 use Rattle.inspecting.proofs.fleet.row_key.taken.Goals as goal
 

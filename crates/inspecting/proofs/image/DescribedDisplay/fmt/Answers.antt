@@ -2,7 +2,7 @@ use Rattle.std.proofs.Common.{◌∷◌, [], codes, decimal, rules}
 use Rattle.std.proofs.Output.{has_written_append, has_written_of_eq}
 use Rattle.common.specs.Lines.{printed_lines}
 use Rattle.version_order.specs.VersionText.{version_text}
-use Rattle.certificate.specs.DependencyText.{needs_one_text, needs_text}
+use Rattle.reports.specs.DependencyText.{needs_one_text, needs_text}
 use Rattle.inspecting.proofs.TextLaws.{description-in_a_row}
 use Rattle.inspecting.proofs.image.DescribedDisplay.fmt.Goals as goal
 

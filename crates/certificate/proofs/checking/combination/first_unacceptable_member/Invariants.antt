@@ -1,7 +1,0 @@
-use Rattle.std.proofs.Common.{ℕ, ◌<◌}
-use Rattle.certificate.specs.Flaws.{IsAcceptableIfTaken}
-use Rattle.certificate.proofs.checking.combination.first_unacceptable_member.Given as goal
-
--- Each request so far that is taken is acceptable.
-abbrev pub invariant-loop-number : goal.invariant-loop-number
-invariant-loop-number l = (j : ℕ) → j < l.number → IsAcceptableIfTaken l.table l.report j

@@ -1,7 +1,0 @@
-use Rattle.std.proofs.Common.{ℕ, ◌<◌}
-use Rattle.certificate.specs.Rightness.{IsDecidedOnce}
-use Rattle.certificate.proofs.checking.requests.first_not_decided_once.Given as goal
-
--- The requests of the images so far are decided once.
-abbrev pub invariant-loop-number : goal.invariant-loop-number
-invariant-loop-number l = (j : ℕ) → j < l.number → IsDecidedOnce l.table l.report j

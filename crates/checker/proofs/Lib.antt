@@ -1,0 +1,4 @@
+pub mod CheckingRequests
+pub mod EachPlace
+pub mod ImageLookups
+pub mod Unmet

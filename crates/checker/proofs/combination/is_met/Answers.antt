@@ -1,0 +1,14 @@
+use Rattle.std.proofs.Common.{refl, ◌∙◌}
+use Rattle.checker.proofs.ImageLookups.{image_at-found, image_at-missing}
+use Rattle.reports.proofs.Comparisons.{is_ge-not_lt}
+use Rattle.checker.proofs.combination.is_met.Goals as goal
+
+pub returns-in-Some : goal.returns-in-Some
+returns-in-Some c =
+    let at = image_at-found _ _ _ _ _ c.deref.ensures.0 c.from-number.ensures c.in-Some.ensures.lookup.0
+    c.in-Some.ensures.lookup.1 in
+    rw (at, ← c.from-number.ensures, ← c.is_taken.ensures, ← c.entry_in.ensures) (c.ge.ensures ∙ is_ge-not_lt _)
+
+pub returns-in-None : goal.returns-in-None
+returns-in-None c =
+    rw (image_at-missing _ _ _ _ c.deref.ensures.0 c.from-number.ensures c.in-None.ensures.lookup.0) refl

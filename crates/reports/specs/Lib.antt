@@ -1,0 +1,10 @@
+pub mod Combination
+pub mod DependencyText
+pub mod LineReading
+pub mod Reasons
+pub mod ReportReading
+pub mod ReportText
+pub mod Rightness
+pub mod StandardOrder
+pub mod TableReading
+pub mod TableText

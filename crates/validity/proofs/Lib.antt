@@ -1,0 +1,3 @@
+pub mod DependantLaws
+pub mod Masks
+pub mod RunningSet
