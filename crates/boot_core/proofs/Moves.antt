@@ -5,7 +5,8 @@ use Rattle.flash_model.specs.Chip.{Chip}
 use Rattle.sector_map.specs.declared.layout.SectorMap.{SectorMap}
 use Rattle.sector_map.specs.declared.layout.Side.TheVariants.{Primary, Secondary}
 use Rattle.sector_map.specs.Map.{Keeps}
-use Rattle.sector_map.specs.Part.{Log, is_member, only}
+use Rattle.sector_map.specs.Part.{Log, only}
+use Rattle.common.specs.Masks.{is_member}
 use Rattle.reports.specs.declared.table.Entry.{Entry}
 use Rattle.reports.specs.declared.table.Image.{Image}
 use Rattle.reports.specs.declared.table.Request.{Request}

@@ -5,7 +5,8 @@ use Rattle.flash_model.specs.Chip.{Chip}
 use Rattle.sector_map.specs.declared.layout.SectorMap.{SectorMap}
 use Rattle.sector_map.specs.declared.layout.Side.TheVariants.{Primary, Secondary}
 use Rattle.sector_map.specs.Map.{Keeps}
-use Rattle.sector_map.specs.Part.{is_member, swap_of}
+use Rattle.sector_map.specs.Part.{swap_of}
+use Rattle.common.specs.Masks.{is_member}
 use Rattle.reports.specs.declared.table.Table.{Table}
 use Rattle.reports.specs.Combination.{IsGreatest, IsValid, running_set}
 use Rattle.reports.specs.Rightness.{taken_in}

@@ -3,7 +3,7 @@
 
 ghost use Rattle.std.specs.Prelude.{◌<◌, ◌≤◌, ◌≡◌, ℕ, ◌^◌, length};
 ghost use Rattle.sector_map.specs.Map.{HasImage, IsLaidOut};
-ghost use Rattle.sector_map.specs.Part.{is_member};
+ghost use Rattle.common.specs.Masks.{is_member};
 ghost use Rattle.reports.specs.declared.table.Table.{Table};
 ghost use Rattle.reports.specs.declared.report.Report.{Report};
 ghost use Rattle.reports.specs.Combination.{entry_in};
@@ -17,12 +17,12 @@ ghost use Rattle.boot_core.specs.Deciding.{AnswersFinding, AreForGoodIn, FindsAg
 use crate::outcome::Outcome;
 use arrayvec::ArrayVec;
 use common::limits::MOST_IMAGES;
-use common::mask::{is_member, mask_of};
+use common::mask::{is_member, is_member, mask_of, mask_of};
 use decision::{Verdict, find_into};
 use flash_model::{Flash, Result};
 use machine::Fault;
 use reports::{Image, Report, Request, Table};
-use sector_map::{SectorMap, is_member, mask_of};
+use sector_map::SectorMap;
 use trailer::{Kind, standing};
 
 /// The mask of the images that a report takes.

@@ -12,7 +12,7 @@ use Rattle.serde_json.specs.View.{items_of, view}
 use Rattle.serde_json.specs.declared.value.Value.{Value}
 use Rattle.serde_json.specs.Written.{has_float, items_have_float, members_have_float}
 use Rattle.reports.specs.declared.report.ReportedImage.{ReportedImage}
-use Rattle.sector_map.specs.Part.{is_member}
+use Rattle.common.specs.Masks.{is_member}
 use Rattle.device_texts.proofs.TextLaws.{flat_map-range_more}
 use Rattle.device_texts.specs.Json.{number_json, reported_images, reported_json, versioned_json, with_member, with_some}
 use Rattle.device_texts.specs.Json as json

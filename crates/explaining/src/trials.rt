@@ -2,10 +2,10 @@
 
 use crate::Result;
 use common::limits::MOST_IMAGES;
-use common::mask::is_member;
+use common::mask::{is_member, is_member};
 use device_texts::NoteList;
 use reports::Report;
-use sector_map::{SectorMap, Side, is_member};
+use sector_map::{SectorMap, Side};
 
 /// The distance in bytes of the unit `image_ok` from the end of its trailer's sector. The unit is
 /// set if the request is permanent.

@@ -1,7 +1,7 @@
 //! Why a command doesn't do what it was asked to do.
 
 use crate::source::Source;
-use certificate::Table;
+use reports::Table;
 use std::{fmt, io};
 use thiserror::Error;
 

@@ -7,7 +7,7 @@ use Rattle.std.proofs.Math.Numerals.{add-one}
 use Rattle.std.proofs.Common.{true≢false}
 use Rattle.std.proofs.lemmas.Option.{none-some}
 use Rattle.common.specs.declared.event.Event.TheVariants as event
-use Rattle.sector_map.specs.Part.{is_member}
+use Rattle.common.specs.Masks.{is_member}
 use Rattle.reports.specs.declared.table.Table.{Table}
 use Rattle.reports.specs.declared.report.Report.{Report}
 use Rattle.reports.specs.Rightness.{taken_in}

@@ -2,7 +2,7 @@
 use Rattle.std.specs.Prelude.{◌≡◌, ℕ, ◌+◌, Bool, true, false, List, replicate, take, drop, Option, Some, None}
 use Rattle.std.specs.Prelude.{slice_get, if◌then◌else◌}
 use Rattle.common.specs.declared.event.Event.TheVariants as event
-use Rattle.sector_map.specs.Part.{is_member}
+use Rattle.common.specs.Masks.{is_member}
 use Rattle.reports.specs.declared.table.Table.{Table}
 use Rattle.reports.specs.declared.report.Report.{Report}
 use Rattle.reports.specs.Combination.{IsGreatest}

@@ -2,7 +2,7 @@
 use Rattle.std.specs.Prelude.{◌≡◌, ℕ, ◌<◌, ◌≤◌, max, Bool, true, false, List, length, Option, Some, None, slice_get}
 use Rattle.std.specs.Prelude.{slice_index}
 use Rattle.sector_map.specs.declared.layout.Side.TheVariants.{Primary, Secondary}
-use Rattle.sector_map.specs.Part.{is_member}
+use Rattle.common.specs.Masks.{is_member}
 use Rattle.reports.specs.declared.table.Entry.{Entry}
 use Rattle.reports.specs.declared.table.Image.{Image}
 use Rattle.reports.specs.declared.table.Table.{Table}

@@ -8,7 +8,7 @@ ghost use Rattle.common.specs.declared.event.Event.TheVariants as event;
 ghost use Rattle.reports.specs.declared.table.Table.{Table};
 ghost use Rattle.reports.specs.declared.report.Report.{Report};
 ghost use Rattle.reports.specs.Rightness.{taken_in};
-ghost use Rattle.sector_map.specs.Part.{is_member};
+ghost use Rattle.common.specs.Masks.{is_member};
 ghost use Rattle.trailer.specs.declared.kinds.SwapType.TheVariants.{Revert};
 ghost use Rattle.upload.specs.Device.{DeviceState, Machine, Trial, Wanted};
 ghost use Rattle.upload.specs.Steady.{IsSteadyAt};

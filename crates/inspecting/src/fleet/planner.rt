@@ -18,9 +18,9 @@ use crate::fleet::requests::Requests;
 use crate::fleet::result_lines::write_result;
 use crate::fleet::summary::Summary;
 use crate::fleet::telling::{Telling, Told};
-use certificate::Table;
 use common::ascii::cut;
 use host::Refusal;
+use reports::Table;
 use std::alloc::{AllocError, Global};
 use std::io::Write;
 

@@ -1,5 +1,5 @@
 use Rattle.std.proofs.Common.{◌≡◌, ◌<◌, ◌∙◌, length, max, slice_index, ap, arith}
-use Rattle.sector_map.specs.Part.{is_member}
+use Rattle.common.specs.Masks.{is_member}
 use Rattle.reports.specs.Combination.{entry_in}
 use Rattle.boot_core.proofs.Raised.{raised_next}
 use Rattle.boot_core.proofs.deciding.raised.Goals as goal
