@@ -34,27 +34,6 @@ pub set_found : (mask given : ℕ) (report : Report) → given ≡ mask
     → ((i : ℕ) → is_member given i ≡ taken_in report i) → IsSetIn mask report
 set_found mask given report same each = record { each = λ i. ap (λ m. is_member m i) (sym same) ∙ each i }
 
-abbrev is_taken : ReportedImage → Bool
-is_taken image = image.is_taken
-
-of_option : (found : Option ReportedImage)
-    → unwrap_or (option_map is_taken found) false ≡ option_map_or is_taken found false
-of_option None = refl
-of_option (Some image) = refl
-
--- A list of what a report says of each image gives the images that the report takes.
-pub taken_of : (report : Report) (n : ℕ) (bits : List Bool) → length report.images.items ≤ n
-    → bits ≡ map (λ (image : ReportedImage). image.is_taken) (take n report.images.items)
-    → (i : ℕ) → get_or bits i false ≡ taken_in report i
-taken_of report n bits all is i =
-    let images = report.images.items in
-    let whole : bits ≡ map is_taken images =
-    is ∙ ap (map is_taken) (take_all n images all) in
-    ap (λ l. get_or l i false) whole
-    ∙ sym (unwrap_or-slice_get (map is_taken images) i false)
-    ∙ ap (λ o. unwrap_or o false) (slice_get-map is_taken images i)
-    ∙ of_option (slice_get images i)
-
 -- A fact about the members below n extends to n + 1.
 pub members_more : (P : ℕ → Type 0) (mask n : ℕ) → ((i : ℕ) → i < n → is_member mask i ≡ true → P i)
     → (is_member mask n ≡ true → P n) → (i : ℕ) → i < n + 1 → is_member mask i ≡ true → P i

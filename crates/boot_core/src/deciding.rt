@@ -17,7 +17,7 @@ ghost use Rattle.boot_core.specs.Deciding.{AnswersFinding, AreForGoodIn, FindsAg
 use crate::outcome::Outcome;
 use arrayvec::ArrayVec;
 use common::limits::MOST_IMAGES;
-use common::mask::{is_member, is_member, mask_of, mask_of};
+use common::mask::{is_member, mask_of};
 use decision::{Verdict, find_into};
 use flash_model::{Flash, Result};
 use machine::Fault;

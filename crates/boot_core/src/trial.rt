@@ -26,7 +26,7 @@ use crate::preparing::prepare_set;
 use crate::recording::append_state;
 use crate::steady::boot_from_steady;
 use common::limits::MOST_IMAGES;
-use common::mask::{is_member, is_member};
+use common::mask::{is_member};
 use decision::read_slot;
 use flash_model::{Flash, Result};
 use machine::{Fault, Passage};

@@ -145,13 +145,6 @@ AreMarks-from_below table refusals n marks past so_far = record {
 
 -- ---- looks after a drop
 
--- Tests that count the same are the same.
-pub once_if-same : (a b : Bool) → once_if a ≡ once_if b → a ≡ b
-once_if-same true true same = refl
-once_if-same true false same = absurd (omega arith)
-once_if-same false true same = absurd (omega arith)
-once_if-same false false same = refl
-
 -- The marks are right, except those of the remaining dependants of image j from n on.
 pub record AreMarksUpTo (table : Table) (refusals : List Refusal) (j n : ℕ) (marks : List Bool) : Type 0 where
   pub each : (i : ℕ) → (n ≤ i → is_left_dependant table refusals j i ≡ false)

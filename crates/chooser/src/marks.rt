@@ -1,7 +1,6 @@
 //! Marks the remaining requests that have a dependency or a group out of reach.
 
 ghost use Rattle.std.specs.Prelude.{◌≡◌, ◌+◌, ◌^◌, ◌<◌, ◌≤◌, ℕ, length};
-ghost use Rattle.std.specs.Int.{bit_at};
 ghost use Rattle.reports.specs.Reasons.{times_refused};
 ghost use Rattle.reports.specs.Rightness.{has_request, once_if};
 ghost use Rattle.chooser.specs.Marks.{AreMarks, AreMarksApartFrom, has_need};
@@ -9,6 +8,7 @@ ghost use Rattle.chooser.specs.Marks.{AreMarks, AreMarksApartFrom, has_need};
 use crate::needs::{has_unmet, is_refused};
 use crate::steps::Steps;
 use common::limits::MOST_IMAGES;
+use common::mask::is_member;
 use reports::{Refusal, Table};
 use validity::dependants;
 
@@ -57,12 +57,4 @@ pub(crate) fn mark_dependants(
             marks[usize::from(number)] = has_unmet(table, refusals, number);
         }
     }
-}
-
-/// Returns whether an image is in a mask.
-fn is_member(mask: u8, number: u8) -> bool
-    requires { number < MOST_IMAGES }
-    ensures { once_if result ≡ bit_at mask number }
-{
-    (mask >> number) % 2 == 1
 }

@@ -1,5 +1,7 @@
 -- Lemmas about masks: a mask whose images are all below a number is 0 when it is shifted by it.
-use Rattle.std.proofs.Common.{◌≡◌, ℕ, zero, suc, ◌+◌, ◌-◌, ◌/◌, ◌%◌, ◌^◌, ◌<◌, ◌≤◌, Bool, true, false, ◌*◌, ◌==◌, List, [], ◌∷◌, length, get_or, if◌then◌else◌, arith, ap, ⊎_elim, sym, ◌∙◌, refl}
+use Rattle.std.proofs.Common.{◌≡◌, ℕ, zero, suc, ◌+◌, ◌-◌, ◌/◌, ◌%◌, ◌^◌, ◌<◌, ◌≤◌, Bool, true, false, ◌*◌, ◌==◌, List, [], ◌∷◌, length, get_or, if◌then◌else◌, arith, ap, ⊎_elim, sym, ◌∙◌, refl, map, take, take_all, Option, Some, None, option_map, unwrap_or, slice_get}
+use Rattle.std.specs.Option.{option_map_or}
+use Rattle.std.proofs.lemmas.Option.{slice_get-map, unwrap_or-slice_get}
 use Rattle.std.proofs.lemmas.Bool.{cases_lt}
 use Rattle.std.proofs.lemmas.Bool.Decides.{nat_tests}
 use Rattle.std.proofs.lemmas.Nat.{pow-add}
@@ -101,3 +103,17 @@ shift_below mask n small all = same_bits 8 (mask / 2 ^ n) 0 (omega (arith, div-l
 pub same_members : (a b : ℕ) → a < 2 ^ 8 → b < 2 ^ 8 → ((i : ℕ) → is_member a i ≡ is_member b i) → a ≡ b
 unfolding is_member
 same_members a b small less same = same_bits 8 a b small less same
+
+of_option : {A : Type 0} (test : A → Bool) (found : Option A)
+    → unwrap_or (option_map test found) false ≡ option_map_or test found false
+of_option test None = refl
+of_option test (Some it) = refl
+
+-- A list of what a test says of each element says at each place what the test says there.
+pub told_of : {A : Type 0} (test : A → Bool) (all : List A) (n : ℕ) (told : List Bool) → length all ≤ n
+    → told ≡ map test (take n all) → (i : ℕ) → get_or told i false ≡ option_map_or test (slice_get all i) false
+told_of test all n told past is i =
+    ap (λ l. get_or l i false) (is ∙ ap (map test) (take_all n all past))
+    ∙ sym (unwrap_or-slice_get (map test all) i false)
+    ∙ ap (λ o. unwrap_or o false) (slice_get-map test all i)
+    ∙ of_option test (slice_get all i)

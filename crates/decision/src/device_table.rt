@@ -10,7 +10,7 @@ ghost use Rattle.decision.specs.Rows.{PushesRow, ReadsRequest, ReadsRow, ReadsSl
 
 use arrayvec::ArrayVec;
 use common::limits::MOST_IMAGES;
-use common::mask::{is_member, is_member};
+use common::mask::{is_member};
 use flash_model::{Flash, Result};
 use image_reading::{Desc, intact_image_into};
 use machine::Reading;

@@ -13,7 +13,7 @@ ghost use Rattle.inspecting.specs.SlotsFound.{progress_of, progress_on};
 
 use arrayvec::ArrayVec;
 use common::limits::MOST_IMAGES;
-use common::mask::{is_member, is_member};
+use common::mask::{is_member};
 use decision::{find, read_table};
 use flash_model::{Flash, is_erased};
 use image_reading::{Desc, ImageError, SlotError, describe_slot};

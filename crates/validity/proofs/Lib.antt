@@ -1,3 +1,2 @@
 pub mod DependantLaws
-pub mod Masks
 pub mod RunningSet

@@ -1,12 +1,14 @@
 //! Finds the requests that depend on an image or have it as an alternative.
 
 ghost use Rattle.std.specs.Prelude.{◌≡◌, ◌==◌, ℕ};
-ghost use Rattle.std.specs.Int.{bit_at};
 ghost use Rattle.std.specs.List.{list_any};
+ghost use Rattle.common.specs.Masks.{is_member};
 ghost use Rattle.validity.specs.Dependants.{asks_for, has_alternative, is_dependant, names};
 ghost use Rattle.reports.specs.Reasons.{depends_on};
-ghost use Rattle.reports.specs.Rightness.{once_if};
 
+use arrayvec::ArrayVec;
+use common::limits::MOST_IMAGES;
+use common::mask::mask_of;
 use reports::{Entry, Image, Request, Table};
 use version_order::{Dependency, Group};
 
@@ -14,15 +16,13 @@ use version_order::{Dependency, Group};
 /// intact request that names it: with a dependency on it, or with a group that has it as an
 /// alternative, in any version. The image doesn't need to exist.
 pub fn dependants(table: &Table, number: u8) -> u8
-    ensures { (i : ℕ) → bit_at result i ≡ once_if (is_dependant table.now number i) }
+    ensures { (i : ℕ) → is_member result i ≡ is_dependant table.now number i }
 {
-    let mut mask = 0;
-    for (place, image) in table.images.iter().enumerate() {
-        if asks_for(image, number) {
-            mask |= 1 << place;
-        }
+    let mut members: ArrayVec<bool, MOST_IMAGES> = ArrayVec::new();
+    for image in table.images.iter() {
+        members.push(asks_for(image, number));
     }
-    mask
+    mask_of(&members)
 }
 
 /// Returns whether the intact request of an image names image `number`.

@@ -5,7 +5,7 @@ use Rattle.reports.specs.Reasons.{is_refused}
 use Rattle.chooser.specs.declared.steps.Steps.{Steps}
 use Rattle.chooser.specs.Marks.{is_left_dependant}
 use Rattle.chooser.proofs.Counting.{AreLooks, AreLooks-look, AreLooks-skip, counts_only_looks, looks-le}
-use Rattle.chooser.proofs.Marking.{AreMarksUpTo, AreMarksUpTo-look, AreMarksUpTo-skip, AreMarks-from_up_to, once_if-same}
+use Rattle.chooser.proofs.Marking.{AreMarksUpTo, AreMarksUpTo-look, AreMarksUpTo-skip, AreMarks-from_up_to}
 use Rattle.chooser.proofs.marks.mark_dependants.Goals as goal
 use Rattle.chooser.proofs.marks.mark_dependants.Goals.{then-is_member+then-not-is_refused, else-is_member, else-is_member-via-then-is_member+else-not-is_refused, else-is_member-via-else-is_member}
 
@@ -20,7 +20,7 @@ loop-number-preserved c =
     let steps = c.loop-number.steps in
     let so_far = c.loop-number.invariant in
     let told : is_dependant table dropped number ≡ c.is_member.result =
-    once_if-same _ _ (sym (c.dependants-dependants.ensures number) ∙ sym c.is_member.ensures) in
+    sym (c.dependants-dependants.ensures number) ∙ sym c.is_member.ensures in
     let within : number < length marks = search rules in
     elim c.if-is_member.branch [
       | then-is_member+then-not-is_refused w ↦

@@ -1,7 +1,8 @@
-use Rattle.validity.specs.Dependants.{is_dependant}
-use Rattle.validity.proofs.Masks.{AreBitsBelow}
+use Rattle.std.proofs.Common.{◌≡◌, map, take}
+use Rattle.validity.specs.Dependants.{asks_for}
 use Rattle.validity.proofs.depending.dependants.Given as goal
 
--- Each dependant among the images so far has a bit.
-abbrev pub invariant-loop-place : goal.invariant-loop-place
-invariant-loop-place l = AreBitsBelow (is_dependant l.table l.number) l.place l.mask
+-- What was asked of each image so far.
+abbrev pub invariant-loop-image : goal.invariant-loop-image
+invariant-loop-image l =
+    l.members.items ≡ map (asks_for l.number) (take l.image-index l.table.images.items)
