@@ -8,7 +8,7 @@ ghost use Rattle.certificate.specs.declared.table.Table.{Table};
 ghost use Rattle.certificate.specs.declared.report.Report.{Report};
 ghost use Rattle.certificate.specs.Combination.{entry_in};
 ghost use Rattle.certificate.specs.Rightness.{taken_in};
-ghost use Rattle.machine.specs.Reading.{AreRaisedBy};
+ghost use Rattle.flash_contents.specs.Reading.{AreRaisedBy};
 ghost use Rattle.decision.specs.Telling.{Tells};
 ghost use Rattle.decision.specs.Places.{finding_in, read_as};
 ghost use Rattle.boot_core.specs.Places.{reply_in};

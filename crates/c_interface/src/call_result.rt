@@ -13,8 +13,7 @@ use crate::texts::Lengths;
 use arrayvec::ArrayVec;
 use certificate::{Reason, Refusal, Report, ReportedImage};
 use common::limits::{MOST_ALTERNATIVES, MOST_IMAGES};
-use machine::Fault;
-use upload::UploadError;
+use machine::{Fault, UploadError};
 use version_order::{Dependency, Version};
 
 /// A version, `major.minor.revision+build` (MCUboot's `struct image_version`).

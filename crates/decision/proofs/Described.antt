@@ -11,11 +11,12 @@ use Rattle.flash_model.specs.Chip.{Chip}
 use Rattle.sector_map.specs.declared.layout.SectorMap.{SectorMap}
 use Rattle.certificate.specs.declared.table.Request.{Request}
 use Rattle.certificate.specs.declared.table.Request.TheVariants as request
-use Rattle.upload.specs.Steady.{IsFront, IsImage, request_in}
+use Rattle.upload.specs.Steady.{IsFront, request_in}
+use Rattle.machine.specs.Finish.{IsImage}
 use Rattle.upload.specs.View.{view}
 use Rattle.machine.specs.Boots.{IsRequestOf}
 use Rattle.decision.specs.Rows.{IsRequestIn}
-use Rattle.machine.specs.Starting.{HoldsEntry}
+use Rattle.flash_contents.specs.Starting.{HoldsEntry}
 use Rattle.machine.specs.States.{entry_of}
 
 -- An intact image has the length in its description.

@@ -7,8 +7,8 @@ use Rattle.sector_map.specs.Part.{is_member}
 use Rattle.certificate.specs.declared.table.Image.{Image}
 use Rattle.upload.specs.View.{view}
 use Rattle.certificate.specs.declared.table.Table.{Table}
-use Rattle.machine.specs.declared.finding.Reading.{Reading}
-use Rattle.machine.specs.declared.finding.Reading.TheVariants.{Read}
+use Rattle.flash_contents.specs.declared.finding.Reading.{Reading}
+use Rattle.flash_contents.specs.declared.finding.Reading.TheVariants.{Read}
 use Rattle.decision.specs.Found.{AreReadable, IsDamagedAt, IsLowestAt, IsReadingAt, IsRowAt}
 
 pub readable_none : (map : SectorMap) (w : Chip) (mask : ℕ) → AreReadable (view map w) mask 0

@@ -4,10 +4,10 @@ use Rattle.certificate.specs.declared.table.Request.{Request}
 use Rattle.certificate.specs.declared.table.Request.TheVariants as request
 use Rattle.certificate.specs.declared.table.Table.{Table}
 use Rattle.certificate.specs.declared.report.Report.{Report}
-use Rattle.machine.specs.declared.finding.Finding.{Finding}
-use Rattle.machine.specs.declared.finding.Finding.TheVariants as finding
-use Rattle.machine.specs.declared.finding.Reading.{Reading}
-use Rattle.machine.specs.declared.finding.Reading.TheVariants.{Read, DamagedAt}
+use Rattle.flash_contents.specs.declared.finding.Finding.{Finding}
+use Rattle.flash_contents.specs.declared.finding.Finding.TheVariants as finding
+use Rattle.flash_contents.specs.declared.finding.Reading.{Reading}
+use Rattle.flash_contents.specs.declared.finding.Reading.TheVariants.{Read, DamagedAt}
 use Rattle.decision.specs.declared.places.Verdict.{Verdict}
 use Rattle.decision.specs.declared.places.Verdict.TheVariants.{Decided, Damaged, Invalid}
 

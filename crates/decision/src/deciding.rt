@@ -9,8 +9,8 @@ use crate::places::Verdict;
 use certificate::{Report, Table, is_valid};
 use chooser::choose_into;
 use common::limits::MOST_IMAGES;
+use flash_contents::Finding;
 use flash_model::{Flash, Result};
-use machine::Finding;
 use sector_map::SectorMap;
 
 /// Reads the table of a device, and returns the decision on its requests.

@@ -11,9 +11,9 @@ ghost use Rattle.decision.specs.Rows.{PushesRow, ReadsRequest, ReadsRow, ReadsSl
 use arrayvec::ArrayVec;
 use certificate::{Entry, Image, Request, Table};
 use common::limits::MOST_IMAGES;
+use flash_contents::Reading;
 use flash_model::{Flash, Result};
 use image_reading::{Desc, intact_image_into};
-use machine::Reading;
 use sector_map::{SectorMap, Side, is_member};
 use trailer::standing;
 

@@ -6,9 +6,9 @@ use Rattle.common.specs.Lines.{◌␣◌}
 use Rattle.sector_map.specs.Part.{is_member}
 use Rattle.image_reading.specs.Codes as image
 use Rattle.manifest.specs.Codes as manifest
-use Rattle.upload.specs.declared.error.UploadError.{UploadError}
-use Rattle.upload.specs.declared.error.UploadError.TheVariants.{NotAnImage}
-use Rattle.upload.specs.Codes as upload
+use Rattle.machine.specs.declared.upload_error.UploadError.{UploadError}
+use Rattle.machine.specs.declared.upload_error.UploadError.TheVariants.{NotAnImage}
+use Rattle.machine.specs.UploadCodes as upload
 use Rattle.certificate.specs.declared.report.Report.{Report}
 use Rattle.certificate.specs.declared.report.ReportedImage.{ReportedImage}
 use Rattle.certificate.specs.ReportText.{report_text}

@@ -5,8 +5,8 @@ ghost use Rattle.sector_map.specs.Map.{IsLaidOut};
 
 use certificate::Table;
 use decision::read_table;
+use flash_contents::Reading;
 use flash_model::Flash;
-use machine::Reading;
 use sector_map::SectorMap;
 use set_log::{RecordKind, read_state};
 

@@ -15,7 +15,7 @@ use Rattle.certificate.specs.declared.table.Entry.{Entry}
 use Rattle.certificate.specs.declared.table.Request.{Request}
 use Rattle.certificate.specs.Combination.{HasMetDependencies, IsValid, entry_in, is_group_met, is_met, meets_all, reaches}
 use Rattle.certificate.specs.Combination.{running_set}
-use Rattle.upload.specs.Device.{DeviceState}
+use Rattle.machine.specs.Device.{DeviceState}
 use Rattle.machine.specs.Boots.{IsEntryOf, IsRequestOf, IsRowOf, IsSound, IsTableOf}
 
 pub the_one : {X : Type 0} (x y : X) → Some x ≡ Some y → x ≡ y

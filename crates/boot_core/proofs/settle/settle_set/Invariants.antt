@@ -5,7 +5,7 @@ use Rattle.sector_map.specs.Part.{is_member, trailers_in}
 use Rattle.swap_scratch.specs.Swap.{sum_over}
 use Rattle.trailer.specs.Settled.{is_confirmed}
 use Rattle.upload.specs.View.{view}
-use Rattle.machine.specs.Holding.{IsSettledAt}
+use Rattle.flash_contents.specs.Holding.{IsSettledAt}
 use Rattle.boot_core.proofs.settle.settle_set.Given as goal
 
 abbrev pub invariant-loop-image : goal.invariant-loop-image
