@@ -15,7 +15,7 @@ import itertools
 import re
 import textwrap
 
-from crate_heads import ROOT, text_of
+from crate_heads import ROOT, read_crates, text_of
 
 USE = re.compile(r"(?:ghost )?use ([\w.]+)(?:\.\{([^}]*)\}| as (\w+));?$")
 HEAD = re.compile(r"(?:(?:abbrev|unfoldable|pub|record|data) )*([^\s:({]+)")
@@ -172,8 +172,8 @@ def contract_of(place):
 
 
 class Statement:
-    """All that the contract of a call speaks of: the lines of definitions and types by their files and names, in the order in
-    which a reader needs them first, and names from outside."""
+    """All that the contract of a call speaks of: the lines of definitions and types by their files and names, crate by crate,
+    the highest first, in each in the order in which a reader needs them first, and names from outside."""
 
     def __init__(self, place):
         self.abstract, self.fields = place.abstract, place.fields
@@ -185,6 +185,9 @@ class Statement:
         # The list grows: what a definition speaks of comes after all that was named before.
         for module, definition in self.waiting:
             self.visit_words(module, definition)
+        # No definition speaks of a crate above its own.
+        height = {it.name: n for n, it in enumerate(read_crates())}
+        self.shown = dict(sorted(self.shown.items(), key=lambda it: -height[it[0][0].split("/")[1]]))
 
     def visit(self, place):
         """Adds what is at a place."""

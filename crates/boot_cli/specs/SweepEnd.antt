@@ -3,8 +3,8 @@ use Rattle.std.specs.Prelude.{◌≡◌, ◌≢◌, ◌⊎◌, ℕ, Bool, IsSome
 use Rattle.std.specs.Io.KnownBytes.{Appends, Keeps}
 use Rattle.std.specs.Borrow.{Bor}
 use Rattle.common.specs.Lines.{lines_of}
-use Rattle.common.specs.declared.event.Event.{Event}
-use Rattle.common.specs.declared.event.Event.TheVariants as event
+use Rattle.machine.specs.declared.event.Event.{Event}
+use Rattle.machine.specs.declared.event.Event.TheVariants as event
 use Rattle.device_texts.specs.LineText.{IsLineText}
 use Rattle.device_texts.specs.Said.{Said}
 use Rattle.device_texts.specs.Said as said

@@ -16,13 +16,12 @@ ghost use Rattle.boot_cli.specs.SweepEnd.{KeepsBesides, KeepsInputs, KeepsRead};
 
 use crate::progress::Progress;
 use command_line::{SweepChoices, SweepPart};
-use common::event::Event;
 use device_commands::provision::read_images;
 use device_texts::{DeviceFile, Form, Line, NoteList, flash_of, write_all};
 use explaining::CommandNotes;
 use host::{Answer, FlashFault, Host, Refusal, Replaced, Source, SourceFault, refuse_input};
 use inputs::{Lines, Notes, device_or_fault, load, read_script};
-use machine::Fault;
+use machine::{Event, Fault};
 use sector_map::SectorMap;
 use std::alloc::{AllocError, Global};
 use std::io::{ErrorKind, Write};

@@ -1,14 +1,13 @@
 -- Lemmas for provisioning: what its result says of the flash before and after.
 use Rattle.std.proofs.Common.{◌≡◌, ◌⊎◌, ℕ, ◌+◌, ◌<◌, ◌≤◌, ◌==◌, Bool, true, false, List, [], ◌∷◌, ◌++◌, length, Option, Some, None, Result, Ok, Err}
 use Rattle.std.proofs.Common.{refl, sym, ◌∙◌, ap, subst, arith, slice_get, slice_index, get_or, ⊎_elim, inl, inr, zero, suc, replicate, length-append}
-use Rattle.std.proofs.Common.{◌≢◌, map as list_map, set, length-set, get_or-set_same, get_or-set_other}
+use Rattle.std.proofs.Common.{◌≢◌, map as list_map, set, length-set, get_or-set_same, get_or-set_other, true≢false}
 use Rattle.std.specs.Option.{option_map}
 use Rattle.std.proofs.Math.Bool.{and-false}
 use Rattle.std.proofs.lemmas.Bool.{cases_eq, cases_lt}
 use Rattle.std.proofs.lemmas.List.{length-map, map-append, same_lists}
 use Rattle.std.proofs.lemmas.Option.{get_or_from_slice_get, slice_get-get_or, slice_get-map}
 use Rattle.std.proofs.lemmas.Option.{slice_get_cases, slice_get_within, none-some}
-use Rattle.std.proofs.Common.{true≢false}
 use Rattle.flash_model.specs.Chip.{Chip}
 use Rattle.flash_model.specs.declared.error.FlashError.TheVariants as flash
 use Rattle.sector_map.specs.declared.layout.SectorMap.{SectorMap}
@@ -33,15 +32,15 @@ use Rattle.reports.specs.Combination.{IsValid, running_set}
 use Rattle.validity.specs.Running.{running_row}
 use Rattle.upload.specs.View.{view}
 use Rattle.upload.proofs.Views.{view_kept}
-use Rattle.upload.specs.Device.{DeviceState}
+use Rattle.machine.specs.Device.{DeviceState}
 use Rattle.common.specs.Bytes.{Starts}
 use Rattle.upload.specs.Steady.{IsFront, IsSteadyAt}
 use Rattle.machine.specs.States.{entry_of}
 use Rattle.machine.specs.Boots.{IsEntryOf, IsSound, IsTableOf}
 use Rattle.machine.specs.declared.error.Fault.{Fault}
 use Rattle.machine.specs.declared.error.Fault.TheVariants as no
-use Rattle.machine.proofs.Ending.{none_asked}
-use Rattle.machine.proofs.Preparing.{eqb_no}
+use Rattle.flash_contents.proofs.Ending.{none_asked}
+use Rattle.flash_contents.proofs.Preparing.{eqb_no}
 use Rattle.machine.proofs.SoundBoots.{all_sound}
 use Rattle.machine.proofs.Unique.{one_description}
 use Rattle.boot_core.proofs.Records.{none_within}

@@ -22,8 +22,8 @@ use Rattle.upload.specs.View.{view}
 use Rattle.upload.proofs.Views.{view_kept}
 use Rattle.trailer.specs.Fields.{Fields}
 use Rattle.trailer.specs.Settled.{IsSettled}
-use Rattle.machine.specs.Holding.{AreSettled}
-use Rattle.machine.specs.Wear.{members}
+use Rattle.flash_contents.specs.Holding.{AreSettled}
+use Rattle.flash_contents.specs.Wear.{members}
 use Rattle.boot_core.specs.Journal.{AsksToBoot, AsksAtMost, Begins, CountsOn, CountsStep, GetsFurther, IsRoomToBoot, LogsKind, RecordsOther, RecordsSwap, ReturnsOn, SettlesAsked, SettlesSet, is_moving, is_returned, is_reverting}
 
 -- ---- what the log says

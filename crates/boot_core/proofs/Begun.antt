@@ -9,7 +9,7 @@ use Rattle.sector_map.specs.declared.layout.SectorMap.{SectorMap}
 use Rattle.sector_map.specs.declared.layout.Side.{Side}
 use Rattle.set_log.specs.declared.state.State.{State}
 use Rattle.upload.specs.View.{view}
-use Rattle.machine.specs.Wear.{members}
+use Rattle.flash_contents.specs.Wear.{members}
 use Rattle.boot_core.specs.BootEnds.{Passes}
 use Rattle.boot_core.specs.Preparing.{Prepares}
 use Rattle.boot_core.specs.Recorded.{IsStateRecorded, RecordsState}

@@ -12,19 +12,19 @@ use Rattle.set_log.specs.declared.state.RecordKind.{RecordKind}
 use Rattle.set_log.specs.declared.state.RecordKind.TheVariants as log
 use Rattle.set_log.specs.declared.state.State.{State}
 use Rattle.set_log.specs.Log.{state_of}
-use Rattle.upload.specs.Device.{DeviceState, Trial}
+use Rattle.machine.specs.Device.{DeviceState, Trial}
 use Rattle.upload.specs.Steady.{request_in}
 use Rattle.upload.specs.View.{view}
-use Rattle.machine.specs.Holding.{IsTrialOpen, Stands}
-use Rattle.machine.specs.Passing.{CutsBoot, EndsBoot, reply_of}
-use Rattle.machine.specs.Reading.{IsPassage}
-use Rattle.machine.specs.declared.finding.Finding.{Finding}
-use Rattle.machine.specs.declared.finding.Passage.{Passage}
-use Rattle.machine.specs.Starting.{StartsBy}
+use Rattle.flash_contents.specs.Holding.{IsTrialOpen, Stands}
+use Rattle.flash_contents.specs.Passing.{CutsBoot, EndsBoot, reply_of}
+use Rattle.flash_contents.specs.Reading.{IsPassage}
+use Rattle.flash_contents.specs.declared.finding.Finding.{Finding}
+use Rattle.flash_contents.specs.declared.finding.Passage.{Passage}
+use Rattle.flash_contents.specs.Starting.{StartsBy}
 use Rattle.machine.specs.declared.reply.Reply.{Reply}
 use Rattle.machine.specs.declared.reply.Reply.TheVariants.{TrialAgain}
-use Rattle.machine.proofs.Standing.{stands_trial}
-use Rattle.machine.proofs.Trying.{open_of}
+use Rattle.flash_contents.proofs.Standing.{stands_trial}
+use Rattle.flash_contents.proofs.Trying.{open_of}
 use Rattle.boot_core.specs.Answers.{IsBootReply}
 use Rattle.boot_core.specs.BootEnds.{BootEnds, KeepsLayout}
 use Rattle.boot_core.specs.Booting.{BootsFrom}

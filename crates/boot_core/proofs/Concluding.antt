@@ -11,10 +11,10 @@ use Rattle.set_log.specs.declared.state.State.{State}
 use Rattle.set_log.specs.Log.{state_of}
 use Rattle.reports.specs.declared.table.Table.{Table}
 use Rattle.upload.specs.View.{view}
-use Rattle.upload.specs.Device.{DeviceState}
-use Rattle.machine.specs.Holding.{AreSettled, IsSwapped}
-use Rattle.machine.specs.Wear.{members}
-use Rattle.machine.proofs.Swapping.{settling_kept}
+use Rattle.machine.specs.Device.{DeviceState}
+use Rattle.flash_contents.specs.Holding.{AreSettled, IsSwapped}
+use Rattle.flash_contents.specs.Wear.{members}
+use Rattle.flash_contents.proofs.Swapping.{settling_kept}
 use Rattle.boot_core.specs.FromSettle.{RecordsTaken, SettlesAndRecords}
 use Rattle.boot_core.proofs.OnMap.{layout_kept, layout_more, log_settled, trailers_settled}
 use Rattle.boot_core.proofs.Asking.{settled_logged}

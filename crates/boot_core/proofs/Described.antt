@@ -13,7 +13,7 @@ use Rattle.image_reading.specs.Fault.{IsFrontFault}
 use Rattle.image_reading.specs.Image.{BeginsIntact}
 use Rattle.image_reading.specs.Slot.{slot_bytes}
 use Rattle.image_reading.proofs.Descriptions.{front-unique, front_has_no_fault}
-use Rattle.machine.specs.Starting.{IsHeld}
+use Rattle.flash_contents.specs.Starting.{IsHeld}
 use Rattle.boot_core.specs.Preparing.{IsSizeIn, IsUsedIn}
 use Rattle.boot_core.specs.SwapSize.{IsUsed}
 use Rattle.decision.proofs.Described.{described_front}

@@ -7,12 +7,12 @@ use Rattle.sector_map.specs.declared.layout.Side.TheVariants.{Secondary}
 use Rattle.sector_map.specs.Map.{Keeps}
 use Rattle.sector_map.specs.Part.{Slot, incoming_of, only}
 use Rattle.sector_map.proofs.Parts.{keeps_refl}
-use Rattle.common.specs.declared.event.Event.TheVariants as event
+use Rattle.machine.specs.declared.event.Event.TheVariants as event
 use Rattle.upload.specs.Finishing.{RefusesFinish}
 use Rattle.upload.specs.Sessions.{upload_at}
 use Rattle.upload.specs.declared.sessions.Upload.{Upload}
-use Rattle.upload.specs.declared.error.UploadError.{UploadError}
-use Rattle.machine.specs.Holding.{DeviceView}
+use Rattle.machine.specs.declared.upload_error.UploadError.{UploadError}
+use Rattle.flash_contents.specs.Holding.{DeviceView}
 use Rattle.machine.specs.declared.error.Fault.{Fault}
 use Rattle.boot_core.specs.Device.{seen}
 use Rattle.boot_core.specs.Taking.{AsksReady, FinishesHere, PassesOn, TakesCall, TakesHere}

@@ -2,7 +2,7 @@
 use Rattle.std.proofs.Common.{subst, sym}
 use Rattle.flash_model.specs.Chip.{Chip}
 use Rattle.sector_map.specs.declared.layout.SectorMap.{SectorMap}
-use Rattle.machine.specs.Holding.{Holds, Rests, Stands}
+use Rattle.flash_contents.specs.Holding.{Holds, Rests, Stands}
 use Rattle.machine.specs.States.{asleep}
 use Rattle.boot_core.specs.Device.{seen}
 use Rattle.boot_core.specs.FirstState.{HoldsFirst}

@@ -4,9 +4,9 @@ use Rattle.flash_model.specs.Chip.{Chip}
 use Rattle.sector_map.specs.declared.layout.SectorMap.{SectorMap}
 use Rattle.sector_map.specs.declared.layout.Side.TheVariants.{Primary}
 use Rattle.upload.specs.View.{view}
-use Rattle.upload.specs.Device.{DeviceState}
+use Rattle.machine.specs.Device.{DeviceState}
 use Rattle.upload.specs.Steady.{IsFront}
-use Rattle.machine.specs.Reading.{RunsAt}
+use Rattle.flash_contents.specs.Reading.{RunsAt}
 
 pub running_front : (map : SectorMap) (old new : Chip) (s : DeviceState) (i : ℕ) → new ≡ old
     → RunsAt (view map old) s → i < map.images → IsFront ((view map new).slot i Primary) (s.running i)

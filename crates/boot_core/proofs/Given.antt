@@ -11,18 +11,18 @@ use Rattle.set_log.specs.declared.state.RecordKind.TheVariants as log
 use Rattle.manifest.specs.declared.identity.Identity.{Identity}
 use Rattle.manifest.specs.declared.manifest.Manifest as given
 use Rattle.upload.specs.View.{view}
-use Rattle.upload.specs.Device.{Machine}
-use Rattle.upload.specs.Ending.{EndsUpload, is_flash}
+use Rattle.machine.specs.Device.{Machine}
+use Rattle.upload.specs.Ending.{EndsUpload}
+use Rattle.machine.specs.Intake.{is_flash, Row}
 use Rattle.upload.specs.Sessions.{AllClosed, IsUpAt}
 use Rattle.upload.specs.declared.sessions.Upload.{Upload}
-use Rattle.upload.specs.declared.error.UploadError.{UploadError}
-use Rattle.upload.specs.declared.error.UploadError.TheVariants as upload
-use Rattle.machine.specs.Holding.{DeviceView, Holds, Rests}
-use Rattle.machine.specs.Intake.{Row}
+use Rattle.machine.specs.declared.upload_error.UploadError.{UploadError}
+use Rattle.machine.specs.declared.upload_error.UploadError.TheVariants as upload
+use Rattle.flash_contents.specs.Holding.{DeviceView, Holds, Rests}
 use Rattle.machine.specs.States.{asleep}
 use Rattle.machine.specs.declared.error.Fault.{Fault}
 use Rattle.machine.specs.declared.error.Fault.TheVariants as no
-use Rattle.machine.proofs.Uploading.{TakesRow, rest_steady}
+use Rattle.flash_contents.proofs.Uploading.{TakesRow, rest_steady}
 use Rattle.boot_core.specs.Answers.{is_stop}
 use Rattle.boot_core.specs.Device.{StaysHeld, seen}
 use Rattle.boot_core.specs.Ready.{IsReadiness, LogsRest, RefusesManifest, kind_refusal, log_refusal}

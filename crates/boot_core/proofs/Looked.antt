@@ -8,9 +8,9 @@ use Rattle.sector_map.specs.declared.layout.Side.TheVariants.{Primary}
 use Rattle.sector_map.specs.Map.{IsLaidOut}
 use Rattle.common.specs.Masks.{is_member}
 use Rattle.upload.specs.View.{View, view}
-use Rattle.machine.specs.Starting.{AreHeld, AreIntact, IsHeld, IsLost}
-use Rattle.machine.proofs.Starting.{held_lost}
-use Rattle.machine.proofs.Steadying.{no_member}
+use Rattle.flash_contents.specs.Starting.{AreHeld, AreIntact, IsHeld, IsLost}
+use Rattle.flash_contents.proofs.Starting.{held_lost}
+use Rattle.flash_contents.proofs.Steadying.{no_member}
 use Rattle.decision.specs.Found.{IsDamagedAt, IsLowestAt}
 
 -- One image more of a set was looked at.

@@ -11,12 +11,12 @@ use Rattle.flash_model.specs.Chip.{Chip}
 use Rattle.sector_map.specs.declared.layout.SectorMap.{SectorMap}
 use Rattle.trailer.specs.Standing.{standing_of}
 use Rattle.swap_scratch.specs.Swap.{share, sum_over}
-use Rattle.trailer.specs.declared.kinds.Kind.TheVariants.{Permanent}
-use Rattle.upload.specs.Device.{DeviceState, Wanted}
+use Rattle.common.specs.declared.kind.Kind.TheVariants.{Permanent}
+use Rattle.machine.specs.Device.{DeviceState, Wanted}
 use Rattle.upload.specs.View.{view}
 use Rattle.machine.specs.Boots.{AsksForGood}
-use Rattle.machine.specs.Reading.{IsAsking}
-use Rattle.machine.specs.Wear.{IsSetIn}
+use Rattle.flash_contents.specs.Reading.{IsAsking}
+use Rattle.flash_contents.specs.Wear.{IsSetIn}
 
 -- The numbers of the images up to one of a map are no more than those of all its images.
 pub sum_before : (mask : ℕ) (f : ℕ → ℕ) (n m : ℕ) → n < m → sum_over mask f n + share mask f n ≤ sum_over mask f m

@@ -15,7 +15,7 @@ use Rattle.swap_scratch.specs.Used.{sectors_for, used_of}
 use Rattle.swap_scratch.specs.Swap.{share, steps_in_all, sum_over}
 use Rattle.upload.specs.View.{View, view}
 use Rattle.upload.proofs.Views.{view_kept}
-use Rattle.machine.specs.Wear.{members, IsResumed}
+use Rattle.flash_contents.specs.Wear.{members, IsResumed}
 use Rattle.machine.specs.declared.reply.Reply.{Reply}
 use Rattle.boot_core.specs.SwapSize.{IsReady, IsSwapSize, IsUsed}
 use Rattle.boot_core.specs.Wear.{AreMeasured, IsAfresh, IsFreshWear, sectors_moved, IsSetMoved}

@@ -16,14 +16,14 @@ use Rattle.reports.specs.declared.report.Report.{Report}
 use Rattle.reports.specs.Combination.{IsGreatest, MayReplace, entry_in, image_at, intact_entry}
 use Rattle.reports.specs.Rightness.{taken_in}
 use Rattle.trailer.specs.Fields.{Fields}
-use Rattle.trailer.specs.declared.kinds.Kind.{Kind}
+use Rattle.common.specs.declared.kind.Kind.{Kind}
 use Rattle.set_log.specs.declared.state.State.{State}
 use Rattle.set_log.specs.Log.{state_of}
 use Rattle.upload.specs.Steady.{request_in, told_by}
 use Rattle.upload.specs.View.{View, view}
 use Rattle.upload.proofs.Views.{view_kept}
-use Rattle.machine.specs.Starting.{AreHeld, HoldsEntry, IsHeld, StartsSet}
-use Rattle.machine.proofs.Steadying.{no_member}
+use Rattle.flash_contents.specs.Starting.{AreHeld, HoldsEntry, IsHeld, StartsSet}
+use Rattle.flash_contents.proofs.Steadying.{no_member}
 use Rattle.decision.specs.Found.{AreRowsHeld, IsRequestHeld, IsRowAsked, IsRowWanted}
 use Rattle.boot_core.specs.Preparing.{IsSetHeld}
 use Rattle.boot_core.specs.Moving.{is_recorded, may_move}

@@ -13,11 +13,11 @@ use Rattle.set_log.specs.declared.state.State.{State}
 use Rattle.set_log.specs.Log.{state_of}
 use Rattle.upload.specs.View.{view}
 use Rattle.upload.specs.Sessions.{AllOpenAt}
-use Rattle.upload.specs.Ending.{is_flash}
+use Rattle.machine.specs.Intake.{is_flash}
 use Rattle.upload.specs.declared.sessions.Upload.{Upload}
-use Rattle.upload.specs.declared.error.UploadError.{UploadError}
-use Rattle.machine.specs.Holding.{DeviceView}
-use Rattle.machine.specs.Passing.{needs_rest, needs_up}
+use Rattle.machine.specs.declared.upload_error.UploadError.{UploadError}
+use Rattle.flash_contents.specs.Holding.{DeviceView}
+use Rattle.flash_contents.specs.Passing.{needs_rest, needs_up}
 use Rattle.machine.specs.Steps.{DeviceEvent}
 use Rattle.machine.specs.declared.error.Fault.{Fault}
 use Rattle.machine.specs.declared.error.Fault.TheVariants as no

@@ -2,7 +2,7 @@
 use Rattle.std.proofs.Common.{◌≡◌, ◌<◌, length, ℕ, Bool, false, true, List, Option, Result, Ok, Err, ap, arith, refl, subst, sym}
 use Rattle.std.specs.Borrow.{Bor}
 use Rattle.std.specs.Prelude.{IsErrAnd}
-use Rattle.common.specs.declared.event.Event.TheVariants as event
+use Rattle.machine.specs.declared.event.Event.TheVariants as event
 use Rattle.flash_model.proofs.Ending.{no_error}
 use Rattle.flash_model.specs.Chip.{Chip}
 use Rattle.sector_map.specs.declared.layout.SectorMap.{SectorMap}
@@ -15,20 +15,21 @@ use Rattle.manifest.specs.declared.error.ManifestError.{ManifestError}
 use Rattle.manifest.specs.declared.error.ManifestError.TheVariants.{BadValue, NoComponent, RepeatedComponent}
 use Rattle.manifest.specs.declared.identity.Identity.{Identity}
 use Rattle.manifest.specs.declared.manifest.Manifest as given
-use Rattle.upload.specs.Accepted.{Accepts, accepted_parts}
+use Rattle.machine.specs.Accepted.{Accepts}
+use Rattle.upload.specs.Accepted.{accepted_parts}
 use Rattle.upload.specs.Accepting.{AcceptsManifest}
-use Rattle.upload.specs.Device.{Machine}
+use Rattle.machine.specs.Device.{Machine}
 use Rattle.upload.specs.Sessions.{AllOpenAt}
 use Rattle.upload.specs.View.{view}
 use Rattle.upload.specs.declared.sessions.Upload.{Upload}
-use Rattle.upload.specs.declared.error.UploadError.{UploadError}
-use Rattle.machine.specs.Holding.{DeviceView}
+use Rattle.machine.specs.declared.upload_error.UploadError.{UploadError}
+use Rattle.flash_contents.specs.Holding.{DeviceView}
 use Rattle.machine.specs.Intake.{Row}
-use Rattle.machine.specs.Passing.{StepsTo}
+use Rattle.flash_contents.specs.Passing.{StepsTo}
 use Rattle.machine.specs.declared.error.Fault.{Fault}
 use Rattle.machine.specs.declared.error.Fault.TheVariants as no
 use Rattle.machine.specs.declared.reply.Reply.TheVariants.{Done, Refused}
-use Rattle.machine.proofs.Uploading.{steps_accept, upload_refused}
+use Rattle.flash_contents.proofs.Uploading.{steps_accept, upload_refused}
 use Rattle.boot_core.specs.Answers.{IsOff, is_stop}
 use Rattle.boot_core.specs.Device.{made, seen}
 use Rattle.boot_core.specs.Ready.{HasNoComponent, RefusesManifest, RefusesText}

@@ -8,16 +8,16 @@ use Rattle.sector_map.specs.Map.{Keeps}
 use Rattle.sector_map.specs.Part.{Log, only}
 use Rattle.common.specs.Masks.{is_member}
 use Rattle.upload.specs.View.{view}
-use Rattle.upload.specs.Device.{DeviceState}
+use Rattle.machine.specs.Device.{DeviceState}
 use Rattle.upload.specs.Steady.{IsFront, IsRequested}
 use Rattle.upload.proofs.Views.{view_kept}
 use Rattle.machine.specs.States.{wanted_bytes}
-use Rattle.reports.specs.declared.table.Table.{Table}
-use Rattle.machine.specs.Reading.{CanRead, CanReadAt}
-use Rattle.reports.specs.declared.report.Report.{Report}
+use Rattle.certificate.specs.declared.table.Table.{Table}
+use Rattle.flash_contents.specs.Reading.{CanRead, CanReadAt}
+use Rattle.certificate.specs.declared.report.Report.{Report}
 use Rattle.set_log.specs.declared.state.State.{State}
-use Rattle.machine.specs.declared.finding.Finding.{Finding}
-use Rattle.machine.specs.declared.finding.Finding.TheVariants.{Decided}
+use Rattle.flash_contents.specs.declared.finding.Finding.{Finding}
+use Rattle.flash_contents.specs.declared.finding.Finding.TheVariants.{Decided}
 use Rattle.boot_core.specs.Found.{IsSwapAloneFor, IsToldAgain}
 
 read_before : (map : SectorMap) (old new : Chip) (s : DeviceState) (b : Bool) (i : ℕ) → Keeps map (only Log) old new

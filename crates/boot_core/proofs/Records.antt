@@ -17,7 +17,7 @@ use Rattle.set_log.specs.Log.{record_of, state_of, state_said}
 use Rattle.set_log.proofs.Spelled.{spells_of}
 use Rattle.set_log.proofs.Table.{fits_floors, fits_of, fits_within}
 use Rattle.upload.proofs.Views.{view_kept}
-use Rattle.machine.proofs.Preparing.{eqb_no}
+use Rattle.flash_contents.proofs.Preparing.{eqb_no}
 
 said_fits : (images : ℕ) (found : Option (List ℕ)) (s : State) → state_said images found ≡ Some s
     → fits images s ≡ true

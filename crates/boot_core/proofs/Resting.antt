@@ -8,7 +8,7 @@ use Rattle.flash_model.specs.Chip.{Chip}
 use Rattle.sector_map.specs.declared.layout.SectorMap.{SectorMap}
 use Rattle.sector_map.specs.declared.layout.Side.TheVariants.{Primary, Secondary}
 use Rattle.trailer.specs.Fields.{Fields}
-use Rattle.trailer.specs.declared.kinds.Kind as request
+use Rattle.common.specs.declared.kind.Kind as request
 use Rattle.set_log.specs.Log.{state_of}
 use Rattle.set_log.specs.Record.{kind_fits}
 use Rattle.set_log.specs.declared.state.State.{State}
@@ -17,7 +17,7 @@ use Rattle.set_log.specs.declared.state.RecordKind.TheVariants as log
 use Rattle.common.specs.Bytes.{Starts}
 use Rattle.image_reading.specs.declared.desc.Desc.{Desc}
 use Rattle.image_reading.specs.Image.{IsIntact}
-use Rattle.upload.specs.Device.{DeviceState, Wanted}
+use Rattle.machine.specs.Device.{DeviceState, Wanted}
 use Rattle.upload.specs.Steady.{IsFront, IsRequested, IsSteadyAt, logged, told_by}
 use Rattle.upload.specs.View.{view}
 use Rattle.boot_core.proofs.Records.{kind_of_read}

@@ -8,18 +8,18 @@ use Rattle.sector_map.specs.Map.{IsLaidOut}
 use Rattle.set_log.specs.Log.{state_of}
 use Rattle.set_log.specs.declared.state.RecordKind.TheVariants as log
 use Rattle.set_log.specs.declared.state.State.{State}
-use Rattle.upload.specs.Device.{DeviceState, Trial}
+use Rattle.machine.specs.Device.{DeviceState, Trial}
 use Rattle.upload.specs.View.{view}
-use Rattle.machine.specs.Holding.{Stands}
-use Rattle.machine.specs.Passing.{IsSwappingBackSome, reply_of}
-use Rattle.machine.specs.Starting.{IsLost}
-use Rattle.machine.specs.Wear.{IsResumed}
+use Rattle.flash_contents.specs.Holding.{Stands}
+use Rattle.flash_contents.specs.Passing.{IsSwappingBackSome, reply_of}
+use Rattle.flash_contents.specs.Starting.{IsLost}
+use Rattle.flash_contents.specs.Wear.{IsResumed}
 use Rattle.machine.specs.declared.error.Fault.TheVariants.{RunningDamaged}
-use Rattle.machine.specs.declared.finding.Finding.{Finding}
-use Rattle.machine.specs.declared.finding.Finding.TheVariants.{Decided, Damaged, Invalid}
+use Rattle.flash_contents.specs.declared.finding.Finding.{Finding}
+use Rattle.flash_contents.specs.declared.finding.Finding.TheVariants.{Decided, Damaged, Invalid}
 use Rattle.machine.specs.declared.reply.Reply.TheVariants.{Reverted, Refused}
-use Rattle.machine.proofs.Returning.{returned_intact}
-use Rattle.machine.proofs.Standing.{back_cut, back_ends, back_settle_cut, back_settle_ends, stands_back, stands_back_settle}
+use Rattle.flash_contents.proofs.Returning.{returned_intact}
+use Rattle.flash_contents.proofs.Standing.{back_cut, back_ends, back_settle_cut, back_settle_ends, stands_back, stands_back_settle}
 use Rattle.boot_core.specs.FromBack.{CarriesBack, FinishesBack, IsBackDone, SettlesAndReturns, SettlesBackFor, SwapsBack}
 use Rattle.boot_core.proofs.Booted.{boot_fails, boot_gives}
 use Rattle.boot_core.proofs.OnMap.{layout_kept, layout_same, layout_then, layout_wider, settled_moved, swap_moved}

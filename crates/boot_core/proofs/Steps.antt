@@ -1,16 +1,16 @@
 -- Lemmas for steps of a run: after a power cut the device is reset.
 use Rattle.std.proofs.Common.{◌≡◌, ◌∙◌, true, [], ◌∷◌, refl, sym, subst, ⊎_elim}
-use Rattle.common.specs.declared.event.Event.TheVariants as event
-use Rattle.upload.specs.Device.{Machine}
+use Rattle.machine.specs.declared.event.Event.TheVariants as event
+use Rattle.machine.specs.Device.{Machine}
 use Rattle.machine.specs.States.{asleep, with_confirmed}
 use Rattle.machine.specs.Intake.{Setup}
 use Rattle.machine.specs.Steps.{DeviceEvent, IsCutTo}
-use Rattle.machine.specs.Holding.{DeviceView, Holds}
-use Rattle.machine.specs.Passing.{StepsTo}
+use Rattle.flash_contents.specs.Holding.{DeviceView, Holds}
+use Rattle.flash_contents.specs.Passing.{StepsTo}
 use Rattle.machine.specs.Boots.{IsAllSound, is_answer}
 use Rattle.machine.specs.declared.reply.Reply.{Reply}
 use Rattle.machine.specs.declared.reply.Reply.TheVariants.{Cut}
-use Rattle.machine.proofs.Lifecycle.{holder_runs}
+use Rattle.flash_contents.proofs.Lifecycle.{holder_runs}
 use Rattle.machine.proofs.SoundRuns.{run_sound}
 use Rattle.boot_core.specs.Calls.{RunsSound}
 

@@ -2,7 +2,7 @@
 use Rattle.std.proofs.Common.{rules, ◌≡◌, ℕ, ◌+◌, Bool, true, false, List, Option, Some, Result, Ok, Err, IfOk, IsErrOf, arith, refl, sym, ◌∙◌, ap, subst, ⊎_elim, inl, inr}
 use Rattle.std.specs.Borrow.{Bor}
 use Rattle.std.proofs.Common.{true≢false}
-use Rattle.common.specs.declared.event.Event.TheVariants as event
+use Rattle.machine.specs.declared.event.Event.TheVariants as event
 use Rattle.flash_model.specs.Chip.{Chip, Ends, IsCut, IsUncut}
 use Rattle.flash_model.specs.declared.error.FlashError.{FlashError}
 use Rattle.flash_model.specs.declared.error.FlashError.TheVariants as flash
@@ -14,31 +14,31 @@ use Rattle.set_log.specs.declared.state.RecordKind.TheVariants as log
 use Rattle.manifest.specs.declared.manifest.Manifest as given
 use Rattle.manifest.specs.Fault.{IsManifest}
 use Rattle.upload.specs.View.{View, view}
-use Rattle.upload.specs.Device.{DeviceState, Machine, Trial}
+use Rattle.machine.specs.Device.{DeviceState, Machine, Trial}
 use Rattle.upload.specs.Steady.{IsSteadyAt}
 use Rattle.upload.specs.Sessions.{AllClosed, AllOpenAt}
-use Rattle.upload.specs.Ending.{EndsUpload, is_flash}
-use Rattle.upload.specs.Accepted.{Accepts}
-use Rattle.upload.specs.Piece.{Pieces}
-use Rattle.upload.specs.Finish.{FinishRow}
-use Rattle.upload.specs.Withdrawal.{Withdraws}
+use Rattle.upload.specs.Ending.{EndsUpload}
+use Rattle.machine.specs.Intake.{is_flash, IsUploadsCut, Row, Setup, TakesManifest}
+use Rattle.machine.specs.Accepted.{Accepts}
+use Rattle.machine.specs.Piece.{Pieces}
+use Rattle.machine.specs.Finish.{FinishRow}
+use Rattle.machine.specs.Withdrawal.{Withdraws}
 use Rattle.upload.specs.declared.sessions.Upload.{Upload}
-use Rattle.upload.specs.declared.error.UploadError.{UploadError}
-use Rattle.upload.specs.declared.error.UploadError.TheVariants as upload
+use Rattle.machine.specs.declared.upload_error.UploadError.{UploadError}
+use Rattle.machine.specs.declared.upload_error.UploadError.TheVariants as upload
 use Rattle.upload.proofs.Frames.{sessions_closed}
 use Rattle.upload.proofs.OpenOnes.{open_none}
 use Rattle.machine.specs.States.{asleep, with_confirmed}
-use Rattle.machine.specs.Intake.{IsUploadsCut, Row, Setup, TakesManifest}
-use Rattle.machine.specs.Holding.{DeviceView, Holds, IsAtRest, IsTrialAt, Rests, Stands}
-use Rattle.machine.specs.Passing.{CutsBoot, CutsConfirm, StepsTo, needs_rest, needs_up}
+use Rattle.flash_contents.specs.Holding.{DeviceView, Holds, IsAtRest, IsTrialAt, Rests, Stands}
+use Rattle.flash_contents.specs.Passing.{CutsBoot, CutsConfirm, StepsTo, needs_rest, needs_up}
 use Rattle.machine.specs.Steps.{DeviceEvent, cut_of}
 use Rattle.machine.specs.declared.error.Fault.{Fault}
 use Rattle.machine.specs.declared.error.Fault.TheVariants as no
 use Rattle.machine.specs.declared.reply.Reply.{Reply}
 use Rattle.machine.specs.declared.reply.Reply.TheVariants.{Done, Refused, Cut}
-use Rattle.machine.proofs.Confirming.{rest_stands, steady_kind, trial_kind}
-use Rattle.machine.proofs.Stepping.{steps_no_state, steps_not_up}
-use Rattle.machine.proofs.Uploading.{TakesRow, rest_steady, steps_on_trial}
+use Rattle.flash_contents.proofs.Confirming.{rest_stands, steady_kind, trial_kind}
+use Rattle.flash_contents.proofs.Stepping.{steps_no_state, steps_not_up}
+use Rattle.flash_contents.proofs.Uploading.{TakesRow, rest_steady, steps_on_trial}
 use Rattle.machine.specs.Boots.{is_answer}
 use Rattle.boot_core.specs.Answers.{EndsCall, IsBootReply, error_reply, fault_reply, is_stop, is_stopped, reply_of_boot}
 use Rattle.boot_core.specs.Device.{seen}

@@ -13,13 +13,13 @@ use Rattle.set_log.specs.declared.state.State.{State}
 use Rattle.set_log.specs.declared.state.RecordKind.TheVariants as log
 use Rattle.upload.specs.View.{View, view}
 use Rattle.machine.specs.Boots.{is_answer}
-use Rattle.machine.specs.Passing.{reply_of}
-use Rattle.machine.specs.declared.finding.Finding.{Finding}
-use Rattle.machine.specs.declared.finding.Finding.TheVariants.{Decided, Damaged, Invalid}
+use Rattle.flash_contents.specs.Passing.{reply_of}
+use Rattle.flash_contents.specs.declared.finding.Finding.{Finding}
+use Rattle.flash_contents.specs.declared.finding.Finding.TheVariants.{Decided, Damaged, Invalid}
 use Rattle.machine.specs.declared.error.Fault.{Fault}
 use Rattle.machine.specs.declared.error.Fault.TheVariants as no
 use Rattle.machine.specs.declared.reply.Reply.TheVariants.{Refused, TrialAgain}
-use Rattle.machine.specs.Starting.{StartsBy}
+use Rattle.flash_contents.specs.Starting.{StartsBy}
 use Rattle.machine.specs.declared.reply.Reply.{Reply}
 use Rattle.boot_core.specs.Answers.{IsOff, fault_reply, is_stopped}
 use Rattle.boot_core.specs.Found.{IsKeptFor, IsStopped, IsSwapAloneFor, IsToldAgain}

@@ -14,9 +14,9 @@ use Rattle.trailer.specs.Fields.{Fields, erased_fields}
 use Rattle.image_reading.specs.Image.{BeginsIntact}
 use Rattle.upload.specs.View.{View, view}
 use Rattle.upload.proofs.Views.{view_kept}
-use Rattle.machine.specs.Prepared.{IsRoomFor, IsRoomForBoth}
-use Rattle.machine.proofs.Preparing.{prepared, prepared_kept}
-use Rattle.machine.specs.Starting.{IsHeld}
+use Rattle.flash_contents.specs.Prepared.{IsRoomFor, IsRoomForBoth}
+use Rattle.flash_contents.proofs.Preparing.{prepared, prepared_kept}
+use Rattle.flash_contents.specs.Starting.{IsHeld}
 use Rattle.boot_core.specs.Preparing.{IsImageHeld}
 use Rattle.boot_core.specs.SwapSize.{IsReady, IsSwapSize, IsUsed}
 use Rattle.decision.proofs.Described.{intact_long}

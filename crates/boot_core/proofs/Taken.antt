@@ -1,7 +1,7 @@
 -- Lemmas for a call of `Uploads` on a device that takes uploads: its result is passed on.
 use Rattle.std.proofs.Common.{◌≡◌, ◌+◌, ◌≤◌, ℕ, Bool, true, false, List, Option, Result, Ok, Err, IfErr, refl, sym, ap, subst}
 use Rattle.std.specs.Borrow.{Bor}
-use Rattle.common.specs.declared.event.Event.TheVariants as event
+use Rattle.machine.specs.declared.event.Event.TheVariants as event
 use Rattle.flash_model.proofs.Ending.{no_error}
 use Rattle.flash_model.specs.Chip.{Chip}
 use Rattle.flash_model.specs.declared.error.FlashError.TheVariants as flash
@@ -10,25 +10,25 @@ use Rattle.sector_map.specs.Map.{IsLaidOut, Keeps}
 use Rattle.sector_map.specs.Part.{Part}
 use Rattle.sector_map.proofs.Parts.{laid_out_kept}
 use Rattle.set_log.specs.Log.{state_of}
-use Rattle.upload.specs.Device.{Machine}
-use Rattle.upload.specs.Ending.{EndsUpload, is_flash}
-use Rattle.upload.specs.Finish.{FinishRow}
-use Rattle.upload.specs.Piece.{Pieces}
-use Rattle.upload.specs.Withdrawal.{Withdraws}
+use Rattle.machine.specs.Device.{Machine}
+use Rattle.upload.specs.Ending.{EndsUpload}
+use Rattle.machine.specs.Intake.{is_flash, Row, Setup, Uploads}
+use Rattle.machine.specs.Finish.{FinishRow}
+use Rattle.machine.specs.Piece.{Pieces}
+use Rattle.machine.specs.Withdrawal.{Withdraws}
 use Rattle.upload.specs.Sessions.{AllClosed, AllOpenAt}
 use Rattle.upload.specs.View.{view}
 use Rattle.upload.specs.declared.sessions.Upload.{Upload}
-use Rattle.upload.specs.declared.error.UploadError.{UploadError}
-use Rattle.upload.specs.declared.error.UploadError.TheVariants as upload
-use Rattle.machine.specs.Holding.{DeviceView}
-use Rattle.machine.specs.Intake.{Row, Setup, Uploads}
-use Rattle.machine.specs.Passing.{StepsTo, upload_reply}
+use Rattle.machine.specs.declared.upload_error.UploadError.{UploadError}
+use Rattle.machine.specs.declared.upload_error.UploadError.TheVariants as upload
+use Rattle.flash_contents.specs.Holding.{DeviceView}
+use Rattle.flash_contents.specs.Passing.{StepsTo, upload_reply}
 use Rattle.machine.specs.Steps.{Completes, DeviceEvent}
 use Rattle.machine.specs.declared.error.Fault.{Fault}
 use Rattle.machine.specs.declared.error.Fault.TheVariants as no
 use Rattle.machine.specs.declared.reply.Reply.{Reply}
 use Rattle.machine.specs.declared.reply.Reply.TheVariants.{Cut, Done, Refused}
-use Rattle.machine.proofs.Uploading.{TakesRow, row_steps, upload_refused}
+use Rattle.flash_contents.proofs.Uploading.{TakesRow, row_steps, upload_refused}
 use Rattle.boot_core.specs.Answers.{IsOff, is_stop, keeps_all, may_close}
 use Rattle.boot_core.specs.Device.{made, seen}
 use Rattle.boot_core.specs.Ready.{LogsRest}

@@ -1,7 +1,7 @@
 -- Lemmas for texts that aren't manifests for a device.
 use Rattle.std.proofs.Common.{◌≡◌, ◌≢◌, ℕ, Bool, true, List, Option, Some, refl, sym, subst}
 use Rattle.std.specs.Borrow.{Bor}
-use Rattle.common.specs.declared.event.Event.TheVariants as event
+use Rattle.machine.specs.declared.event.Event.TheVariants as event
 use Rattle.flash_model.specs.Chip.{Chip}
 use Rattle.set_log.specs.declared.state.State.{State}
 use Rattle.set_log.specs.declared.state.RecordKind.TheVariants as log
@@ -12,12 +12,12 @@ use Rattle.manifest.specs.Fault.{IsRefusal}
 use Rattle.upload.specs.View.{view}
 use Rattle.upload.specs.declared.sessions.Upload.{Upload}
 use Rattle.machine.specs.Intake.{Setup}
-use Rattle.machine.specs.Passing.{StepsTo}
+use Rattle.flash_contents.specs.Passing.{StepsTo}
 use Rattle.machine.specs.declared.error.Fault.{Fault}
 use Rattle.machine.specs.declared.error.Fault.TheVariants as no
 use Rattle.machine.specs.declared.reply.Reply.{Reply}
 use Rattle.machine.specs.declared.reply.Reply.TheVariants.{Refused}
-use Rattle.machine.proofs.Uploading.{steps_bad_manifest, steps_no_memory}
+use Rattle.flash_contents.proofs.Uploading.{steps_bad_manifest, steps_no_memory}
 use Rattle.boot_core.specs.Answers.{EndsCall, fault_reply}
 use Rattle.boot_core.specs.Device.{seen}
 use Rattle.boot_core.specs.Ready.{RefusesText, text_fault}

@@ -11,15 +11,15 @@ use Rattle.sector_map.specs.Map.{IsLaidOut, Keeps}
 use Rattle.sector_map.specs.Part.{TrailerOf, only}
 use Rattle.common.specs.Masks.{is_member}
 use Rattle.sector_map.proofs.Parts.{laid_out_kept}
-use Rattle.common.specs.declared.event.Event.TheVariants as event
-use Rattle.upload.specs.Device.{DeviceState}
+use Rattle.machine.specs.declared.event.Event.TheVariants as event
+use Rattle.machine.specs.Device.{DeviceState}
 use Rattle.upload.specs.View.{view}
 use Rattle.upload.specs.declared.sessions.Upload.{Upload}
-use Rattle.machine.specs.Holding.{IsAtRest}
+use Rattle.flash_contents.specs.Holding.{IsAtRest}
 use Rattle.manifest.specs.declared.identity.Identity.{Identity}
-use Rattle.machine.specs.Passing.{EndsConfirm, StepsTo}
+use Rattle.flash_contents.specs.Passing.{EndsConfirm, StepsTo}
 use Rattle.machine.specs.Steps.{cut_of}
-use Rattle.machine.proofs.Uploading.{open_confirmed}
+use Rattle.flash_contents.proofs.Uploading.{open_confirmed}
 use Rattle.boot_core.specs.Answers.{is_stopped, reply_of_result}
 use Rattle.boot_core.specs.Device.{made, seen}
 use Rattle.boot_core.specs.Taking.{StepsHere}

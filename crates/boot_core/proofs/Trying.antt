@@ -3,10 +3,10 @@ use Rattle.std.proofs.Common.{◌≡◌, ℕ, subst}
 use Rattle.flash_model.specs.Chip.{Chip}
 use Rattle.sector_map.specs.declared.layout.SectorMap.{SectorMap}
 use Rattle.set_log.specs.declared.state.State.{State}
-use Rattle.machine.specs.Reading.{HasLeft}
+use Rattle.flash_contents.specs.Reading.{HasLeft}
 use Rattle.machine.specs.declared.error.Fault.TheVariants.{RunningDamaged}
-use Rattle.machine.specs.declared.finding.Passage.{Passage}
-use Rattle.machine.specs.declared.finding.Passage.TheVariants.{Stays}
+use Rattle.flash_contents.specs.declared.finding.Passage.{Passage}
+use Rattle.flash_contents.specs.declared.finding.Passage.TheVariants.{Stays}
 use Rattle.machine.specs.declared.reply.Reply.TheVariants.{Reverted, TrialAgain, Refused}
 use Rattle.boot_core.specs.Over.{IsTriedAgain}
 

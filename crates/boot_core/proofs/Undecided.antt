@@ -8,13 +8,13 @@ use Rattle.sector_map.specs.Part.{swap_of}
 use Rattle.reports.specs.declared.table.Table.{Table}
 use Rattle.reports.specs.declared.report.Report.{Report}
 use Rattle.set_log.specs.declared.state.State.{State}
-use Rattle.upload.specs.Device.{DeviceState}
+use Rattle.machine.specs.Device.{DeviceState}
 use Rattle.upload.specs.View.{View, view}
 use Rattle.machine.specs.Boots.{IsDecision, IsReported}
-use Rattle.machine.specs.Reading.{CanRead, IsFinding, IsFoundAgain}
-use Rattle.machine.specs.Wear.{IsSetFound}
-use Rattle.machine.specs.declared.finding.Finding.{Finding}
-use Rattle.machine.specs.declared.finding.Finding.TheVariants.{Decided, Damaged, Invalid}
+use Rattle.flash_contents.specs.Reading.{CanRead, IsFinding, IsFoundAgain}
+use Rattle.flash_contents.specs.Wear.{IsSetFound}
+use Rattle.flash_contents.specs.declared.finding.Finding.{Finding}
+use Rattle.flash_contents.specs.declared.finding.Finding.TheVariants.{Decided, Damaged, Invalid}
 use Rattle.machine.proofs.FoundAgain.{none_damaged, valid_again}
 use Rattle.machine.proofs.Unique.{one_table}
 use Rattle.decision.specs.Found.{IsFindingAt}
@@ -23,8 +23,8 @@ use Rattle.decision.specs.declared.places.Verdict.{Verdict}
 use Rattle.decision.specs.declared.places.Verdict.TheVariants as verdicts
 use Rattle.boot_core.specs.Found.{IsKeptFor, IsSwapAloneFor, IsToldAgain, StartsFound}
 use Rattle.boot_core.specs.Moving.{settled_parts}
-use Rattle.machine.proofs.Starting.{set_kept}
-use Rattle.reports.specs.Rightness.{taken_in}
+use Rattle.flash_contents.proofs.Starting.{set_kept}
+use Rattle.certificate.specs.Rightness.{taken_in}
 use Rattle.boot_core.specs.FromSwap.{IsSettleRecorded}
 
 -- A finding is no decision.

@@ -3,18 +3,18 @@ use Rattle.std.proofs.Common.{◌≡◌, ◌⊎◌, ℕ, ◌+◌, Bool, Ok, ap, 
 use Rattle.flash_model.specs.Chip.{Chip, Ends}
 use Rattle.sector_map.specs.declared.layout.SectorMap.{SectorMap}
 use Rattle.sector_map.specs.Map.{IsLaidOut}
-use Rattle.reports.specs.declared.table.Table.{Table}
-use Rattle.upload.specs.Device.{DeviceState}
+use Rattle.certificate.specs.declared.table.Table.{Table}
+use Rattle.machine.specs.Device.{DeviceState}
 use Rattle.upload.specs.Steady.{IsSteadyAt}
 use Rattle.upload.specs.View.{view}
 use Rattle.machine.specs.Boots.{IsDecision}
-use Rattle.machine.specs.Passing.{CutsBoot, EndsBoot, IsSwappingSome, IsUpgraded, IsUpgrading, reply_of}
-use Rattle.machine.specs.Reading.{IsFoundAgain}
-use Rattle.machine.specs.Starting.{StartsBy}
-use Rattle.machine.specs.declared.finding.Finding.{Finding}
-use Rattle.machine.specs.declared.finding.Finding.TheVariants.{Decided, Damaged, Invalid}
+use Rattle.flash_contents.specs.Passing.{CutsBoot, EndsBoot, IsSwappingSome, IsUpgraded, IsUpgrading, reply_of}
+use Rattle.flash_contents.specs.Reading.{IsFoundAgain}
+use Rattle.flash_contents.specs.Starting.{StartsBy}
+use Rattle.flash_contents.specs.declared.finding.Finding.{Finding}
+use Rattle.flash_contents.specs.declared.finding.Finding.TheVariants.{Decided, Damaged, Invalid}
 use Rattle.machine.specs.declared.reply.Reply.{Reply}
-use Rattle.machine.proofs.Upgrading.{begun_cut, chosen_decision, ended_cut, found_boots, steady_cut}
+use Rattle.flash_contents.proofs.Upgrading.{begun_cut, chosen_decision, ended_cut, found_boots, steady_cut}
 use Rattle.boot_core.specs.Answers.{IsBootReply}
 use Rattle.boot_core.specs.Deciding.{AreForGoodIn}
 use Rattle.boot_core.specs.FromSteady.{BootsFromSteady, HasChosen}

@@ -7,15 +7,15 @@ use Rattle.sector_map.specs.Map.{Keeps}
 use Rattle.sector_map.specs.Part.{Log, only}
 use Rattle.set_log.specs.Log.{state_of}
 use Rattle.set_log.specs.declared.state.State.{State}
-use Rattle.upload.specs.Device.{DeviceState, Trial}
+use Rattle.machine.specs.Device.{DeviceState, Trial}
 use Rattle.upload.specs.View.{view}
 use Rattle.upload.specs.Steady.{IsSteadyAt}
-use Rattle.machine.specs.Holding.{IsTrialAt, Stands}
-use Rattle.machine.specs.Passing.{IsOpenOrAt}
+use Rattle.flash_contents.specs.Holding.{IsTrialAt, Stands}
+use Rattle.flash_contents.specs.Passing.{IsOpenOrAt}
 use Rattle.machine.specs.States.{IsConfirmed, settled}
-use Rattle.machine.specs.Wear.{members, IsResumed}
+use Rattle.flash_contents.specs.Wear.{members, IsResumed}
 use Rattle.machine.specs.declared.reply.Reply.{Reply}
-use Rattle.machine.proofs.Trying.{rest_over}
+use Rattle.flash_contents.proofs.Trying.{rest_over}
 use Rattle.set_log.specs.States.{Appends}
 use Rattle.boot_core.specs.Over.{AreFloorsRaised, IsRecordedOver, record_over}
 use Rattle.boot_core.specs.Wear.{AreMeasured, IsAfresh, IsSetMoved, IsWorn}

@@ -5,10 +5,10 @@ use Rattle.flash_model.specs.declared.error.FlashError.{FlashError}
 use Rattle.sector_map.specs.Map.{IsLaidOut, Keeps}
 use Rattle.sector_map.specs.Part.{Part}
 use Rattle.sector_map.specs.declared.layout.SectorMap.{SectorMap}
-use Rattle.upload.specs.Device.{DeviceState}
+use Rattle.machine.specs.Device.{DeviceState}
 use Rattle.upload.specs.View.{view}
-use Rattle.machine.specs.Passing.{CutsBoot, EndsBoot}
-use Rattle.machine.specs.Starting.{StartsBy}
+use Rattle.flash_contents.specs.Passing.{CutsBoot, EndsBoot}
+use Rattle.flash_contents.specs.Starting.{StartsBy}
 use Rattle.machine.specs.declared.reply.Reply.{Reply}
 use Rattle.boot_core.specs.Answers.{IsBootReply}
 use Rattle.boot_core.specs.Moving.{moved_parts}

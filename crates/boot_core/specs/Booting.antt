@@ -1,7 +1,6 @@
 -- Contracts of a boot from any record, and of a device's boot: one record for each function.
-use Rattle.std.specs.Prelude.{◌≡◌, ◌⊎◌, ◌+◌, ℕ, Bool, true, false, Some, Result, IfOk, None, Err}
-use Rattle.std.specs.Prelude.{IsErrOf}
-use Rattle.common.specs.declared.event.Event.TheVariants as event
+use Rattle.std.specs.Prelude.{◌≡◌, ◌⊎◌, ◌+◌, ℕ, Bool, true, false, Some, Result, IfOk, None, Err, IsErrOf}
+use Rattle.machine.specs.declared.event.Event.TheVariants as event
 use Rattle.flash_model.specs.Chip.{Chip, Ends}
 use Rattle.flash_model.specs.declared.error.FlashError.{FlashError}
 use Rattle.flash_model.specs.declared.error.FlashError.TheVariants.{Off}
@@ -10,17 +9,17 @@ use Rattle.manifest.specs.declared.identity.Identity.{Identity}
 use Rattle.set_log.specs.Log.{state_of}
 use Rattle.set_log.specs.declared.state.RecordKind.TheVariants as log
 use Rattle.set_log.specs.declared.state.State.{State}
-use Rattle.upload.specs.Device.{DeviceState}
+use Rattle.machine.specs.Device.{DeviceState}
 use Rattle.upload.specs.Sessions.{AllClosed, AllOpenAt}
 use Rattle.upload.specs.View.{view}
 use Rattle.machine.specs.Boots.{IsReadSound, is_answer}
-use Rattle.machine.specs.Holding.{DeviceView, Stands}
-use Rattle.machine.specs.Passing.{CutsBoot, EndsBoot, StepsTo, reply_of}
-use Rattle.machine.specs.Starting.{StartsBy}
+use Rattle.flash_contents.specs.Holding.{DeviceView, Stands}
+use Rattle.flash_contents.specs.Passing.{CutsBoot, EndsBoot, StepsTo, reply_of}
+use Rattle.flash_contents.specs.Starting.{StartsBy}
 use Rattle.machine.specs.Steps.{cut_of}
 use Rattle.machine.specs.declared.error.Fault.{Fault}
 use Rattle.machine.specs.declared.error.Fault.TheVariants.{NotProvisioned}
-use Rattle.machine.specs.declared.finding.Finding.{Finding}
+use Rattle.flash_contents.specs.declared.finding.Finding.{Finding}
 use Rattle.machine.specs.declared.reply.Reply.{Reply}
 use Rattle.machine.specs.declared.reply.Reply.TheVariants.{Refused, TrialAgain}
 use Rattle.boot_core.specs.Journal.{AsksToBoot}

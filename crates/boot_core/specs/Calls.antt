@@ -2,7 +2,7 @@
 use Rattle.std.specs.Prelude.{◌≡◌, ◌⊎◌, ℕ, ◌+◌, Bool, true, false, List, length, None, Some, Vec}
 use Rattle.std.specs.Prelude.{Result, Err, IfErr, IfOk, OnOk}
 use Rattle.std.specs.Borrow.{Bor}
-use Rattle.common.specs.declared.event.Event.TheVariants as event
+use Rattle.machine.specs.declared.event.Event.TheVariants as event
 use Rattle.flash_model.specs.Chip.{Chip}
 use Rattle.sector_map.specs.declared.layout.SectorMap.{SectorMap}
 use Rattle.sector_map.specs.Map.{Keeps}
@@ -16,30 +16,29 @@ use Rattle.manifest.specs.Manifest.{NamesEachOnce, NamesImages}
 use Rattle.set_log.specs.Log.{state_of}
 use Rattle.set_log.specs.declared.state.RecordKind.{RecordKind}
 use Rattle.set_log.specs.declared.state.State.{State}
-use Rattle.upload.specs.Device.{DeviceState, Machine}
+use Rattle.machine.specs.Device.{DeviceState, Machine}
 use Rattle.upload.specs.Accepted.{accepted_parts}
 use Rattle.upload.specs.View.{view}
 use Rattle.upload.specs.Sessions.{AllClosed, upload_at}
 use Rattle.machine.specs.Boots.{IsAllSound, IsReadSound, is_answer}
-use Rattle.machine.specs.Holding.{Holds, Stands}
-use Rattle.machine.specs.Lifecycle.{HasRunning}
-use Rattle.machine.specs.Passing.{RunsTo, StepsTo, reply_of}
-use Rattle.machine.specs.Starting.{StartsBy}
+use Rattle.flash_contents.specs.Holding.{Holds, Stands}
+use Rattle.flash_contents.specs.Lifecycle.{HasRunning}
+use Rattle.flash_contents.specs.Passing.{RunsTo, StepsTo, reply_of}
+use Rattle.flash_contents.specs.Starting.{StartsBy}
 use Rattle.machine.specs.States.{asleep}
 use Rattle.machine.specs.Steps.{DeviceEvent, cut_of, cuts_in}
 use Rattle.machine.specs.declared.error.Fault.{Fault}
 use Rattle.machine.specs.declared.error.Fault.TheVariants as no
 use Rattle.machine.specs.declared.error.Fault.TheVariants.{NotProvisioned}
-use Rattle.machine.specs.declared.finding.Finding.{Finding}
+use Rattle.flash_contents.specs.declared.finding.Finding.{Finding}
 use Rattle.machine.specs.declared.reply.Reply.{Reply}
 use Rattle.machine.specs.declared.reply.Reply.TheVariants.{TrialAgain}
 use Rattle.boot_core.specs.Journal.{AsksToBoot}
 use Rattle.boot_core.specs.Answers.{EndsCall, IsBootReply, IsNotBooted, IsOff, is_stop, is_stopped}
-use Rattle.boot_core.specs.Answers.{keeps_all, may_close}
-use Rattle.upload.specs.declared.error.UploadError.TheVariants.{SizeWrong}
+use Rattle.boot_core.specs.Answers.{keeps_all, may_close, reply_of_boot, reply_of_result}
+use Rattle.machine.specs.declared.upload_error.UploadError.TheVariants.{SizeWrong}
 use Rattle.upload.specs.declared.sessions.Upload.{Upload}
 use Rattle.upload.specs.Finishing.{WritesLastUnit}
-use Rattle.boot_core.specs.Answers.{reply_of_boot, reply_of_result}
 use Rattle.boot_core.specs.CutEvents.{IsCutAsDue, StartsAfter, StepsEach}
 use Rattle.boot_core.specs.Device.{StaysHeld, Whole, made}
 use Rattle.boot_core.specs.Found.{IsStopped}

@@ -1,6 +1,5 @@
 -- Contracts of the functions that confirm an image: one record for each.
-use Rattle.std.specs.Prelude.{◌≡◌, ◌⊎◌, ℕ, ◌+◌, ◌<◌, ◌≤◌, Bool, true, false, Result, Ok, Err, IfOk}
-use Rattle.std.specs.Prelude.{IsErrOf}
+use Rattle.std.specs.Prelude.{◌≡◌, ◌⊎◌, ℕ, ◌+◌, ◌<◌, ◌≤◌, Bool, true, false, Result, Ok, Err, IfOk, IsErrOf}
 use Rattle.flash_model.specs.Chip.{Chip, Ends}
 use Rattle.flash_model.specs.declared.error.FlashError.{FlashError}
 use Rattle.flash_model.specs.declared.error.FlashError.TheVariants.{Cut, Off}
@@ -11,11 +10,11 @@ use Rattle.sector_map.specs.declared.layout.SectorMap.{SectorMap}
 use Rattle.sector_map.specs.declared.layout.Side.TheVariants.{Primary}
 use Rattle.trailer.specs.Fields.{fields_at}
 use Rattle.set_log.specs.Log.{state_of}
-use Rattle.upload.specs.Device.{DeviceState, Trial}
+use Rattle.machine.specs.Device.{DeviceState, Trial}
 use Rattle.upload.specs.View.{view}
 use Rattle.machine.specs.Boots.{IsOnTrial}
-use Rattle.machine.specs.Holding.{IsTrialAt, IsAtRest}
-use Rattle.machine.specs.Passing.{CutsConfirm, EndsConfirm}
+use Rattle.flash_contents.specs.Holding.{IsTrialAt, IsAtRest}
+use Rattle.flash_contents.specs.Passing.{CutsConfirm, EndsConfirm}
 use Rattle.machine.specs.States.{with_confirmed}
 use Rattle.boot_core.specs.declared.confirming.Confirmation.{Confirmation}
 use Rattle.boot_core.specs.declared.confirming.Confirmation.TheVariants.{Done, NotOnTrial, NotBooted}

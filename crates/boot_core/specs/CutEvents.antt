@@ -4,10 +4,10 @@ use Rattle.std.specs.List.{list_any}
 use Rattle.flash_model.specs.Chip.{Chip, reached}
 use Rattle.sector_map.specs.declared.layout.SectorMap.{SectorMap}
 use Rattle.upload.specs.View.{view}
-use Rattle.machine.specs.Holding.{DeviceView}
+use Rattle.flash_contents.specs.Holding.{DeviceView}
 use Rattle.machine.specs.Intake.{Setup}
-use Rattle.machine.specs.Passing.{StepsTo}
-use Rattle.machine.specs.Starting.{StartsBy}
+use Rattle.flash_contents.specs.Passing.{StepsTo}
+use Rattle.flash_contents.specs.Starting.{StartsBy}
 use Rattle.machine.specs.Steps.{DeviceEvent, IsRunBy, cut_of}
 use Rattle.machine.specs.declared.reply.Reply.{Reply}
 use Rattle.machine.specs.declared.reply.Reply.TheVariants.{Cut}

@@ -5,15 +5,15 @@ use Rattle.flash_model.specs.declared.error.FlashError.{FlashError}
 use Rattle.sector_map.specs.declared.layout.SectorMap.{SectorMap}
 use Rattle.reports.specs.declared.table.Table.{Table}
 use Rattle.trailer.specs.Standing.{standing_of}
-use Rattle.trailer.specs.declared.kinds.Kind.TheVariants.{Permanent}
-use Rattle.upload.specs.Device.{DeviceState}
+use Rattle.common.specs.declared.kind.Kind.TheVariants.{Permanent}
+use Rattle.machine.specs.Device.{DeviceState}
 use Rattle.upload.specs.View.{View, view}
 use Rattle.machine.specs.Boots.{IsDecision, AsksForGood}
-use Rattle.machine.specs.Passing.{reply_of}
-use Rattle.machine.specs.Reading.{CanRead, IsFoundAgain, HasImages, IsAsking}
-use Rattle.machine.specs.Starting.{StartsBy}
-use Rattle.machine.specs.Wear.{IsSetFound, IsSetOf}
-use Rattle.machine.specs.declared.finding.Finding.{Finding}
+use Rattle.flash_contents.specs.Passing.{reply_of}
+use Rattle.flash_contents.specs.Reading.{CanRead, IsFoundAgain, HasImages, IsAsking}
+use Rattle.flash_contents.specs.Starting.{StartsBy}
+use Rattle.flash_contents.specs.Wear.{IsSetFound, IsSetOf}
+use Rattle.flash_contents.specs.declared.finding.Finding.{Finding}
 use Rattle.machine.specs.declared.reply.Reply.{Reply}
 use Rattle.boot_core.specs.Answers.{IsBootReply}
 use Rattle.decision.specs.Found.{HasTable}

@@ -9,8 +9,8 @@ use Rattle.upload.specs.View.{view}
 use Rattle.upload.specs.Sessions.{AllOpenAt}
 use Rattle.upload.specs.declared.sessions.Upload.{Upload}
 use Rattle.machine.specs.Intake.{Setup}
-use Rattle.upload.specs.Device.{Machine}
-use Rattle.machine.specs.Holding.{DeviceView, Holds}
+use Rattle.machine.specs.Device.{Machine}
+use Rattle.flash_contents.specs.Holding.{DeviceView, Holds}
 
 -- A device as contracts see it: what it was made with, and its state now.
 pub record Whole : Type 0 where

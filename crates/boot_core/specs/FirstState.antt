@@ -1,10 +1,10 @@
 -- What a device holds after its flash was provisioned.
 use Rattle.flash_model.specs.Chip.{Chip}
 use Rattle.sector_map.specs.declared.layout.SectorMap.{SectorMap}
-use Rattle.upload.specs.Device.{DeviceState}
+use Rattle.machine.specs.Device.{DeviceState}
 use Rattle.machine.specs.Boots.{IsAllSound}
-use Rattle.machine.specs.Holding.{DeviceView, Holds}
-use Rattle.machine.specs.Lifecycle.{IsJustMade}
+use Rattle.flash_contents.specs.Holding.{DeviceView, Holds}
+use Rattle.flash_contents.specs.Lifecycle.{IsJustMade}
 use Rattle.machine.specs.States.{asleep}
 use Rattle.boot_core.specs.Provisioned.{IsFirstState}
 

@@ -13,12 +13,12 @@ use Rattle.reports.specs.Rightness.{taken_in}
 use Rattle.set_log.specs.declared.state.State.{State}
 use Rattle.set_log.specs.declared.state.RecordKind.TheVariants as log
 use Rattle.upload.specs.View.{View, view}
-use Rattle.upload.specs.Device.{DeviceState}
+use Rattle.machine.specs.Device.{DeviceState}
 use Rattle.machine.specs.Boots.{IsTableOf}
-use Rattle.machine.specs.Reading.{CanRead}
-use Rattle.machine.specs.Starting.{IsLost, StartsSet}
-use Rattle.machine.specs.declared.finding.Finding.{Finding}
-use Rattle.machine.specs.declared.finding.Finding.TheVariants.{Decided, Damaged, Invalid}
+use Rattle.flash_contents.specs.Reading.{CanRead}
+use Rattle.flash_contents.specs.Starting.{IsLost, StartsSet}
+use Rattle.flash_contents.specs.declared.finding.Finding.{Finding}
+use Rattle.flash_contents.specs.declared.finding.Finding.TheVariants.{Decided, Damaged, Invalid}
 use Rattle.decision.specs.Found.{AreReadable, IsLowestAt}
 
 -- The table of a state isn't valid, or the set isn't the greatest of the table.

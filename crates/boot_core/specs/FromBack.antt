@@ -12,14 +12,14 @@ use Rattle.set_log.specs.declared.state.RecordKind.TheVariants as log
 use Rattle.set_log.specs.declared.state.State.{State}
 use Rattle.swap_scratch.specs.Steps.{AsksForSteps}
 use Rattle.swap_scratch.specs.Swap.{steps_done, steps_in_all}
-use Rattle.upload.specs.Device.{DeviceState, Trial}
+use Rattle.machine.specs.Device.{DeviceState, Trial}
 use Rattle.upload.specs.Steady.{IsSteadyAt}
 use Rattle.upload.specs.View.{view}
-use Rattle.machine.specs.Holding.{AreSettled, IsSwappedBack, Stands}
-use Rattle.machine.specs.Passing.{IsGoingBack, IsSwappingBackSome, reply_of}
+use Rattle.flash_contents.specs.Holding.{AreSettled, IsSwappedBack, Stands}
+use Rattle.flash_contents.specs.Passing.{IsGoingBack, IsSwappingBackSome, reply_of}
 use Rattle.machine.specs.States.{reverted}
-use Rattle.machine.specs.Wear.{IsSettling, IsResumed, members}
-use Rattle.machine.specs.declared.finding.Finding.{Finding}
+use Rattle.flash_contents.specs.Wear.{IsSettling, IsResumed, members}
+use Rattle.flash_contents.specs.declared.finding.Finding.{Finding}
 use Rattle.machine.specs.declared.reply.Reply.{Reply}
 use Rattle.machine.specs.declared.reply.Reply.TheVariants.{Reverted}
 use Rattle.boot_core.specs.Journal.{AsksToBoot, LogsKind, ReturnsOn, is_reverting}

@@ -15,14 +15,14 @@ use Rattle.set_log.specs.Log.{state_of}
 use Rattle.set_log.specs.declared.state.RecordKind.TheVariants as log
 use Rattle.set_log.specs.declared.state.State.{State}
 use Rattle.swap_scratch.specs.Swap.{share}
-use Rattle.upload.specs.Device.{DeviceState}
+use Rattle.machine.specs.Device.{DeviceState}
 use Rattle.upload.specs.View.{view}
 use Rattle.machine.specs.Boots.{IsDecision}
-use Rattle.machine.specs.Holding.{AreSettled, IsSettledAt, IsSwapped, Stands}
-use Rattle.machine.specs.Passing.{IsTakenAt, IsUpgraded, reply_of}
-use Rattle.machine.specs.Reading.{CanRead, IsFoundAgain}
-use Rattle.machine.specs.Wear.{IsSettling, members, IsSetFound, IsSetOf}
-use Rattle.machine.specs.declared.finding.Finding.{Finding}
+use Rattle.flash_contents.specs.Holding.{AreSettled, IsSettledAt, IsSwapped, Stands}
+use Rattle.flash_contents.specs.Passing.{IsTakenAt, IsUpgraded, reply_of}
+use Rattle.flash_contents.specs.Reading.{CanRead, IsFoundAgain}
+use Rattle.flash_contents.specs.Wear.{IsSettling, members, IsSetFound, IsSetOf}
+use Rattle.flash_contents.specs.declared.finding.Finding.{Finding}
 use Rattle.machine.specs.declared.reply.Reply.{Reply}
 use Rattle.boot_core.specs.Journal.{AsksToBoot, LogsKind, SettlesOn, is_resting}
 use Rattle.boot_core.specs.BootEnds.{BootEnds, Passes}

@@ -8,13 +8,13 @@ use Rattle.reports.specs.declared.table.Table.{Table}
 use Rattle.set_log.specs.Log.{state_of}
 use Rattle.set_log.specs.declared.state.RecordKind.TheVariants as log
 use Rattle.set_log.specs.declared.state.State.{State}
-use Rattle.upload.specs.Device.{DeviceState}
+use Rattle.machine.specs.Device.{DeviceState}
 use Rattle.upload.specs.Steady.{IsSteadyAt, request_in}
 use Rattle.upload.specs.View.{view}
 use Rattle.common.specs.Masks.{is_member}
 use Rattle.machine.specs.Boots.{IsDecision, IsChosen}
-use Rattle.machine.specs.Passing.{IsSwappingSome}
-use Rattle.machine.specs.Wear.{members}
+use Rattle.flash_contents.specs.Passing.{IsSwappingSome}
+use Rattle.flash_contents.specs.Wear.{members}
 use Rattle.machine.specs.declared.reply.Reply.{Reply}
 use Rattle.boot_core.specs.Journal.{Begins}
 use Rattle.boot_core.specs.BootEnds.{BootEnds, Passes}

@@ -10,15 +10,15 @@ use Rattle.set_log.specs.declared.state.RecordKind.TheVariants as log
 use Rattle.set_log.specs.declared.state.State.{State}
 use Rattle.common.specs.Masks.{is_member}
 use Rattle.swap_scratch.specs.Swap.{steps_done, steps_in_all}
-use Rattle.upload.specs.Device.{DeviceState}
+use Rattle.machine.specs.Device.{DeviceState}
 use Rattle.upload.specs.View.{view}
-use Rattle.machine.specs.Holding.{AreSettled, IsSwapped, Stands}
-use Rattle.machine.specs.Passing.{IsSwappingSome, IsUpgraded, IsUpgrading, reply_of}
+use Rattle.flash_contents.specs.Holding.{AreSettled, IsSwapped, Stands}
+use Rattle.flash_contents.specs.Passing.{IsSwappingSome, IsUpgraded, IsUpgrading, reply_of}
 use Rattle.machine.specs.Boots.{IsDecision}
-use Rattle.machine.specs.Reading.{CanRead, IsFoundAgain}
-use Rattle.machine.specs.Wear.{IsResumed, IsSetFound, IsSetOf}
-use Rattle.machine.specs.declared.finding.Finding.{Finding}
-use Rattle.machine.specs.declared.finding.Finding.TheVariants.{Damaged, Decided, Invalid}
+use Rattle.flash_contents.specs.Reading.{CanRead, IsFoundAgain}
+use Rattle.flash_contents.specs.Wear.{IsResumed, IsSetFound, IsSetOf}
+use Rattle.flash_contents.specs.declared.finding.Finding.{Finding}
+use Rattle.flash_contents.specs.declared.finding.Finding.TheVariants.{Damaged, Decided, Invalid}
 use Rattle.decision.specs.Found.{HasTable}
 use Rattle.machine.specs.declared.reply.Reply.{Reply}
 use Rattle.boot_core.specs.Journal.{AsksToBoot, LogsKind, is_moving}

@@ -12,19 +12,18 @@ use Rattle.trailer.specs.Fields.{fields_at}
 use Rattle.set_log.specs.Log.{state_of}
 use Rattle.set_log.specs.declared.state.RecordKind.TheVariants as log
 use Rattle.set_log.specs.declared.state.State.{State}
-use Rattle.upload.specs.Device.{DeviceState, Trial}
+use Rattle.machine.specs.Device.{DeviceState, Trial}
 use Rattle.upload.specs.Steady.{IsSteadyAt, IsFront, request_in}
 use Rattle.upload.specs.View.{View, view}
 use Rattle.machine.specs.Boots.{GoesBack, GoesOn}
-use Rattle.machine.specs.Holding.{IsTrialAt, IsTrialOpen, Stands}
-use Rattle.machine.specs.Passing.{IsSwappingBackSome, IsOpenOrAt}
-use Rattle.machine.specs.Reading.{AreSetOk, HasLeft, IsFloorOf}
-use Rattle.machine.specs.Reading.{IsPassage, RunsAt}
+use Rattle.flash_contents.specs.Holding.{IsTrialAt, IsTrialOpen, Stands}
+use Rattle.flash_contents.specs.Passing.{IsSwappingBackSome, IsOpenOrAt}
+use Rattle.flash_contents.specs.Reading.{AreSetOk, HasLeft, IsFloorOf, IsPassage, RunsAt}
 use Rattle.machine.specs.States.{IsConfirmed, IsRaised, settled}
-use Rattle.machine.specs.Wear.{members}
-use Rattle.machine.specs.declared.finding.Passage.{Passage}
-use Rattle.machine.specs.declared.finding.Passage.TheVariants.{Over, Back, Again, Stays, Refused}
-use Rattle.machine.specs.Starting.{AreHeld, AreIntact, IsLost}
+use Rattle.flash_contents.specs.Wear.{members}
+use Rattle.flash_contents.specs.declared.finding.Passage.{Passage}
+use Rattle.flash_contents.specs.declared.finding.Passage.TheVariants.{Over, Back, Again, Stays, Refused}
+use Rattle.flash_contents.specs.Starting.{AreHeld, AreIntact, IsLost}
 use Rattle.machine.specs.declared.reply.Reply.{Reply}
 use Rattle.machine.specs.declared.reply.Reply.TheVariants.{Reverted, TrialAgain}
 use Rattle.decision.specs.Found.{IsLowestAt}

@@ -15,7 +15,7 @@ use Rattle.swap_scratch.specs.Steps.{journal_of_step}
 use Rattle.swap_scratch.specs.Swap.{steps_done}
 use Rattle.upload.specs.Steady.{request_in}
 use Rattle.upload.specs.View.{view}
-use Rattle.machine.specs.Holding.{AreSettled}
+use Rattle.flash_contents.specs.Holding.{AreSettled}
 
 -- A journal with this room holds a step of a swap. It also holds what a boot writes between two
 -- records without a swap: at most 92 bytes for each of eight images, and 120 for a record.

@@ -6,7 +6,7 @@ use Rattle.sector_map.specs.declared.layout.Side.{Side}
 use Rattle.common.specs.Masks.{is_member}
 use Rattle.upload.specs.Steady.{IsFront}
 use Rattle.upload.specs.View.{view}
-use Rattle.machine.specs.Starting.{IsHeld, IsLowestLost}
+use Rattle.flash_contents.specs.Starting.{IsHeld, IsLowestLost}
 
 -- Whether an image is in a set and its slot on a side begins with no intact image.
 abbrev pub IsMemberLost : SectorMap → ℕ → ℕ → Side → Chip → Bool → Type 0

@@ -6,10 +6,10 @@ use Rattle.sector_map.specs.declared.layout.Side.TheVariants.{Secondary}
 use Rattle.set_log.specs.States.{Appends}
 use Rattle.set_log.specs.declared.state.RecordKind.TheVariants.{Steady}
 use Rattle.set_log.specs.declared.state.State.{State}
-use Rattle.upload.specs.Device.{DeviceState}
+use Rattle.machine.specs.Device.{DeviceState}
 use Rattle.upload.specs.View.{view}
-use Rattle.machine.specs.Reading.{AreSetOk, RunsAt}
-use Rattle.machine.specs.Starting.{IsLost}
+use Rattle.flash_contents.specs.Reading.{AreSetOk, RunsAt}
+use Rattle.flash_contents.specs.Starting.{IsLost}
 use Rattle.machine.specs.States.{IsRaised}
 use Rattle.machine.specs.declared.error.Fault.TheVariants.{RunningDamaged}
 use Rattle.machine.specs.declared.reply.Reply.{Reply}

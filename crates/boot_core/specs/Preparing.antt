@@ -10,9 +10,9 @@ use Rattle.common.specs.Masks.{is_member}
 use Rattle.swap_scratch.specs.Swap.{share}
 use Rattle.image_reading.specs.Slot.{slot_bytes}
 use Rattle.upload.specs.View.{view}
-use Rattle.machine.specs.Prepared.{IsPrepared}
-use Rattle.machine.specs.Starting.{AreHeld, IsHeld}
-use Rattle.machine.specs.Wear.{members}
+use Rattle.flash_contents.specs.Prepared.{IsPrepared}
+use Rattle.flash_contents.specs.Starting.{AreHeld, IsHeld}
+use Rattle.flash_contents.specs.Wear.{members}
 use Rattle.boot_core.specs.SwapSize.{IsReady, IsSwapSize, IsUsed}
 
 -- How many bytes of a slot of an image are used.

@@ -15,19 +15,20 @@ use Rattle.set_log.specs.declared.state.State.{State}
 use Rattle.image_reading.specs.declared.desc.Desc.{Desc}
 use Rattle.image_reading.specs.Image.{BeginsIntact, IsIntact}
 use Rattle.image_reading.specs.Slot.{slot_bytes}
-use Rattle.reports.specs.declared.table.Table.{Table}
-use Rattle.reports.specs.declared.table.Image.{Image}
-use Rattle.reports.specs.declared.table.Request.TheVariants as request
-use Rattle.reports.specs.Combination.{IsValid, running_set}
-use Rattle.upload.specs.Device.{DeviceState}
+use Rattle.certificate.specs.declared.table.Table.{Table}
+use Rattle.certificate.specs.declared.table.Image.{Image}
+use Rattle.certificate.specs.declared.table.Request.TheVariants as request
+use Rattle.certificate.specs.Combination.{IsValid, running_set}
+use Rattle.machine.specs.Device.{DeviceState}
 use Rattle.common.specs.Bytes.{Starts}
-use Rattle.upload.specs.Steady.{IsImage, IsSteadyAt}
+use Rattle.machine.specs.Finish.{IsImage}
+use Rattle.upload.specs.Steady.{IsSteadyAt}
 use Rattle.upload.specs.View.{view}
 use Rattle.machine.specs.Boots.{IsAllSound, IsSound}
 use Rattle.machine.specs.States.{entry_of}
 use Rattle.machine.specs.declared.error.Fault.{Fault}
-use Rattle.machine.specs.declared.finding.Reading.{Reading}
-use Rattle.machine.specs.declared.finding.Reading.TheVariants.{Read, DamagedAt}
+use Rattle.flash_contents.specs.declared.finding.Reading.{Reading}
+use Rattle.flash_contents.specs.declared.finding.Reading.TheVariants.{Read, DamagedAt}
 use Rattle.machine.specs.declared.error.Fault.TheVariants as no
 
 -- What provisioning writes: all trailers and the log.

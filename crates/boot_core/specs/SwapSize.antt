@@ -5,7 +5,7 @@ use Rattle.sector_map.specs.declared.layout.Side.TheVariants.{Primary, Secondary
 use Rattle.image_reading.specs.declared.desc.Desc.{Desc}
 use Rattle.image_reading.specs.Image.{BeginsIntact}
 use Rattle.upload.specs.View.{View}
-use Rattle.machine.specs.Prepared.{IsPrepared}
+use Rattle.flash_contents.specs.Prepared.{IsPrepared}
 
 -- How many bytes of a slot are used: the length of its intact image, or that of the slot if it
 -- begins with none.

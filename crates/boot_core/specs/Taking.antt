@@ -3,7 +3,7 @@
 use Rattle.std.specs.Prelude.{◌≡◌, ◌≤◌, ℕ, ◌+◌, Bool, true, false, List, length, Option, Some}
 use Rattle.std.specs.Prelude.{Result, Ok, Err, IfErr, OnOk}
 use Rattle.std.specs.Borrow.{Bor}
-use Rattle.common.specs.declared.event.Event.TheVariants as event
+use Rattle.machine.specs.declared.event.Event.TheVariants as event
 use Rattle.flash_model.specs.Chip.{Chip}
 use Rattle.flash_model.specs.declared.error.FlashError.TheVariants.{Off}
 use Rattle.sector_map.specs.declared.layout.SectorMap.{SectorMap}
@@ -17,21 +17,21 @@ use Rattle.manifest.specs.Fault.{IsManifest}
 use Rattle.manifest.specs.Manifest.{NamesEachOnce, NamesImages}
 use Rattle.set_log.specs.Log.{state_of}
 use Rattle.upload.specs.Accepted.{accepted_parts}
-use Rattle.upload.specs.Device.{DeviceState}
+use Rattle.machine.specs.Device.{DeviceState}
 use Rattle.upload.specs.NoSession.{LacksSession}
 use Rattle.upload.specs.Sessions.{AllClosed, AllOpenAt, IsOpenAt, upload_at}
 use Rattle.upload.specs.Steady.{IsSteadyAt}
 use Rattle.upload.specs.View.{view}
 use Rattle.upload.specs.Wear.{journal_of_components}
 use Rattle.upload.specs.declared.sessions.Upload.{Upload}
-use Rattle.machine.specs.Holding.{DeviceView}
-use Rattle.machine.specs.Passing.{StepsTo}
+use Rattle.flash_contents.specs.Holding.{DeviceView}
+use Rattle.flash_contents.specs.Passing.{StepsTo}
 use Rattle.machine.specs.Steps.{DeviceEvent}
 use Rattle.machine.specs.declared.error.Fault.{Fault}
 use Rattle.machine.specs.declared.error.Fault.TheVariants as no
 use Rattle.boot_core.specs.Answers.{EndsCall, IsNotBooted, IsOff, is_stop, keeps_all, may_close, reply_of_result}
-use Rattle.upload.specs.declared.error.UploadError.{UploadError}
-use Rattle.upload.specs.declared.error.UploadError.TheVariants.{NoSession, SizeWrong}
+use Rattle.machine.specs.declared.upload_error.UploadError.{UploadError}
+use Rattle.machine.specs.declared.upload_error.UploadError.TheVariants.{NoSession, SizeWrong}
 use Rattle.upload.specs.Finishing.{WritesLastUnit}
 use Rattle.boot_core.specs.Confirming.{IsOkSet}
 use Rattle.boot_core.specs.Device.{StaysHeld, made}

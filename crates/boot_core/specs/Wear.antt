@@ -12,7 +12,7 @@ use Rattle.swap_scratch.specs.Used.{sectors_for}
 use Rattle.swap_scratch.specs.Swap.{sum_over}
 use Rattle.upload.specs.View.{View, view}
 use Rattle.machine.specs.Headline.{TakesNone}
-use Rattle.machine.specs.Wear.{members, IsResumed, IsSetIn, IsSetOf, IsSettling}
+use Rattle.flash_contents.specs.Wear.{members, IsResumed, IsSetIn, IsSetOf, IsSettling}
 use Rattle.machine.specs.declared.reply.Reply.{Reply}
 use Rattle.machine.specs.declared.reply.Reply.TheVariants.{Done, Booted, Reverted, TrialAgain, Refused, Cut}
 use Rattle.boot_core.specs.SwapSize.{IsSwapSize}

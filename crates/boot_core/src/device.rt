@@ -2,7 +2,7 @@
 
 ghost use Rattle.std.specs.Prelude.{◌≡◌, ◌≤◌};
 ghost use Rattle.common.specs.Limits.{MOST_TRIAL_BOOTS};
-ghost use Rattle.common.specs.declared.event.Event.TheVariants as event;
+ghost use Rattle.machine.specs.declared.event.Event.TheVariants as event;
 ghost use Rattle.sector_map.specs.Map.{IsLaidOut};
 ghost use Rattle.sector_map.specs.Part.{Slot, any_part, incoming_of, only};
 ghost use Rattle.sector_map.specs.declared.layout.Side.TheVariants.{Secondary};

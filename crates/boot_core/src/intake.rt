@@ -2,7 +2,7 @@
 //! one.
 
 ghost use Rattle.std.specs.Prelude.{◌≡◌, ◌≢◌, ◌↔◌, All, AllPairs, IfErr, IfOk, IsTrue};
-ghost use Rattle.common.specs.declared.event.Event.TheVariants as event;
+ghost use Rattle.machine.specs.declared.event.Event.TheVariants as event;
 ghost use Rattle.manifest.specs.Fault.{IsManifest};
 ghost use Rattle.manifest.specs.Manifest.{NamesEachOnce, NamesImages};
 ghost use Rattle.sector_map.specs.Map.{IsLaidOut};
@@ -13,16 +13,15 @@ ghost use Rattle.boot_core.specs.Answers.{is_stop};
 ghost use Rattle.boot_core.specs.Device.{seen};
 ghost use Rattle.boot_core.specs.Ready.{HasNoComponent, RefusesText, text_fault};
 ghost use Rattle.boot_core.specs.Taking.{AcceptsHere, AsksReady, CanOpen, ChecksReady, FinishesHere};
-ghost use Rattle.boot_core.specs.Taking.{OpensUploads, PassesOn, Stops, TakesHere};
-ghost use Rattle.boot_core.specs.Taking.{TakesManifestHere, TakesPieceHere};
+ghost use Rattle.boot_core.specs.Taking.{OpensUploads, PassesOn, Stops, TakesHere, TakesManifestHere, TakesPieceHere};
 
 use flash_model::Flash;
-use machine::Fault;
+use machine::{Fault, UploadError};
 use manifest::{Component, Identity, Manifest, ManifestError};
 use sector_map::SectorMap;
 use set_log::{LogError, RecordKind, read_state};
 use std::alloc::Global;
-use upload::{UploadError, Uploads};
+use upload::Uploads;
 
 /// Checks that the device takes uploads: it is booted, and the log has a state at rest. A log that
 /// says that a boot was interrupted is one of a device that isn't booted, whatever `is_booted` is.

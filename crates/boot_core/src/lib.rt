@@ -8,8 +8,8 @@
 //! - Allocates: `accept`, to read a manifest, and `run`, for its replies; no boot does.
 //! - Callers: programs and bootloaders.
 //!
-//! A boot that returns a report starts exactly the greatest valid set of images. `common` defines
-//! the events, `machine` the replies and faults.
+//! A boot that returns a report starts exactly the greatest valid set of images. `machine` defines
+//! the events, replies and faults.
 #![tactic(auto)]
 
 pub mod apart;
@@ -30,8 +30,7 @@ mod steady;
 mod swap;
 mod trial;
 
-pub use common::event::Event;
 pub use device::Device;
-pub use machine::{Fault, Reply};
+pub use machine::{Event, Fault, Reply};
 pub use provisioning::provision;
 pub use running::{run, step};

@@ -5,7 +5,7 @@ ghost use Rattle.decision.specs.Telling.{Tells};
 ghost use Rattle.sector_map.specs.Map.{HasImage, IsLaidOut};
 ghost use Rattle.common.specs.Masks.{is_member};
 ghost use Rattle.image_reading.specs.Slot.{slot_bytes};
-ghost use Rattle.machine.specs.Starting.{IsHeld};
+ghost use Rattle.flash_contents.specs.Starting.{IsHeld};
 ghost use Rattle.boot_core.specs.Preparing.{IsImageHeld, IsSetHeld, IsSizeIn, IsSwapSizeIn, IsUsedIn};
 ghost use Rattle.boot_core.specs.Preparing.{Prepares, PreparesImage, PreparesMember};
 

@@ -1,16 +1,15 @@
 //! Runs events on a device, and returns a reply to each.
 
 ghost use Rattle.std.specs.Prelude.{◌≡◌, true};
-ghost use Rattle.machine.specs.Starting.{StartsBy};
+ghost use Rattle.flash_contents.specs.Starting.{StartsBy};
 ghost use Rattle.upload.specs.View.{View};
 ghost use Rattle.boot_core.specs.Answers.{fault_reply, reply_of_result};
 ghost use Rattle.boot_core.specs.Calls.{Replies, Runs, Steps};
 
 use crate::device::Device;
 use flash_model::{Flash, FlashError};
-use machine::{Event, Fault, Reply};
+use machine::{Event, Fault, Reply, UploadError};
 use std::alloc::{AllocError, Global};
-use upload::UploadError;
 
 /// The reply to a refused call: `Cut` if power failed, else `Refused` with the fault. Does not
 /// allocate.

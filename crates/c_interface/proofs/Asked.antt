@@ -13,7 +13,7 @@ use Rattle.flash_model.proofs.Reached.{reached_none, reached_one}
 use Rattle.flash_model.proofs.WrittenLaws.{are_writes_same, performed_same}
 use Rattle.sector_map.specs.declared.layout.SectorMap.{SectorMap}
 use Rattle.manifest.specs.declared.identity.Identity.{Identity}
-use Rattle.machine.specs.Holding.{DeviceView}
+use Rattle.flash_contents.specs.Holding.{DeviceView}
 use Rattle.machine.specs.Steps.{cut_of}
 use Rattle.machine.specs.declared.error.Fault.{Fault}
 use Rattle.machine.specs.declared.error.Fault.TheVariants as no
@@ -25,8 +25,7 @@ use Rattle.slice_flash.specs.Rows.{cutting_of, fixed_by, kind_of, numbers_in, pa
 use Rattle.slice_flash.specs.declared.table.ArmedCut.{ArmedCut}
 use Rattle.slice_flash.specs.declared.table.Left.{Left}
 use Rattle.slice_flash.specs.declared.table.Left.TheVariants.{Keep, Done, Bytes}
-use Rattle.c_interface.specs.DeviceCall.{DeviceCall}
-use Rattle.c_interface.specs.DeviceCall.{Accept, Piece, Finish, Withdraw, Confirm, Boot}
+use Rattle.c_interface.specs.DeviceCall.{DeviceCall, Accept, Piece, Finish, Withdraw, Confirm, Boot}
 use Rattle.c_interface.specs.declared.cuts.CutRow.{CutRow}
 use Rattle.c_interface.specs.Calls.{IsCallOf}
 use Rattle.c_interface.specs.Cuts.{AreCutsOf, IsCutAsAsked, IsCutOf, IsLeftBy, WritesAsAsked, asked_by, cutting_by, kind_by, numbers_of, pattern_by}

@@ -8,7 +8,7 @@ use Rattle.flash_model.specs.Memory.{new_chip}
 use Rattle.flash_model.specs.declared.error.FlashError.TheVariants as flash
 use Rattle.sector_map.specs.declared.layout.SectorMap.{SectorMap}
 use Rattle.manifest.specs.declared.identity.Identity.{Identity}
-use Rattle.machine.specs.Holding.{DeviceView}
+use Rattle.flash_contents.specs.Holding.{DeviceView}
 use Rattle.machine.specs.Steps.{cut_of}
 use Rattle.machine.specs.declared.error.Fault.{Fault}
 use Rattle.machine.specs.declared.error.Fault.TheVariants as no
@@ -17,8 +17,7 @@ use Rattle.boot_core.specs.Answers.{reply_of_result}
 use Rattle.boot_core.specs.Provisions.{Provisions}
 use Rattle.slice_flash.specs.Rows.{numbers_in}
 use Rattle.slice_flash.specs.declared.table.ArmedCut.{ArmedCut}
-use Rattle.c_interface.specs.DeviceCall.{DeviceCall}
-use Rattle.c_interface.specs.DeviceCall.{Accept, Piece, Finish, Withdraw, Confirm, Boot}
+use Rattle.c_interface.specs.DeviceCall.{DeviceCall, Accept, Piece, Finish, Withdraw, Confirm, Boot}
 use Rattle.c_interface.specs.declared.cuts.CutRow.{CutRow}
 use Rattle.c_interface.specs.Calls.{IsCallOf}
 use Rattle.c_interface.specs.Cuts.{AreCutsOf, IsCutAsAsked, numbers_of}

@@ -7,15 +7,14 @@ use Rattle.flash_model.specs.declared.error.FlashError.TheVariants as flash
 use Rattle.sector_map.specs.declared.layout.SectorMap.{SectorMap}
 use Rattle.sector_map.proofs.Parts.{keeps_refl}
 use Rattle.manifest.specs.declared.identity.Identity.{Identity}
-use Rattle.upload.specs.declared.error.UploadError.TheVariants as upload
-use Rattle.machine.specs.Holding.{DeviceView}
+use Rattle.machine.specs.declared.upload_error.UploadError.TheVariants as upload
+use Rattle.flash_contents.specs.Holding.{DeviceView}
 use Rattle.machine.specs.declared.error.Fault.{Fault}
 use Rattle.machine.specs.declared.error.Fault.TheVariants as no
 use Rattle.machine.specs.declared.reply.Reply.{Reply}
 use Rattle.machine.specs.declared.reply.Reply.TheVariants.{Cut, Done, Refused}
 use Rattle.boot_core.specs.Answers.{EndsCall, is_stop, reply_of_result}
-use Rattle.c_interface.specs.DeviceCall.{DeviceCall}
-use Rattle.c_interface.specs.DeviceCall.{Accept, Piece, Finish, Withdraw, Confirm, Boot}
+use Rattle.c_interface.specs.DeviceCall.{DeviceCall, Accept, Piece, Finish, Withdraw, Confirm, Boot}
 use Rattle.c_interface.specs.Calls.{IsCallOf, LeavesBytes}
 
 cut_refused : (fault : Fault) → Cut ≡ Refused fault → ⊥

@@ -4,8 +4,8 @@ use Rattle.std.proofs.lemmas.Result.{on_ok_weaker}
 use Rattle.flash_model.specs.Chip.{Chip}
 use Rattle.sector_map.specs.declared.layout.SectorMap.{SectorMap}
 use Rattle.sector_map.specs.Map.{IsLaidOut}
-use Rattle.upload.specs.Device.{DeviceState}
-use Rattle.machine.specs.Holding.{Stands, Rests}
+use Rattle.machine.specs.Device.{DeviceState}
+use Rattle.flash_contents.specs.Holding.{Stands, Rests}
 use Rattle.machine.specs.declared.error.Fault.{Fault}
 use Rattle.machine.specs.declared.reply.Reply.{Reply}
 use Rattle.boot_core.specs.Answers.{reply_of_result}

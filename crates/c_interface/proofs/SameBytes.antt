@@ -15,15 +15,15 @@ use Rattle.swap_scratch.specs.Used.{used_of}
 use Rattle.set_log.specs.Log.{state_of}
 use Rattle.reports.specs.declared.table.Table.{Table}
 use Rattle.upload.specs.View.{view}
-use Rattle.upload.specs.Device.{DeviceState, Machine, Session, Trial}
+use Rattle.machine.specs.Device.{DeviceState, Machine, Session, Trial}
 use Rattle.upload.specs.Sessions.{AllClosed, HasSession, IsUploadAt, IsWritten, session_of, upload_at}
 use Rattle.upload.specs.declared.sessions.Upload.{Upload}
 use Rattle.upload.proofs.Views.{view_kept}
-use Rattle.machine.specs.Holding.{DeviceView, Holds, IsAtRest, IsSwapping, IsSwappingBack, Stands, Rests, Tries, Swaps, Settles, Opens, SwapsBack}
-use Rattle.machine.specs.Holding.{SettlesBack}
-use Rattle.machine.proofs.Frames.{steady_logged}
-use Rattle.machine.proofs.Trying.{again_same}
-use Rattle.machine.proofs.Stepping.{stands_logged}
+use Rattle.flash_contents.specs.Holding.{DeviceView, Holds, IsAtRest, IsSwapping, IsSwappingBack, Stands, Rests, Tries, Swaps, Settles, Opens, SwapsBack}
+use Rattle.flash_contents.specs.Holding.{SettlesBack}
+use Rattle.flash_contents.proofs.Frames.{steady_logged}
+use Rattle.flash_contents.proofs.Trying.{again_same}
+use Rattle.flash_contents.proofs.Stepping.{stands_logged}
 
 -- Two flashes have the same bytes in the same sectors.
 pub record SameFlash (old new : Chip) : Type 0 where

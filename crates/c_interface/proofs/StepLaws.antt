@@ -4,7 +4,7 @@ use Rattle.std.proofs.Math.Nat.{div-mul-le_self, le-div_iff_mul-le, mod-eq-sub-d
 use Rattle.std.proofs.lemmas.Bool.{cases_Bool, true≢false}
 use Rattle.std.proofs.lemmas.Option.{none-some}
 use Rattle.std.specs.Borrow.{Bor}
-use Rattle.common.specs.declared.event.Event.TheVariants as event
+use Rattle.machine.specs.declared.event.Event.TheVariants as event
 use Rattle.flash_model.specs.Chip.{Chip, Fixed, size_of}
 use Rattle.flash_model.specs.Memory.{new_chip}
 use Rattle.sector_map.specs.declared.layout.SectorMap.{SectorMap}
@@ -12,17 +12,17 @@ use Rattle.sector_map.specs.Map.{IsLaidOut, IsMap, sectors_of}
 use Rattle.sector_map.proofs.Parts.{keeps_refl, laid_out_by}
 use Rattle.manifest.specs.declared.identity.Identity.{Identity}
 use Rattle.set_log.specs.Log.{state_of}
-use Rattle.trailer.specs.declared.kinds.Kind.{Kind}
+use Rattle.common.specs.declared.kind.Kind.{Kind}
 use Rattle.upload.specs.View.{view}
-use Rattle.upload.specs.Device.{DeviceState, Machine}
+use Rattle.machine.specs.Device.{DeviceState, Machine}
 use Rattle.upload.specs.NoSession.{LacksSession}
 use Rattle.upload.specs.Sessions.{AllClosed, AllOpenAt, IsOpenAt, upload_at}
 use Rattle.upload.specs.Steady.{IsSteadyAt}
-use Rattle.upload.specs.declared.error.UploadError.TheVariants.{NoSession}
+use Rattle.machine.specs.declared.upload_error.UploadError.TheVariants.{NoSession}
 use Rattle.upload.specs.declared.sessions.Upload.{Upload}
-use Rattle.machine.specs.Holding.{DeviceView, Holds}
+use Rattle.flash_contents.specs.Holding.{DeviceView, Holds}
 use Rattle.machine.specs.Intake as device
-use Rattle.machine.specs.Passing.{StepsTo}
+use Rattle.flash_contents.specs.Passing.{StepsTo}
 use Rattle.machine.specs.Steps.{DeviceEvent}
 use Rattle.machine.specs.declared.error.Fault.TheVariants as no
 use Rattle.machine.specs.declared.reply.Reply.{Reply}
@@ -30,8 +30,7 @@ use Rattle.machine.specs.declared.reply.Reply.TheVariants.{Refused}
 use Rattle.boot_core.specs.Answers.{reply_of_boot, reply_of_result}
 use Rattle.boot_core.specs.Device.{StaysHeld, made, seen}
 use Rattle.boot_core.specs.Ready.{LogsRest}
-use Rattle.c_interface.specs.DeviceCall.{DeviceCall}
-use Rattle.c_interface.specs.DeviceCall.{Accept, Piece, Finish, Withdraw, Confirm, Boot}
+use Rattle.c_interface.specs.DeviceCall.{DeviceCall, Accept, Piece, Finish, Withdraw, Confirm, Boot}
 use Rattle.c_interface.specs.declared.saved_state.SavedState.{SavedState}
 use Rattle.c_interface.specs.declared.saved_state.SavedUpload.{SavedUpload}
 use Rattle.c_interface.specs.declared.setup.CheckedSetup.{CheckedSetup}

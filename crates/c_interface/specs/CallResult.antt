@@ -11,8 +11,8 @@ use Rattle.reports.specs.declared.report.ReportedImage.{ReportedImage}
 use Rattle.flash_model.specs.Codes as flash
 use Rattle.manifest.specs.Codes as manifest
 use Rattle.image_reading.specs.Codes as image
-use Rattle.upload.specs.Codes as upload
-use Rattle.upload.specs.declared.error.UploadError.TheVariants.{NotAnImage}
+use Rattle.machine.specs.UploadCodes as upload
+use Rattle.machine.specs.declared.upload_error.UploadError.TheVariants.{NotAnImage}
 use Rattle.machine.specs.Codes.{code_of}
 use Rattle.machine.specs.declared.error.Fault.{Fault}
 use Rattle.machine.specs.declared.error.Fault.TheVariants.{Flash, Manifest, RunningDamaged, Upload}

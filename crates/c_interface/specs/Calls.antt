@@ -1,7 +1,7 @@
 -- What a call does to a device, and to the bytes that hold it.
 use Rattle.std.specs.Prelude.{◌≡◌, ◌⊎◌, ℕ, ◌+◌, ◌<◌, ◌≤◌, true, List, length, slice_index, Some, Result}
 use Rattle.std.specs.Borrow.{Bor}
-use Rattle.common.specs.declared.event.Event.TheVariants as event
+use Rattle.machine.specs.declared.event.Event.TheVariants as event
 use Rattle.flash_model.specs.Chip.{Chip, Fixed}
 use Rattle.sector_map.specs.declared.layout.SectorMap.{SectorMap}
 use Rattle.sector_map.specs.Map.{IsLaidOut, end_of_map}
@@ -10,16 +10,16 @@ use Rattle.manifest.specs.declared.identity.Identity.{Identity}
 use Rattle.manifest.specs.Fault.{IsManifest}
 use Rattle.set_log.specs.Log.{state_of}
 use Rattle.set_log.specs.declared.state.State.{State}
-use Rattle.upload.specs.Device.{DeviceState}
+use Rattle.machine.specs.Device.{DeviceState}
 use Rattle.upload.specs.NoSession.{LacksSession}
-use Rattle.upload.specs.declared.error.UploadError.TheVariants.{NoSession}
+use Rattle.machine.specs.declared.upload_error.UploadError.TheVariants.{NoSession}
 use Rattle.upload.specs.Steady.{IsSteadyAt}
 use Rattle.upload.specs.View.{view}
 use Rattle.upload.specs.Sessions.{AllOpenAt}
 use Rattle.upload.specs.Wear.{journal_of_components}
-use Rattle.machine.specs.Holding.{DeviceView}
+use Rattle.flash_contents.specs.Holding.{DeviceView}
 use Rattle.machine.specs.Intake as device
-use Rattle.machine.specs.Passing.{StepsTo}
+use Rattle.flash_contents.specs.Passing.{StepsTo}
 use Rattle.machine.specs.declared.error.Fault.{Fault}
 use Rattle.machine.specs.declared.error.Fault.TheVariants as no
 use Rattle.machine.specs.declared.reply.Reply.{Reply}
@@ -30,8 +30,7 @@ use Rattle.boot_core.specs.Device.{StaysHeld, made}
 use Rattle.boot_core.specs.Journal.{AsksToBoot}
 use Rattle.boot_core.specs.Ready.{LogsRest}
 use Rattle.boot_core.specs.Taking.{ConfirmsHere, FinishesHere, TakesHere, TakesManifestHere, TakesPieceHere}
-use Rattle.c_interface.specs.DeviceCall.{DeviceCall}
-use Rattle.c_interface.specs.DeviceCall.{Accept, Piece, Finish, Withdraw, Confirm, Boot}
+use Rattle.c_interface.specs.DeviceCall.{DeviceCall, Accept, Piece, Finish, Withdraw, Confirm, Boot}
 use Rattle.c_interface.specs.declared.cuts.CutRow.{CutRow}
 use Rattle.c_interface.specs.declared.saved_state.SavedState.{SavedState}
 use Rattle.c_interface.specs.declared.setup.CheckedSetup.{CheckedSetup}

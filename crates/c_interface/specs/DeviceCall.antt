@@ -2,7 +2,7 @@
 use Rattle.std.specs.Prelude.{ℕ, Bool, true, false, List}
 use Rattle.std.specs.Borrow.{Bor}
 use Rattle.flash_model.specs.declared.error.FlashError.TheVariants as flash
-use Rattle.upload.specs.declared.error.UploadError.TheVariants as upload
+use Rattle.machine.specs.declared.upload_error.UploadError.TheVariants as upload
 use Rattle.machine.specs.declared.error.Fault.{Fault}
 use Rattle.machine.specs.declared.error.Fault.TheVariants as no
 use Rattle.manifest.specs.declared.manifest.Manifest.{Manifest}

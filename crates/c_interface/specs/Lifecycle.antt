@@ -1,10 +1,10 @@
 -- What a caller in C may rely on, in terms of the machine: what its bytes hold after it provisioned
 -- them, and what a boot does to that.
 use Rattle.std.specs.Prelude.{◌≡◌, ◌⊎◌, ◌≤◌, ℕ, List}
-use Rattle.common.specs.declared.event.Event.TheVariants as event
+use Rattle.machine.specs.declared.event.Event.TheVariants as event
 use Rattle.flash_model.specs.Chip.{Chip}
-use Rattle.upload.specs.Device.{DeviceState, Machine}
-use Rattle.machine.specs.Holding.{DeviceView, Holds}
+use Rattle.machine.specs.Device.{DeviceState, Machine}
+use Rattle.flash_contents.specs.Holding.{DeviceView, Holds}
 use Rattle.machine.specs.States.{asleep}
 use Rattle.machine.specs.Steps.{IsStep}
 use Rattle.machine.specs.declared.reply.Reply.{Reply}

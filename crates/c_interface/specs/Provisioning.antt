@@ -2,8 +2,8 @@
 use Rattle.std.specs.Prelude.{◌≡◌, ℕ, ◌≤◌, List, length, Result, OnOk}
 use Rattle.flash_model.specs.Chip.{Chip, Fixed}
 use Rattle.sector_map.specs.declared.layout.SectorMap.{SectorMap}
-use Rattle.upload.specs.Device.{DeviceState}
-use Rattle.machine.specs.Holding.{Stands}
+use Rattle.machine.specs.Device.{DeviceState}
+use Rattle.flash_contents.specs.Holding.{Stands}
 use Rattle.machine.specs.declared.error.Fault.{Fault}
 use Rattle.machine.specs.declared.reply.Reply.{Reply}
 use Rattle.boot_core.specs.Answers.{reply_of_result}

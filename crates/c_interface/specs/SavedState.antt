@@ -1,18 +1,16 @@
 -- The saved state of a device, and the device that it restores.
 use Rattle.std.specs.Prelude.{◌≡◌, ℕ, ◌-◌, ◌≤◌, ◌==◌, Bool, true, false, if◌then◌else◌}
-use Rattle.std.specs.Prelude.{List, ◌++◌, length, map, replicate, take, slice_index_or}
-use Rattle.std.specs.Prelude.{Option, Some, None}
+use Rattle.std.specs.Prelude.{List, ◌++◌, length, map, replicate, take, slice_index_or, Option, Some, None}
 use Rattle.flash_model.specs.Chip.{Chip}
 use Rattle.sector_map.specs.declared.layout.SectorMap.{SectorMap}
 use Rattle.sector_map.specs.Map.{IsLaidOut}
-use Rattle.trailer.specs.declared.kinds.Kind.{Kind}
-use Rattle.trailer.specs.declared.kinds.Kind.TheVariants.{Test, Permanent}
+use Rattle.common.specs.declared.kind.Kind.{Kind}
+use Rattle.common.specs.declared.kind.Kind.TheVariants.{Test, Permanent}
 use Rattle.upload.specs.View.{view}
 use Rattle.upload.specs.Sessions.{AllClosed, AllOpenAt, upload_at}
 use Rattle.upload.specs.declared.sessions.Upload.{Upload}
-use Rattle.machine.specs.Holding.{DeviceView}
-use Rattle.c_interface.specs.DeviceCall.{DeviceCall}
-use Rattle.c_interface.specs.DeviceCall.{Piece}
+use Rattle.flash_contents.specs.Holding.{DeviceView}
+use Rattle.c_interface.specs.DeviceCall.{DeviceCall, Piece}
 use Rattle.c_interface.specs.declared.saved_state.SavedState.{SavedState}
 use Rattle.c_interface.specs.declared.saved_state.SavedUpload.{SavedUpload}
 

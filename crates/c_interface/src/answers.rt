@@ -10,8 +10,7 @@ ghost use Rattle.c_interface.specs.DeviceCall.{is_cut};
 use crate::call_result::{CallResult, put_fault, put_no_result};
 use crate::numbers::{CUT, DONE, REFUSED};
 use flash_model::FlashError;
-use machine::Fault;
-use upload::UploadError;
+use machine::{Fault, UploadError};
 
 /// What a call of a device answers. Contracts see it as a reply of the machine.
 pub(crate) trait Answer {

@@ -12,9 +12,7 @@ ghost use Rattle.machine.specs.Codes.{code_of};
 use crate::texts::Lengths;
 use arrayvec::ArrayVec;
 use common::limits::{MOST_ALTERNATIVES, MOST_IMAGES};
-use machine::Fault;
-use reports::{Reason, Refusal, Report, ReportedImage};
-use upload::UploadError;
+use machine::{Fault, UploadError};
 use version_order::{Dependency, Version};
 
 /// A version, `major.minor.revision+build` (MCUboot's `struct image_version`).

@@ -1,7 +1,7 @@
 pub mod Ascii
 pub mod Bytes
 pub mod Checks
-pub mod Event
+pub mod Kind
 pub mod Limits
 pub mod Lines
 pub mod Masks

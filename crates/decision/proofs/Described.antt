@@ -9,13 +9,14 @@ use Rattle.image_reading.proofs.Descriptions.{front_has_no_fault}
 use Rattle.common.specs.Bytes.{Starts}
 use Rattle.flash_model.specs.Chip.{Chip}
 use Rattle.sector_map.specs.declared.layout.SectorMap.{SectorMap}
-use Rattle.reports.specs.declared.table.Request.{Request}
-use Rattle.reports.specs.declared.table.Request.TheVariants as request
-use Rattle.upload.specs.Steady.{IsFront, IsImage, request_in}
+use Rattle.certificate.specs.declared.table.Request.{Request}
+use Rattle.certificate.specs.declared.table.Request.TheVariants as request
+use Rattle.upload.specs.Steady.{IsFront, request_in}
+use Rattle.machine.specs.Finish.{IsImage}
 use Rattle.upload.specs.View.{view}
 use Rattle.machine.specs.Boots.{IsRequestOf}
 use Rattle.decision.specs.Rows.{IsRequestIn}
-use Rattle.machine.specs.Starting.{HoldsEntry}
+use Rattle.flash_contents.specs.Starting.{HoldsEntry}
 use Rattle.machine.specs.States.{entry_of}
 
 -- An intact image has the length in its description.

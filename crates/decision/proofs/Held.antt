@@ -6,7 +6,7 @@ use Rattle.sector_map.specs.declared.layout.SectorMap.{SectorMap}
 use Rattle.common.specs.Masks.{is_member}
 use Rattle.reports.specs.declared.table.Image.{Image}
 use Rattle.upload.specs.View.{View, view}
-use Rattle.machine.proofs.Rows.{each_pushed}
+use Rattle.flash_contents.proofs.Rows.{each_pushed}
 use Rattle.decision.specs.Found.{AreRowsHeld, IsRowAsked, IsRowHeld, IsRowWanted}
 
 nothing : {A : Type 0} {x : A} → {B : Type 0} → None ≡ Some x → B

@@ -4,8 +4,8 @@ use Rattle.flash_model.specs.Chip.{Chip, Ends}
 use Rattle.flash_model.specs.declared.error.FlashError.{FlashError}
 use Rattle.sector_map.specs.declared.layout.SectorMap.{SectorMap}
 use Rattle.upload.specs.View.{view}
-use Rattle.machine.specs.Reading.{HasImages, IsFinding}
-use Rattle.machine.specs.declared.finding.Finding.{Finding}
+use Rattle.flash_contents.specs.Reading.{HasImages, IsFinding}
+use Rattle.flash_contents.specs.declared.finding.Finding.{Finding}
 use Rattle.decision.specs.Found.{HasTable, IsFindingAt, IsFindingHeld, IsReadBy}
 
 -- A call returns the decision of a device with these floors. The slots of the mask's images are

@@ -1,25 +1,24 @@
 -- What a boot finds on a flash that may have damaged images.
-use Rattle.std.specs.Prelude.{◌≡◌, ◌⊎◌, ℕ, ◌<◌, Bool, true, false, List, length, Option, Some, None}
-use Rattle.std.specs.Prelude.{slice_get}
+use Rattle.std.specs.Prelude.{◌≡◌, ◌⊎◌, ℕ, ◌<◌, Bool, true, false, List, length, Option, Some, None, slice_get}
 use Rattle.flash_model.specs.Chip.{Chip}
 use Rattle.sector_map.specs.declared.layout.SectorMap.{SectorMap}
 use Rattle.sector_map.specs.declared.layout.Side.TheVariants.{Primary, Secondary}
-use Rattle.common.specs.Masks.{is_member}
-use Rattle.reports.specs.declared.table.Entry.{Entry}
-use Rattle.reports.specs.declared.table.Image.{Image}
-use Rattle.reports.specs.declared.table.Request.{Request}
-use Rattle.reports.specs.declared.table.Request.TheVariants as request
-use Rattle.reports.specs.Combination.{IsGreatest, entry_in}
-use Rattle.reports.specs.Rightness.{taken_in}
-use Rattle.upload.specs.Device.{DeviceState}
+use Rattle.sector_map.specs.Part.{is_member}
+use Rattle.certificate.specs.declared.table.Entry.{Entry}
+use Rattle.certificate.specs.declared.table.Image.{Image}
+use Rattle.certificate.specs.declared.table.Request.{Request}
+use Rattle.certificate.specs.declared.table.Request.TheVariants as request
+use Rattle.certificate.specs.Combination.{IsGreatest, entry_in}
+use Rattle.certificate.specs.Rightness.{taken_in}
+use Rattle.machine.specs.Device.{DeviceState}
 use Rattle.upload.specs.View.{View, view}
 use Rattle.upload.specs.Steady.{IsFront, request_in}
-use Rattle.machine.specs.Reading.{CanRead}
-use Rattle.machine.specs.Starting.{HoldsEntry}
-use Rattle.machine.specs.declared.finding.Finding.{Finding}
-use Rattle.machine.specs.declared.finding.Finding.TheVariants.{Decided, Damaged, Invalid}
-use Rattle.machine.specs.declared.finding.Reading.{Reading}
-use Rattle.machine.specs.declared.finding.Reading.TheVariants.{Read, DamagedAt}
+use Rattle.flash_contents.specs.Reading.{CanRead}
+use Rattle.flash_contents.specs.Starting.{HoldsEntry}
+use Rattle.flash_contents.specs.declared.finding.Finding.{Finding}
+use Rattle.flash_contents.specs.declared.finding.Finding.TheVariants.{Decided, Damaged, Invalid}
+use Rattle.flash_contents.specs.declared.finding.Reading.{Reading}
+use Rattle.flash_contents.specs.declared.finding.Reading.TheVariants.{Read, DamagedAt}
 
 -- The table of a decision has `n` rows.
 abbrev pub HasTable : ℕ → Finding → Type 0

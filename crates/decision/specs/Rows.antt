@@ -11,12 +11,12 @@ use Rattle.reports.specs.declared.table.Request.{Request}
 use Rattle.reports.specs.declared.table.Request.TheVariants as asks
 use Rattle.image_reading.specs.Slot.{slot_bytes}
 use Rattle.trailer.specs.Fields.{fields_at}
-use Rattle.upload.specs.Device.{DeviceState, Wanted}
+use Rattle.machine.specs.Device.{DeviceState, Wanted}
 use Rattle.upload.specs.Steady.{IsFront, IsRequested}
 use Rattle.upload.specs.View.{view}
 use Rattle.machine.specs.Boots.{IsRequestOf}
-use Rattle.machine.specs.Reading.{CanReadAt, HasRows, IsReadOf, IsReading, IsRowRead}
-use Rattle.machine.specs.declared.finding.Reading.{Reading}
+use Rattle.flash_contents.specs.Reading.{CanReadAt, HasRows, IsReadOf, IsReading, IsRowRead}
+use Rattle.flash_contents.specs.declared.finding.Reading.{Reading}
 use Rattle.decision.specs.Found.{IsEntryAt, IsEntryRead, IsReadBy, IsReadingAt, IsRowAt}
 use Rattle.decision.specs.Found.{IsRequestHeld, IsRowAsked, IsRowHeld, IsRowWanted, IsTableHeld}
 use Rattle.decision.specs.Places.{read_as, some_if}

@@ -8,9 +8,8 @@ use crate::device_table::read_table_into;
 use crate::places::Verdict;
 use chooser::choose_into;
 use common::limits::MOST_IMAGES;
+use flash_contents::Finding;
 use flash_model::{Flash, Result};
-use machine::Finding;
-use reports::{Report, Table};
 use sector_map::SectorMap;
 use validity::is_valid;
 

@@ -10,12 +10,10 @@ ghost use Rattle.decision.specs.Rows.{PushesRow, ReadsRequest, ReadsRow, ReadsSl
 
 use arrayvec::ArrayVec;
 use common::limits::MOST_IMAGES;
-use common::mask::{is_member};
+use flash_contents::Reading;
 use flash_model::{Flash, Result};
 use image_reading::{Desc, intact_image_into};
-use machine::Reading;
-use reports::{Entry, Image, Request, Table};
-use sector_map::{SectorMap, Side};
+use sector_map::{SectorMap, Side, is_member};
 use trailer::standing;
 
 /// Returns what a decision uses of an image's description.

@@ -4,7 +4,7 @@ use Rattle.std.specs.Io.KnownBytes.{Keeps}
 use Rattle.std.specs.Borrow.{Bor}
 use Rattle.host.specs.declared.answer.Answer.{Answer}
 use Rattle.host.specs.declared.answer.Answer.TheVariants.{Done, Refused, Cut}
-use Rattle.common.specs.declared.event.Event.{Event}
+use Rattle.machine.specs.declared.event.Event.{Event}
 use Rattle.flash_model.specs.declared.torn.Armed.{Armed}
 use Rattle.host.specs.declared.error.Refusal.{Refusal}
 use Rattle.host.specs.declared.error.Refusal.TheVariants as no

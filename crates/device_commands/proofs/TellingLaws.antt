@@ -9,15 +9,15 @@ use Rattle.std.proofs.Math.Seq.{get_or-append_seam, take-append-add}
 use Rattle.std.proofs.lemmas.List.{length-map, map-append}
 use Rattle.std.proofs.lemmas.List.Folds.{list_any-append}
 use Rattle.std.proofs.lemmas.Option.{slice_get-get_or}
-use Rattle.common.specs.declared.event.Event.{Event}
+use Rattle.machine.specs.declared.event.Event.{Event}
 use Rattle.flash_model.specs.declared.torn.Armed.{Armed}
 use Rattle.device_texts.specs.declared.line_order.LineOrder.{LineOrder}
-use Rattle.machine.specs.Holding.{DeviceView}
+use Rattle.flash_contents.specs.Holding.{DeviceView}
 use Rattle.machine.specs.Intake.{Setup}
-use Rattle.machine.specs.Passing.{StepsTo}
+use Rattle.flash_contents.specs.Passing.{StepsTo}
 use Rattle.machine.specs.Steps.{DeviceEvent}
 use Rattle.machine.specs.declared.reply.Reply.{Reply}
-use Rattle.machine.proofs.Runs.{runs_more, runs_none}
+use Rattle.flash_contents.proofs.HeldRuns.{runs_more, runs_none}
 use Rattle.boot_core.specs.CutEvents.{IsCutAsDue, IsCutByWrite}
 use Rattle.boot_core.specs.Device.{seen}
 use Rattle.boot_core.proofs.CutEvents.{cut_by_due, steps_more}

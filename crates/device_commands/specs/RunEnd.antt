@@ -2,13 +2,13 @@
 use Rattle.std.specs.Prelude.{◌≡◌, ◌⊎◌, ◌&&◌, ℕ, ◌+◌, ◌-◌, ◌≤◌, Bool, false, true, List, [], ◌∷◌, ◌++◌, if◌then◌else◌, length, Option, None, Some, map, nat_lt, slice_get, take}
 use Rattle.std.specs.List.{list_any}
 use Rattle.std.specs.Io.KnownBytes.{Appends}
-use Rattle.common.specs.declared.event.Event.{Event}
-use Rattle.common.specs.Event.{event_map}
+use Rattle.machine.specs.declared.event.Event.{Event}
+use Rattle.machine.specs.Event.{event_map}
 use Rattle.flash_model.specs.declared.torn.Armed.{Armed}
 use Rattle.sector_map.specs.declared.layout.SectorMap.{SectorMap}
 use Rattle.upload.specs.Sessions.{AllClosed}
-use Rattle.machine.specs.Holding.{DeviceView}
-use Rattle.machine.specs.Passing.{RunsTo}
+use Rattle.flash_contents.specs.Holding.{DeviceView}
+use Rattle.flash_contents.specs.Passing.{RunsTo}
 use Rattle.machine.specs.Steps.{DeviceEvent}
 use Rattle.machine.specs.declared.reply.Reply.{Reply}
 use Rattle.machine.specs.declared.reply.Reply.TheVariants as reply

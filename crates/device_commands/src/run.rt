@@ -12,7 +12,6 @@ ghost use Rattle.host.specs.declared.source.Source.TheVariants as source;
 use crate::host_file::HostFile;
 use crate::replies::{write_no_map, write_notes, write_reply};
 use boot_core::{Device, step};
-use common::event::Event;
 use device_texts::{CutWrite, DeviceFile, Form, Line, NoteList, arm_all, flash_of};
 use flash_model::Flash;
 use host::{Access, Answer, Host, Refusal, Source};
@@ -20,7 +19,7 @@ use inputs::{
     CheckedScript, FileFlash, FlashFile, Lines, Notes, Sources, check_script, device_or_fault,
     read_flash, read_script,
 };
-use machine::Reply;
+use machine::{Event, Reply};
 use std::alloc::Global;
 use std::io;
 use std::io::Write;

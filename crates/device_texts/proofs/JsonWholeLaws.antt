@@ -17,8 +17,8 @@ use Rattle.machine.specs.declared.error.Fault.{Fault}
 use Rattle.machine.specs.declared.error.Fault.TheVariants as fault
 use Rattle.machine.specs.declared.reply.Reply.{Reply}
 use Rattle.machine.specs.declared.reply.Reply.TheVariants as reply
-use Rattle.upload.specs.declared.error.UploadError.{UploadError}
-use Rattle.upload.specs.declared.error.UploadError.TheVariants.{NotAnImage}
+use Rattle.machine.specs.declared.upload_error.UploadError.{UploadError}
+use Rattle.machine.specs.declared.upload_error.UploadError.TheVariants.{NotAnImage}
 use Rattle.device_texts.specs.Json.{dependency_json, fault_json, group_json, layer_json, needs_of, number_json, refusal_json, reported_images, reported_json, set_numbers, upload_json, versioned_json, with_member, with_notes, with_report}
 use Rattle.device_texts.specs.Json as json
 use Rattle.device_texts.specs.ReplyJson.{reply_members, with_set, with_word}

@@ -11,12 +11,11 @@ use Rattle.common.specs.Lines.{◌␣◌}
 use Rattle.common.proofs.AsciiLaws.{LacksByte-decimal, cut-found, cut-missing, cut-parts, cut-whole, number_below-decimal, number_below-spelled, number_of-decimal, number_of-spelled}
 use Rattle.common.proofs.Options.{cases_option, option_map-Some}
 use Rattle.common.proofs.Words.{on_word}
-use Rattle.common.specs.declared.event.Event.TheVariants as event
+use Rattle.machine.specs.declared.event.Event.TheVariants as event
 use Rattle.device_texts.specs.declared.line.Line.{Line}
 use Rattle.device_texts.specs.LineReading.{accept_of, cut_line_of, event_at, first_word, hex_of, image_event, line_at, name_of, part_of, piece_of, piece_with, said_of, torn_of, two_words, word_of}
 use Rattle.device_texts.specs.LineText.{AreDigits, FitsEvent, FitsPart, FitsTorn, IsLineText, IsName, event_text, line_text, piece_text, torn_text}
-use Rattle.device_texts.specs.Said.{PartWords, Said, SaidEvent, SaidTorn, file_of, said}
-use Rattle.device_texts.specs.Said.{Cut, Done, Event, Hex, Keep}
+use Rattle.device_texts.specs.Said.{PartWords, Said, SaidEvent, SaidTorn, file_of, said, Cut, Done, Event, Hex, Keep}
 use Rattle.device_texts.proofs.WordLaws.{name_of-spelled, name_of-text, word_of-spelled, word_of-text}
 
 -- ---- the text of a line is read as that line

@@ -19,9 +19,9 @@ use Rattle.reports.specs.declared.report.Report.{Report}
 use Rattle.reports.specs.declared.report.ReportedImage.{ReportedImage}
 use Rattle.image_reading.specs.Codes as image
 use Rattle.manifest.specs.Codes as manifest
-use Rattle.upload.specs.Codes as upload
-use Rattle.upload.specs.declared.error.UploadError.{UploadError}
-use Rattle.upload.specs.declared.error.UploadError.TheVariants.{NotAnImage}
+use Rattle.machine.specs.UploadCodes as upload
+use Rattle.machine.specs.declared.upload_error.UploadError.{UploadError}
+use Rattle.machine.specs.declared.upload_error.UploadError.TheVariants.{NotAnImage}
 use Rattle.machine.specs.Codes as boot
 use Rattle.machine.specs.declared.error.Fault.{Fault}
 use Rattle.machine.specs.declared.error.Fault.TheVariants as fault

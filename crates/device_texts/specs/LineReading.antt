@@ -6,9 +6,8 @@ use Rattle.std.specs.Char.{is_ascii_hexdigit}
 use Rattle.std.specs.List.{list_all}
 use Rattle.std.specs.Str.{bytes_eq, is_utf8}
 use Rattle.common.specs.Ascii.{number_of, number_below, cut}
-use Rattle.common.specs.declared.event.Event.TheVariants as event
-use Rattle.device_texts.specs.Said.{PartWords, Said, SaidEvent, SaidTorn, file_of}
-use Rattle.device_texts.specs.Said.{Cut, Done, Event, Hex, Keep}
+use Rattle.machine.specs.declared.event.Event.TheVariants as event
+use Rattle.device_texts.specs.Said.{PartWords, Said, SaidEvent, SaidTorn, file_of, Cut, Done, Event, Hex, Keep}
 
 infixl 10 ◌>>=◌
 abbrev pub ◌>>=◌ : {A B : Type 0} → Option A → (A → Option B) → Option B

@@ -4,9 +4,8 @@ use Rattle.std.specs.Char.{is_ascii_hexdigit}
 use Rattle.std.specs.List.{AllPass}
 use Rattle.common.specs.Ascii.{LacksByte}
 use Rattle.common.specs.Lines.{◌␣◌}
-use Rattle.common.specs.declared.event.Event.TheVariants as event
-use Rattle.device_texts.specs.Said.{PartWords, Said, SaidEvent, SaidTorn}
-use Rattle.device_texts.specs.Said.{Cut, Done, Event, Hex, Keep}
+use Rattle.machine.specs.declared.event.Event.TheVariants as event
+use Rattle.device_texts.specs.Said.{PartWords, Said, SaidEvent, SaidTorn, Cut, Done, Event, Hex, Keep}
 
 -- A word: at least one byte, and no space.
 abbrev pub IsWord : List ℕ → Type 0

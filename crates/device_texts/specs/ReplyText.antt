@@ -6,12 +6,12 @@ use Rattle.common.specs.Lines.{◌␣◌}
 use Rattle.common.specs.Masks.{is_member}
 use Rattle.image_reading.specs.Codes as image
 use Rattle.manifest.specs.Codes as manifest
-use Rattle.upload.specs.declared.error.UploadError.{UploadError}
-use Rattle.upload.specs.declared.error.UploadError.TheVariants.{NotAnImage}
-use Rattle.upload.specs.Codes as upload
-use Rattle.reports.specs.declared.report.Report.{Report}
-use Rattle.reports.specs.declared.report.ReportedImage.{ReportedImage}
-use Rattle.reports.specs.ReportText.{report_text}
+use Rattle.machine.specs.declared.upload_error.UploadError.{UploadError}
+use Rattle.machine.specs.declared.upload_error.UploadError.TheVariants.{NotAnImage}
+use Rattle.machine.specs.UploadCodes as upload
+use Rattle.certificate.specs.declared.report.Report.{Report}
+use Rattle.certificate.specs.declared.report.ReportedImage.{ReportedImage}
+use Rattle.certificate.specs.ReportText.{report_text}
 use Rattle.machine.specs.declared.error.Fault.{Fault}
 use Rattle.machine.specs.declared.error.Fault.TheVariants.{RunningDamaged, Manifest, Upload}
 use Rattle.machine.specs.Codes as boot

@@ -1,7 +1,7 @@
 -- A line of a script, with the bytes of its words instead of references to them.
 use Rattle.std.specs.Prelude.{ℕ, List, Option, option_map}
-use Rattle.common.specs.declared.event.Event as events
-use Rattle.common.specs.Event.{event_map}
+use Rattle.machine.specs.declared.event.Event as events
+use Rattle.machine.specs.Event.{event_map}
 use Rattle.device_texts.specs.declared.line.FileText.{FileText}
 use Rattle.device_texts.specs.declared.line.Line.{Line}
 use Rattle.device_texts.specs.declared.line.Line.TheVariants as line

@@ -31,7 +31,6 @@ mod replies;
 mod words;
 mod writing;
 
-pub use common::event::Event;
 pub use device::{DeviceFault, DeviceFile};
 pub use flash::{CutWrite, arm_all, flash_of};
 pub use form::Form;
@@ -39,6 +38,7 @@ pub use laws::a_text_says_one_line;
 pub use line::{FileText, Line, TornText};
 pub use line_order::LineOrder;
 pub use line_reading::line_of;
+pub use machine::Event;
 pub use notes::NoteList;
 pub use part::PartText;
 pub use refusals::{map_refusal_text, refused_text};

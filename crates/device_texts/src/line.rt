@@ -1,7 +1,7 @@
 //! The types of a line of a script.
 
 use crate::part::PartText;
-use common::event::Event;
+use machine::Event;
 
 /// A line of a script. It borrows the line's text.
 #[derive(Drop)]

@@ -4,7 +4,7 @@ ghost use Rattle.std.specs.Prelude.{◌≡◌, IfNone, IfSome};
 ghost use Rattle.std.specs.Char.{is_ascii_hexdigit};
 ghost use Rattle.std.specs.List.{list_all};
 ghost use Rattle.std.specs.Option.{option_map};
-ghost use Rattle.common.specs.Event.{event_map};
+ghost use Rattle.machine.specs.Event.{event_map};
 ghost use Rattle.device_texts.specs.LineReading.{accept_of, cut_line_of, event_at, hex_of, image_event, piece_of, said_of, torn_of};
 ghost use Rattle.device_texts.specs.LineText.{IsLineText};
 ghost use Rattle.device_texts.specs.Said.{Said, said, said_file, said_torn};
@@ -13,7 +13,7 @@ use crate::line::{FileText, Line, TornText};
 use crate::part::PartText;
 use crate::words::name;
 use common::ascii::{cut, number, number_u8};
-use common::event::Event;
+use machine::Event;
 
 // The words at the beginning of lines, and the words for what a cut leaves.
 const CUT: &[u8] = b"cut";

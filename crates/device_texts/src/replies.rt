@@ -7,12 +7,10 @@ ghost use Rattle.device_texts.specs.ReplyText.{decision_text, fault_text, group_
 ghost use Rattle.device_texts.specs.ReplyText.{refused_fault_text, reply_text, set_text, upload_text};
 
 use common::limits::MOST_IMAGES;
-use common::mask::{is_member};
-use machine::{Fault, Reply};
-use reports::{Report, ReportedImage};
+use machine::{Fault, Reply, UploadError};
+use sector_map::is_member;
 use std::alloc::{AllocError, Global};
 use std::fmt;
-use upload::UploadError;
 
 /// What `run` prints for the reply to the event of this number, counted from 1, in memory of
 /// `alloc`. The lines of a report follow the line of its boot.

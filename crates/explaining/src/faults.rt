@@ -2,10 +2,8 @@
 
 use crate::Result;
 use crate::texts::Images;
-use common::event::Event;
 use device_texts::{DeviceFile, NoteList};
-use machine::Fault;
-use upload::UploadError;
+use machine::{Event, Fault, UploadError};
 
 /// Adds that the log of a flash holds no state.
 pub fn explain_no_state(notes: &mut NoteList) -> Result {

@@ -6,9 +6,8 @@ use crate::manifest_notes::explain_manifest;
 use crate::needs::explain_refusals;
 use crate::trials::Trials;
 use crate::uploads::{UploadLog, explain_opening};
-use common::event::Event;
 use device_texts::{DeviceFile, NoteList};
-use machine::{Fault, Reply};
+use machine::{Event, Fault, Reply};
 use manifest::Manifest;
 use std::alloc::Global;
 

@@ -5,11 +5,11 @@ use crate::Result;
 use crate::image_notes::explain_image;
 use crate::texts::Digits;
 use device_texts::NoteList;
+use machine::UploadError;
 use manifest::{Component, Manifest};
 use sector_map::SectorMap;
 use sha2::{Digest, Sha256};
 use std::alloc::Global;
-use upload::UploadError;
 
 /// The component of an upload's manifest, and the bytes that arrived so far.
 #[derive(Drop)]

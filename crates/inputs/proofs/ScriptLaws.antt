@@ -5,13 +5,12 @@ use Rattle.std.proofs.Math.Seq.{drop-append_seam, take-length}
 use Rattle.std.proofs.lemmas.List.{append-nil, length-replicate, map-append, take_all}
 use Rattle.std.specs.Prelude.{Vec}
 use Rattle.std.specs.Borrow.{Bor}
-use Rattle.std.specs.List.{slice_range}
+use Rattle.std.specs.List.{slice_range, AllZip}
 use Rattle.std.specs.Io.KnownBytes.{Keeps}
-use Rattle.std.specs.List.{AllZip}
 use Rattle.common.specs.Lines.{lines_of}
-use Rattle.common.specs.declared.event.Event.{Event}
-use Rattle.common.specs.declared.event.Event.TheVariants as event
-use Rattle.common.specs.Event.{event_map}
+use Rattle.machine.specs.declared.event.Event.{Event}
+use Rattle.machine.specs.declared.event.Event.TheVariants as event
+use Rattle.machine.specs.Event.{event_map}
 use Rattle.flash_model.specs.declared.torn.Armed.{Armed}
 use Rattle.device_texts.specs.declared.line_order.LineOrder.{LineOrder}
 use Rattle.device_texts.specs.InOrder.{AreEvents, AreInOrder, CanFollow}
@@ -34,8 +33,7 @@ use Rattle.inputs.specs.declared.checking.BufferedInput.{BufferedInput}
 use Rattle.inputs.specs.declared.lines.Lines.{Lines}
 use Rattle.inputs.specs.Loading.{AddsCut, AreCutsOf, AreBuffered, Loads, LoadsAll, LoadsFirst, FirstCome, IsInputPiece, IsBuffered, IsNextLine, KeepsBuffered, Passes, ReadsNow, came_in, came_of}
 use Rattle.inputs.specs.Script.{AllCome, AllCut, Comes, IsCutBy, IsScript, Known, ReadsFile, StaysKnown, known_after}
-use Rattle.host.proofs.InputLaws.{Gives-kept}
-use Rattle.host.proofs.InputLaws.{kept_itself, kept_twice}
+use Rattle.host.proofs.InputLaws.{Gives-kept, kept_itself, kept_twice}
 
 -- An event that a line of a script says.
 abbrev ScriptEvent : Type 0

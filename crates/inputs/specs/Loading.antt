@@ -4,9 +4,9 @@ use Rattle.std.specs.Borrow.{Bor}
 use Rattle.std.specs.Io.KnownBytes.{Keeps}
 use Rattle.std.specs.List.{AllZip}
 use Rattle.common.specs.Lines.{lines_of}
-use Rattle.common.specs.declared.event.Event.{Event}
-use Rattle.common.specs.declared.event.Event.TheVariants as event
-use Rattle.common.specs.Event.{event_map}
+use Rattle.machine.specs.declared.event.Event.{Event}
+use Rattle.machine.specs.declared.event.Event.TheVariants as event
+use Rattle.machine.specs.Event.{event_map}
 use Rattle.flash_model.specs.declared.torn.Armed.{Armed}
 use Rattle.device_texts.specs.declared.line.FileText.{FileText}
 use Rattle.device_texts.specs.declared.line.Line.{Line}

@@ -4,8 +4,8 @@ use Rattle.std.specs.Prelude.{◌≡◌, ℕ, List, [], ◌∷◌, Option, None,
 use Rattle.std.specs.Io.KnownBytes.{Keeps}
 use Rattle.std.specs.List.{AllZip}
 use Rattle.common.specs.Lines.{lines_of}
-use Rattle.common.specs.declared.event.Event.{Event}
-use Rattle.common.specs.declared.event.Event.TheVariants as event
+use Rattle.machine.specs.declared.event.Event.{Event}
+use Rattle.machine.specs.declared.event.Event.TheVariants as event
 use Rattle.flash_model.specs.declared.torn.Armed.{Armed}
 use Rattle.device_texts.specs.Cuts.{Leaves}
 use Rattle.device_texts.specs.InOrder.{AreInOrder}

@@ -1,7 +1,7 @@
 //! Checks a script before anything is run: each of its lines and the files that they name.
 ghost use Rattle.std.specs.Prelude.{◌≡◌, ◌++◌, ◌∷◌, [], IfOk, OnOk, false, true};
 ghost use Rattle.std.specs.Option.{option_map};
-ghost use Rattle.common.specs.Event.{event_map};
+ghost use Rattle.machine.specs.Event.{event_map};
 ghost use Rattle.device_texts.specs.Said.{part_words, said, said_file, said_torn};
 ghost use Rattle.device_texts.specs.FlashOf.{armed_in, armed_of};
 ghost use Rattle.host.specs.Input.{KeepsFiles};
@@ -10,9 +10,9 @@ ghost use Rattle.inputs.specs.Script.{IsCutBy};
 
 use crate::lines::Lines;
 use crate::sources::{part_of, piece_of};
-use common::event::Event;
 use device_texts::{CutWrite, FileText, Line, TornText};
 use host::{Host, MOST_FILE, Refusal, ScriptFault, Source};
+use machine::Event;
 use std::alloc::Global;
 
 /// The bytes that a line names of an input that can't be read twice: standard input, a file that

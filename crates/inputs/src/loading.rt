@@ -7,9 +7,9 @@ ghost use Rattle.inputs.specs.Script.{IsScript, Known, StaysKnown};
 use crate::checking::check_script;
 use crate::lines::Lines;
 use crate::sources::Sources;
-use common::event::Event;
 use device_texts::Line;
 use host::{Host, MOST_SCRIPT, Refusal, ScriptFault, Source};
+use machine::Event;
 use std::alloc::Global;
 
 /// Reads the text of a script from `host` into memory of `alloc`.

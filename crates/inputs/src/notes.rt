@@ -1,10 +1,9 @@
 //! The trait of what explains a command's answer.
 
 use crate::device_input::BadMap;
-use common::event::Event;
 use device_texts::{DeviceFile, NoteList};
 use host::Source;
-use machine::Reply;
+use machine::{Event, Reply};
 use sector_map::{SectorMap, Side};
 
 /// Explains the answer of a command. The command hands it what it finds in its inputs. Nothing that

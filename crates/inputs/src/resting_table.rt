@@ -4,9 +4,8 @@ ghost use Rattle.std.specs.Prelude.{◌≡◌};
 ghost use Rattle.sector_map.specs.Map.{IsLaidOut};
 
 use decision::read_table;
+use flash_contents::Reading;
 use flash_model::Flash;
-use machine::Reading;
-use reports::Table;
 use sector_map::SectorMap;
 use set_log::{RecordKind, read_state};
 

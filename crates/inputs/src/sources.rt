@@ -1,7 +1,7 @@
 //! Loads the events of a script's lines, with the bytes of the files that the lines name.
 ghost use Rattle.std.specs.Prelude.{◌≡◌, ◌≢◌, ◌≤◌, IfErr, IfNone, IfOk, IfSome, Some, codes, IsTrue, false, length, slice_get};
 ghost use Rattle.std.specs.Option.{option_map};
-ghost use Rattle.common.specs.Event.{event_map};
+ghost use Rattle.machine.specs.Event.{event_map};
 ghost use Rattle.host.specs.Input.{IsKnownAs, IsKnownPart};
 ghost use Rattle.host.specs.Status.{status_of_refusal};
 ghost use Rattle.device_texts.specs.Said.{file_of, part_words, said_file};
@@ -9,9 +9,9 @@ ghost use Rattle.inputs.specs.Loading.{EventTakesNext, IsNextOther, Loads, Reads
 ghost use Rattle.inputs.specs.Script.{Comes, IsPieceOf, ReadsFile};
 
 use crate::checking::BufferedInput;
-use common::event::Event;
 use device_texts::{FileText, PartText};
 use host::{FilePart, Host, MOST_FILE, Refusal, ScriptFault, Source, SourceFault};
+use machine::Event;
 use std::alloc::Global;
 
 /// The inputs from which the lines of a checked script are loaded: the files of a host, and the

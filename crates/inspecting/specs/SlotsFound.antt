@@ -19,11 +19,11 @@ use Rattle.set_log.specs.declared.state.RecordKind.{RecordKind}
 use Rattle.set_log.specs.declared.state.RecordKind.TheVariants.{Steady, Swap, Settle, Trial, Back, BackSettle}
 use Rattle.set_log.specs.declared.state.State.{State}
 use Rattle.upload.specs.View.{view}
-use Rattle.reports.specs.declared.table.Table.{Table}
-use Rattle.machine.specs.Reading.{IsFinding, IsReading}
-use Rattle.machine.specs.declared.finding.Finding.{Finding}
-use Rattle.machine.specs.declared.finding.Finding.TheVariants as finding
-use Rattle.machine.specs.declared.finding.Reading.TheVariants.{Read}
+use Rattle.certificate.specs.declared.table.Table.{Table}
+use Rattle.flash_contents.specs.Reading.{IsFinding, IsReading}
+use Rattle.flash_contents.specs.declared.finding.Finding.{Finding}
+use Rattle.flash_contents.specs.declared.finding.Finding.TheVariants as finding
+use Rattle.flash_contents.specs.declared.finding.Reading.TheVariants.{Read}
 use Rattle.decision.specs.Found.{AreRowsHeld, IsFindingAt, IsReadBy}
 use Rattle.inspecting.specs.declared.slots_found.ImageSlots.{ImageSlots}
 use Rattle.inspecting.specs.declared.slots_found.NextDecision.{NextDecision}

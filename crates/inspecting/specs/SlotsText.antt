@@ -2,8 +2,8 @@
 use Rattle.std.specs.Prelude.{ℕ, List, [], ◌++◌, Option, Some, None, codes, decimal}
 use Rattle.std.specs.List.{flat_map}
 use Rattle.common.specs.Lines.{◌␣◌}
-use Rattle.trailer.specs.declared.kinds.Kind.{Kind}
-use Rattle.trailer.specs.declared.kinds.Kind.TheVariants as request
+use Rattle.common.specs.declared.kind.Kind.{Kind}
+use Rattle.common.specs.declared.kind.Kind.TheVariants as request
 use Rattle.swap_scratch.specs.declared.progress.Progress.{Progress}
 use Rattle.image_reading.specs.Codes.{code_of, name_of}
 use Rattle.reports.specs.ReportText.{report_text}

@@ -1,12 +1,10 @@
 -- Runs are continued, joined and split.
 use Rattle.std.proofs.Common.{◌≡◌, ℕ, ◌+◌, List, [], ◌∷◌, ◌++◌, length, take, drop, refl, sym, ◌∙◌, ap, subst, arith}
 use Rattle.std.proofs.Common.{zero, suc, zero-add}
-use Rattle.common.specs.declared.event.Event.TheVariants as event
-use Rattle.upload.specs.Device.{Machine}
+use Rattle.machine.specs.declared.event.Event.TheVariants as event
+use Rattle.machine.specs.Device.{Machine}
 use Rattle.machine.specs.Intake.{Setup}
 use Rattle.machine.specs.Steps.{Completes, DeviceEvent, IsRun, IsStep, IsUncutRun, cut_of, cuts_in}
-use Rattle.machine.specs.Holding.{DeviceView}
-use Rattle.machine.specs.Passing.{StepsTo, RunsTo}
 use Rattle.machine.specs.declared.reply.Reply.{Reply}
 use Rattle.machine.specs.declared.reply.Reply.TheVariants.{Cut, Done}
 
@@ -65,30 +63,6 @@ pub run_more : (setup : Setup) (m mid last : Machine) (events : List DeviceEvent
     → IsRun setup m (events ++ event ∷ []) (replies ++ reply ∷ []) last
 run_more setup m mid last events replies event reply run step =
     run_joins setup m mid last events (event ∷ []) replies (reply ∷ []) run (last, step, refl)
-
--- ---- runs of a device, from its view before and after
-
-pub runs_none : (setup : Setup) (w : DeviceView) → RunsTo setup w w [] []
-runs_none setup w = λ m holds. (m, refl, holds)
-
-pub runs_more : (setup : Setup) (old mid new : DeviceView) (events : List DeviceEvent) (replies : List Reply)
-    (event : DeviceEvent) (reply : Reply) → RunsTo setup old mid events replies → StepsTo setup mid new event reply
-    → RunsTo setup old new (events ++ event ∷ []) (replies ++ reply ∷ [])
-runs_more setup old mid new events replies event reply runs steps = λ m holds.
-    let before = runs m holds in
-    let after = steps before.0 before.2 in
-    (after.0, run_more setup m before.0 after.0 events replies event reply before.1 after.1, after.2)
-
--- A run continues by one step, as a loop over events needs it.
-pub runs_on : (setup here : Setup) (old mid new : DeviceView) (events more : List DeviceEvent)
-    (replies answered : List Reply) (event : DeviceEvent) (reply : Reply) → here ≡ setup
-    → more ≡ events ++ event ∷ [] → answered ≡ replies ++ reply ∷ []
-    → RunsTo setup old mid events replies → StepsTo here mid new event reply → RunsTo setup old new more answered
-runs_on setup here old mid new events more replies answered event reply same is also runs steps =
-    subst (λ es. RunsTo setup old new es answered) (sym is)
-    (subst (λ rs. RunsTo setup old new (events ++ event ∷ []) rs) (sym also)
-    (runs_more setup old mid new events replies event reply runs
-    (subst (λ s. StepsTo s mid new event reply) same steps)))
 
 -- ---- power cuts
 

@@ -5,24 +5,25 @@ use Rattle.std.specs.Prelude.{IsSomeAnd, unwrap_or}
 use Rattle.std.proofs.lemmas.Option.{none-some}
 use Rattle.common.specs.Masks.{is_member}
 use Rattle.version_order.specs.Order.{IsAtLeast}
-use Rattle.reports.specs.declared.table.Table.{Table}
-use Rattle.reports.specs.declared.table.Image.{Image}
-use Rattle.reports.specs.declared.table.Entry.{Entry}
-use Rattle.reports.specs.declared.table.Request.{Request}
-use Rattle.reports.specs.declared.table.Request.TheVariants as request
-use Rattle.reports.specs.Rightness.{taken_in}
-use Rattle.reports.specs.Combination.{entry_in, intact_entry, running_set}
-use Rattle.upload.specs.Device.{DeviceState, Trial, Wanted}
+use Rattle.certificate.specs.declared.table.Table.{Table}
+use Rattle.certificate.specs.declared.table.Image.{Image}
+use Rattle.certificate.specs.declared.table.Entry.{Entry}
+use Rattle.certificate.specs.declared.table.Request.{Request}
+use Rattle.certificate.specs.declared.table.Request.TheVariants as request
+use Rattle.certificate.specs.Rightness.{taken_in}
+use Rattle.certificate.specs.Combination.{entry_in, intact_entry, running_set, IsValid}
+use Rattle.machine.specs.Device.{DeviceState, Trial, Wanted}
 use Rattle.machine.specs.States.{IsBegun, IsConfirmed, left_after, reverted, running_after}
 use Rattle.machine.specs.States.{settled, with_taken, tried_again, wanted_bytes, with_confirmed}
 use Rattle.machine.specs.Boots.{Boots, IsAllSound, IsBootCut, IsDecision, IsEntryOf, IsOver, IsReadAs}
-use Rattle.machine.specs.Boots.{IsReadSound, IsRequestOf, IsSound, IsTaken}
+use Rattle.machine.specs.Boots.{IsReadSound, IsRequestOf, IsSound, IsTaken, is_answer}
 use Rattle.machine.specs.declared.error.Fault.TheVariants as no
 use Rattle.machine.specs.declared.reply.Reply.{Reply}
 use Rattle.machine.specs.declared.reply.Reply.TheVariants.{Booted, Reverted, TrialAgain, Refused}
 use Rattle.machine.proofs.Answered.{IsPlain, read_same}
-use Rattle.machine.proofs.Beginning.{some_of}
+use Rattle.machine.proofs.Tables.{some_of, running_bytes}
 use Rattle.machine.proofs.Sound.{sound_to, the_one}
+use Rattle.machine.proofs.Unique.{one_table}
 
 -- ---- the same images run, and fewer are requested
 
@@ -214,3 +215,19 @@ confirmed_sound s trial i is all = record {
       subst (λ u. IsSound (reverted (with_confirmed s trial i) u)) (one_trial (record trial { confirmed = λ j. if j == i then true else trial.confirmed j }) other tried)
       (all.before trial is);
 }
+
+-- ---- a boot from a sound state isn't refused
+
+pub boots_answer : (boots : ℕ) (s : DeviceState) (reply : Reply) (next : DeviceState) → IsReadSound s
+    → Boots boots s reply next → is_answer reply ≡ true
+boots_answer boots s (Booted table report permanent) next sound booted = refl
+boots_answer boots s (Reverted mask) next sound booted = refl
+boots_answer boots s (TrialAgain set left) next sound booted = refl
+boots_answer boots s (Refused (no.RunningDamaged i)) next sound (reads, rest, damaged) =
+    let whole = sound.each next reads in
+    let bytes = running_bytes next whole.0 i whole.1 damaged.there in
+    absurd (none-some bytes.0 (sym damaged.damaged ∙ bytes.1))
+boots_answer boots s (Refused no.InvalidSet) next sound (reads, rest, (table, rows, invalid)) =
+    let whole = sound.each next reads in
+    absurd (invalid (subst (λ t. IsValid t running_set) (one_table next whole.0 table whole.1 rows) whole.2))
+boots_answer boots s other next sound never = absurd never

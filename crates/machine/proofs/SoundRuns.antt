@@ -2,19 +2,19 @@
 use Rattle.std.proofs.Common.{◌≡◌, ◌⊎◌, ℕ, ◌==◌, Bool, true, false, List, [], ◌∷◌, Option, Some, None, Result, Ok, Err}
 use Rattle.std.specs.Prelude.{is_some}
 use Rattle.std.proofs.Common.{refl, sym, ◌∙◌, ap, subst, ⊎_elim, inl, inr, if◌then◌else◌}
-use Rattle.common.specs.declared.event.Event.TheVariants as event
+use Rattle.machine.specs.declared.event.Event.TheVariants as event
 use Rattle.flash_model.specs.declared.error.FlashError.TheVariants as flash
 use Rattle.sector_map.specs.declared.layout.SectorMap.{SectorMap}
 use Rattle.manifest.specs.declared.manifest.Component.{Component}
-use Rattle.reports.specs.declared.table.Request.{Request}
-use Rattle.reports.specs.declared.table.Request.TheVariants as request
-use Rattle.upload.specs.declared.error.UploadError.{UploadError}
-use Rattle.upload.specs.declared.error.UploadError.TheVariants as upload
-use Rattle.upload.specs.Device.{DeviceState, Machine, Session, Wanted, closed}
-use Rattle.upload.specs.Accepted.{Accepts, IsAcceptCut, accepted, latest}
-use Rattle.upload.specs.Piece.{Pieces}
-use Rattle.upload.specs.Finish.{Finishes, FinishRow, IsGoodUpload, asked}
-use Rattle.upload.specs.Withdrawal.{Withdraws, with_request}
+use Rattle.certificate.specs.declared.table.Request.{Request}
+use Rattle.certificate.specs.declared.table.Request.TheVariants as request
+use Rattle.machine.specs.declared.upload_error.UploadError.{UploadError}
+use Rattle.machine.specs.declared.upload_error.UploadError.TheVariants as upload
+use Rattle.machine.specs.Device.{DeviceState, Machine, Session, Wanted, closed}
+use Rattle.machine.specs.Accepted.{Accepts, IsAcceptCut, accepted, latest}
+use Rattle.machine.specs.Piece.{Pieces}
+use Rattle.machine.specs.Finish.{Finishes, FinishRow, IsGoodUpload, asked}
+use Rattle.machine.specs.Withdrawal.{Withdraws, with_request}
 use Rattle.machine.specs.States.{asleep, entry_of, with_confirmed}
 use Rattle.machine.specs.Boots.{Confirms, IsAllSound, IsRequestOf}
 use Rattle.machine.specs.Intake.{IsUploadsCut, Row, Setup, TakesManifest, TakesText, Uploads}

@@ -4,26 +4,17 @@ use Rattle.std.proofs.Common.{ap, subst, arith, slice_get, slice_index, suc}
 use Rattle.image_reading.specs.declared.desc.Desc.{Desc}
 use Rattle.image_reading.specs.Image.{IsIntact}
 use Rattle.image_reading.proofs.Descriptions.{intact-unique}
-use Rattle.upload.proofs.Images.{same_front}
 use Rattle.machine.specs.States.{entry_of}
-use Rattle.upload.specs.Device.{DeviceState, Wanted}
-use Rattle.common.specs.Bytes.{Starts}
-use Rattle.reports.specs.declared.table.Table.{Table}
-use Rattle.reports.specs.declared.table.Image.{Image}
-use Rattle.reports.specs.declared.table.Entry.{Entry}
-use Rattle.reports.specs.declared.table.Request.{Request}
-use Rattle.reports.specs.Combination.{IsGreatest}
-use Rattle.reports.specs.declared.report.Report.{Report}
-use Rattle.reports.specs.Rightness.{taken_in}
+use Rattle.machine.specs.Device.{DeviceState, Wanted}
+use Rattle.certificate.specs.declared.table.Table.{Table}
+use Rattle.certificate.specs.declared.table.Image.{Image}
+use Rattle.certificate.specs.declared.table.Entry.{Entry}
+use Rattle.certificate.specs.declared.table.Request.{Request}
+use Rattle.certificate.specs.Combination.{IsGreatest}
+use Rattle.certificate.specs.declared.report.Report.{Report}
+use Rattle.certificate.specs.Rightness.{taken_in}
 use Rattle.machine.specs.Boots.{IsEntryOf, IsReported, IsRequestOf, IsRowOf, IsTableOf}
 use Rattle.reports.specs.declared.table.Request.TheVariants as request
-
--- At most one prefix is an intact image, and it has one description.
-pub one_front : (whole first second : List ℕ) (a b : Desc) → Starts whole first → Starts whole second
-    → IsIntact first a → IsIntact second b → (first ≡ second) × (a ≡ b)
-one_front whole first second a b one two x y =
-    let same = same_front whole first second a b one two x y in
-    (same, intact-unique first a b x (subst (λ l. IsIntact l b) (sym same) y))
 
 pub one_description : (bytes : List ℕ) (a b : Desc) → IsIntact bytes a → IsIntact bytes b → a ≡ b
 one_description bytes a b first second = intact-unique bytes a b first second

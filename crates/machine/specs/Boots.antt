@@ -1,20 +1,20 @@
 -- The steps of a machine that boots, and of one that confirms an image.
 use Rattle.std.specs.Prelude.{◌≡◌, ◌⊎◌, ℕ, ◌+◌, ◌<◌, Bool, true, false, List, length, Option, Some, None, slice_get}
 use Rattle.std.specs.Prelude.{slice_index}
-use Rattle.common.specs.Masks.{is_member}
-use Rattle.trailer.specs.declared.kinds.Kind.TheVariants.{Permanent}
-use Rattle.reports.specs.declared.table.Table.{Table}
-use Rattle.reports.specs.declared.table.Image.{Image}
-use Rattle.reports.specs.declared.table.Entry.{Entry}
-use Rattle.reports.specs.declared.table.Request.{Request}
-use Rattle.reports.specs.declared.table.Request.TheVariants as request
-use Rattle.reports.specs.declared.report.Report.{Report}
-use Rattle.reports.specs.Combination.{IsValid, IsGreatest, running_set}
-use Rattle.reports.specs.Rightness.{IsRight, taken_in}
-use Rattle.reports.specs.StandardOrder.{IsInStandardOrder}
+use Rattle.sector_map.specs.Part.{is_member}
+use Rattle.common.specs.declared.kind.Kind.TheVariants.{Permanent}
+use Rattle.certificate.specs.declared.table.Table.{Table}
+use Rattle.certificate.specs.declared.table.Image.{Image}
+use Rattle.certificate.specs.declared.table.Entry.{Entry}
+use Rattle.certificate.specs.declared.table.Request.{Request}
+use Rattle.certificate.specs.declared.table.Request.TheVariants as request
+use Rattle.certificate.specs.declared.report.Report.{Report}
+use Rattle.certificate.specs.Combination.{IsValid, IsGreatest, running_set}
+use Rattle.certificate.specs.Rightness.{IsRight, taken_in}
+use Rattle.certificate.specs.StandardOrder.{IsInStandardOrder}
 use Rattle.image_reading.specs.declared.desc.Desc.{Desc}
 use Rattle.image_reading.specs.Image.{IsIntact}
-use Rattle.upload.specs.Device.{DeviceState, Machine, Trial, Wanted}
+use Rattle.machine.specs.Device.{DeviceState, Machine, Trial, Wanted}
 use Rattle.machine.specs.States.{entry_of, IsConfirmed, IsRaised, IsBegun, running_after, settled, with_taken}
 use Rattle.machine.specs.States.{reverted, tried_again, with_confirmed}
 use Rattle.machine.specs.declared.error.Fault.TheVariants as no

@@ -1,15 +1,14 @@
 -- The steps of a machine that takes a manifest, a piece, the end of an upload, or a withdrawal.
-use Rattle.std.specs.Prelude.{◌≡◌, ℕ, true, false, List, Some, None, Result, Ok, Err}
+use Rattle.std.specs.Prelude.{◌≡◌, ℕ, true, false, List, Some, None, Result, Ok, Err, Bool}
 use Rattle.sector_map.specs.declared.layout.SectorMap.{SectorMap}
 use Rattle.flash_model.specs.declared.error.FlashError.TheVariants as flash
 use Rattle.manifest.specs.declared.identity.Identity.{Identity}
 use Rattle.manifest.specs.declared.manifest.Manifest.{Manifest}
 use Rattle.manifest.specs.Fault.{IsManifest, IsRefusal}
-use Rattle.upload.specs.declared.error.UploadError.{UploadError}
-use Rattle.upload.specs.declared.error.UploadError.TheVariants as upload
-use Rattle.upload.specs.Device.{Machine, Trial}
-use Rattle.upload.specs.Ending.{is_flash}
-use Rattle.upload.specs.Accepted.{Accepts}
+use Rattle.machine.specs.declared.upload_error.UploadError.{UploadError}
+use Rattle.machine.specs.declared.upload_error.UploadError.TheVariants as upload
+use Rattle.machine.specs.Device.{Machine, Trial}
+use Rattle.machine.specs.Accepted.{Accepts}
 use Rattle.machine.specs.States.{asleep}
 use Rattle.machine.specs.declared.error.Fault.TheVariants as no
 use Rattle.machine.specs.declared.reply.Reply.{Reply}
@@ -25,6 +24,11 @@ pub record Setup : Type 0 where
 pub record IsReady (m : Machine) : Type 0 where
   pub up : m.is_booted ≡ true
   pub rest : m.kept.trial ≡ None
+
+-- Whether the flash stopped a call, by a power cut or because it was off.
+abbrev pub is_flash : {T : Type 0} → Result T UploadError → Bool
+is_flash (Err (upload.Flash error)) = true
+is_flash other = false
 
 -- The step of an upload call, by its result.
 abbrev pub Row : Type 1

@@ -5,7 +5,7 @@ use Rattle.reports.specs.declared.table.Entry.{Entry}
 use Rattle.common.specs.Masks.{is_member}
 use Rattle.image_reading.specs.declared.desc.Desc.{Desc}
 use Rattle.image_reading.specs.Image.{IsIntact}
-use Rattle.upload.specs.Device.{DeviceState, Machine, Trial, Wanted}
+use Rattle.machine.specs.Device.{DeviceState, Machine, Trial, Wanted}
 
 -- What a decision knows of an image, by its description.
 abbrev pub entry_of : Desc → Entry

@@ -1,12 +1,12 @@
 -- The steps of the machine: complete ones, interrupted ones, and runs of them.
 use Rattle.std.specs.Prelude.{◌≡◌, ◌⊎◌, ℕ, ◌+◌, true, List, [], ◌∷◌, None}
 use Rattle.std.specs.Borrow.{Bor}
-use Rattle.common.specs.declared.event.Event.{Event}
-use Rattle.common.specs.declared.event.Event.TheVariants as event
-use Rattle.upload.specs.Device.{Machine, Trial}
-use Rattle.upload.specs.Piece.{Pieces}
-use Rattle.upload.specs.Finish.{FinishRow}
-use Rattle.upload.specs.Withdrawal.{Withdraws}
+use Rattle.machine.specs.declared.event.Event.{Event}
+use Rattle.machine.specs.declared.event.Event.TheVariants as event
+use Rattle.machine.specs.Device.{Machine, Trial}
+use Rattle.machine.specs.Piece.{Pieces}
+use Rattle.machine.specs.Finish.{FinishRow}
+use Rattle.machine.specs.Withdrawal.{Withdraws}
 use Rattle.machine.specs.States.{asleep, with_confirmed}
 use Rattle.machine.specs.Boots.{Boots, IsBootCut, is_answer, Confirms, IsOnTrial}
 use Rattle.machine.specs.Intake.{Setup, Uploads, IsUploadsCut, TakesManifest, TakesText}

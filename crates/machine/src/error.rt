@@ -4,10 +4,10 @@ ghost use Rattle.std.specs.Prelude.{◌≡◌};
 ghost use Rattle.machine.specs.Codes.{code_of, name_of};
 ghost use Rattle.machine.specs.declared.error.Fault.{Fault};
 
+use crate::upload_error::UploadError;
 use flash_model::FlashError;
 use manifest::ManifestError;
 use thiserror::Error;
-use upload::UploadError;
 
 /// Why a device refuses a call. The numbers are 1 to 10, in this order. If several reasons apply,
 /// the lowest is returned.

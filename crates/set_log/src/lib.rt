@@ -5,8 +5,8 @@
 //!   exactly.
 //! - Main calls: `read_state`, `append`, `start`
 //! - Allocates: no.
-//! - Callers: `upload`, `boot_core`, `inputs`, `inspecting`, `c_interface`; `machine` cites its
-//!   definitions.
+//! - Callers: `upload`, `boot_core`, `inputs`, `inspecting`, `c_interface`; `flash_contents` cites
+//!   its definitions.
 //!
 //! Programs change the log only through the calls of a device.
 #![tactic(auto)]

@@ -3,7 +3,7 @@ use Rattle.std.proofs.Common.{◌≡◌, ℕ, ◌+◌, ◌<◌, List, [], ◌∷
 use Rattle.std.proofs.lemmas.List.{take_more}
 use Rattle.std.specs.Prelude.{if◌then◌else◌, ◌==◌, option_map}
 use Rattle.serde_json.specs.Data.{Data, Members, no_members, string}
-use Rattle.common.specs.declared.event.Event.{Event}
+use Rattle.machine.specs.declared.event.Event.{Event}
 use Rattle.version_order.specs.declared.version.Version.{Version}
 use Rattle.device_texts.proofs.JsonLaws.{AreAllWhole, AreWhole, IsWhole, append-whole, map-whole, member-whole, none-whole, nothing-whole, value-whole, with_some-whole}
 use Rattle.device_texts.proofs.JsonWholeLaws.{number-whole, text-whole, versioned-whole}

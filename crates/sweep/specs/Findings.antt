@@ -1,8 +1,8 @@
 -- What the findings of a sweep say, in words: events, writes, marks and ways to tear a write.
 use Rattle.std.specs.Prelude.{ℕ, ◌+◌, ◌-◌, ◌==◌, ◌&&◌, Bool, List, [], ◌∷◌, ◌++◌, None, Option, Some, codes, if◌then◌else◌, get_or, length, nat_le}
 use Rattle.std.specs.List.{flat_map, slice_range}
-use Rattle.common.specs.declared.event.Event.{Event}
-use Rattle.common.specs.declared.event.Event.TheVariants as event
+use Rattle.machine.specs.declared.event.Event.{Event}
+use Rattle.machine.specs.declared.event.Event.TheVariants as event
 use Rattle.sweep.specs.declared.cuts.Tear.{Tear}
 use Rattle.sweep.specs.declared.cuts.Tear.TheVariants as tear
 use Rattle.sweep.specs.declared.found.Found.{Found}

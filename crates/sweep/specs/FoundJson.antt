@@ -2,7 +2,7 @@
 use Rattle.std.specs.Prelude.{ℕ, ◌+◌, ◌==◌, true, List, [], ◌∷◌, map, None, Option, Some, codes, if◌then◌else◌, option_map}
 use Rattle.serde_json.specs.Data.{Data, Members, array, boolean, no_members, object, string}
 use Rattle.serde_json.specs.View.{items_of}
-use Rattle.common.specs.declared.event.Event.{Event}
+use Rattle.machine.specs.declared.event.Event.{Event}
 use Rattle.version_order.specs.declared.version.Version.{Version}
 use Rattle.device_texts.specs.Json.{number_json, versioned_json, with_image, with_member, with_some}
 use Rattle.sweep.specs.Findings.{image_of, kind_text, marks_of, marks_text, numbered, tear_text, writes_before}

@@ -2,7 +2,7 @@
 use Rattle.std.specs.Prelude.{ℕ, ◌+◌, ◌==◌, List, [], ◌∷◌, ◌++◌, None, Option, Some, codes, decimal, if◌then◌else◌, option_map}
 use Rattle.std.specs.List.{flat_map}
 use Rattle.common.specs.Lines.{◌␣◌}
-use Rattle.common.specs.declared.event.Event.{Event}
+use Rattle.machine.specs.declared.event.Event.{Event}
 use Rattle.version_order.specs.VersionText.{version_text}
 use Rattle.version_order.specs.declared.version.Version.{Version}
 use Rattle.sweep.specs.Findings.{image_of, kind_text, marks_of, marks_text, numbered, tear_text, writes_before}

@@ -1,9 +1,9 @@
 -- A run of a scenario, and its end.
 use Rattle.std.specs.Prelude.{◌≡◌, ℕ, ◌<◌, false, List, [], ◌∷◌, ◌++◌, length, map, replicate, Option, None, Some, option_map, Vec}
 use Rattle.std.specs.List.{AllZip, range_with_len}
-use Rattle.common.specs.declared.event.Event.{Event}
-use Rattle.common.specs.declared.event.Event.TheVariants as event
-use Rattle.common.specs.Event.{event_map}
+use Rattle.machine.specs.declared.event.Event.{Event}
+use Rattle.machine.specs.declared.event.Event.TheVariants as event
+use Rattle.machine.specs.Event.{event_map}
 use Rattle.flash_model.specs.declared.torn.Armed.{Armed}
 use Rattle.flash_model.specs.Chip.{Chip}
 use Rattle.flash_model.specs.Memory.{with_armed}
@@ -14,10 +14,10 @@ use Rattle.reports.specs.declared.table.Entry.{Entry}
 use Rattle.image_reading.specs.Slot.{slot_bytes}
 use Rattle.upload.specs.Sessions.{AllClosed}
 use Rattle.upload.specs.Steady.{IsFront}
-use Rattle.machine.specs.Holding.{DeviceView}
+use Rattle.flash_contents.specs.Holding.{DeviceView}
 use Rattle.machine.specs.Intake.{Setup}
-use Rattle.machine.specs.Passing.{RunsTo, StepsTo}
-use Rattle.machine.specs.Reading.{IsReadOf}
+use Rattle.flash_contents.specs.Passing.{RunsTo, StepsTo}
+use Rattle.flash_contents.specs.Reading.{IsReadOf}
 use Rattle.machine.specs.Steps.{DeviceEvent}
 use Rattle.machine.specs.declared.reply.Reply.{Reply}
 use Rattle.device_texts.specs.DeviceFile.{setup_of}

@@ -8,8 +8,8 @@ use crate::marks::Mark;
 use crate::notes::{BootOutcome, ScenarioEnd};
 use crate::tally::Tally;
 use arrayvec::ArrayVec;
-use common::event::Event;
 use common::limits::MOST_IMAGES;
+use machine::Event;
 use std::alloc::{AllocError, Global};
 use version_order::Version;
 

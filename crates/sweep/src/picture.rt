@@ -4,7 +4,7 @@ use crate::found::{EventWrites, Found};
 use crate::marks::Mark;
 use crate::notes::BootOutcome;
 use crate::text::NumberedEvent;
-use common::event::Event;
+use machine::Event;
 use std::alloc::{AllocError, Global};
 
 /// The left edge of the squares, in pixels.

@@ -6,7 +6,7 @@ use crate::marks::Mark;
 use crate::tally::Tally;
 use crate::text::found_text;
 use arrayvec::ArrayVec;
-use common::event::Event;
+use machine::Event;
 use std::alloc::{AllocError, Global};
 use std::str;
 use version_order::Version;

@@ -3,8 +3,8 @@
 ghost use Rattle.device_texts.specs.DeviceFile.{IsOfFile};
 ghost use Rattle.device_texts.specs.FlashOf.{IsFlashOf};
 
-use common::event::Event;
 use device_texts::DeviceFile;
+use machine::Event;
 
 /// A device and the events that it takes.
 #[derive(Clone, Copy)]

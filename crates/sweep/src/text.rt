@@ -9,7 +9,7 @@ ghost use Rattle.sweep.specs.Findings.{marks_text, numbered};
 use crate::found::{EventWrites, Found, SetTally, image_of, kind_of};
 use crate::marks::Mark;
 use crate::tally::Tally;
-use common::event::Event;
+use machine::Event;
 use std::alloc::{AllocError, Global};
 use std::fmt;
 use version_order::Version;

@@ -4,10 +4,11 @@ use Rattle.flash_model.specs.Chip.{Chip}
 use Rattle.sector_map.specs.declared.layout.SectorMap.{SectorMap}
 use Rattle.sector_map.specs.declared.layout.Side.TheVariants.{Secondary}
 use Rattle.trailer.specs.declared.kinds.Trailer.{Trailer}
-use Rattle.trailer.specs.declared.kinds.Kind.{Kind}
-use Rattle.trailer.specs.declared.kinds.Kind.TheVariants.{Test, Permanent}
+use Rattle.common.specs.declared.kind.Kind.{Kind}
+use Rattle.common.specs.declared.kind.Kind.TheVariants.{Test, Permanent}
 use Rattle.trailer.specs.Fields.{fields_at, trailer_of}
-use Rattle.trailer.specs.Standing.{is_good, kind_of, first_is_set, standing_kind, standing_of, incoming_slot, requested_fields}
+use Rattle.trailer.specs.Standing.{is_good, first_is_set, standing_kind, standing_of, incoming_slot, requested_fields}
+use Rattle.common.specs.Kind.{kind_of}
 
 -- No request is pending if the magic isn't good.
 pub none_without_magic : (trailer : Trailer) (front : Bool) → is_good trailer.magic ≡ false

@@ -12,7 +12,7 @@ use Rattle.sector_map.proofs.PartBytes.{length_part, part_kept_at}
 use Rattle.sector_map.proofs.Parts.{keeps_trans, keeps_wider, laid_out_kept}
 use Rattle.sector_map.proofs.Touched.{slot_of_incoming, trailer_of_incoming}
 use Rattle.trailer.specs.declared.kinds.Magic.TheVariants.{Unset}
-use Rattle.trailer.specs.declared.kinds.Kind.{Kind}
+use Rattle.common.specs.declared.kind.Kind.{Kind}
 use Rattle.flash_model.specs.Units.{are_erased}
 use Rattle.trailer.specs.Fields.{Fields, fields_at, trailer_of, trailer_bytes}
 use Rattle.trailer.specs.Standing.{KeepsBehindFirst, is_good, first_is_set, first_sector, standing_kind, standing_of, incoming_slot}

@@ -1,6 +1,5 @@
 -- What a call that requests or confirms an image does.
-use Rattle.std.specs.Prelude.{◌≡◌, ◌⊎◌, ℕ, ◌+◌, ◌≤◌, true, false, None, Some}
-use Rattle.std.specs.Prelude.{Result, IsErrOf, OnOk}
+use Rattle.std.specs.Prelude.{◌≡◌, ◌⊎◌, ℕ, ◌+◌, ◌≤◌, true, false, None, Some, Result, IsErrOf, OnOk}
 use Rattle.flash_model.specs.declared.error.FlashError.{FlashError}
 use Rattle.flash_model.specs.declared.error.FlashError.TheVariants.{Off}
 use Rattle.flash_model.specs.Chip.{Chip, Ends, SameOutside}
@@ -9,8 +8,8 @@ use Rattle.sector_map.specs.declared.layout.Side.TheVariants.{Primary, Secondary
 use Rattle.sector_map.specs.Map.{Keeps}
 use Rattle.sector_map.specs.Part.{TrailerOf, only}
 use Rattle.trailer.specs.Places.{image_ok_place}
-use Rattle.trailer.specs.declared.kinds.Kind.{Kind}
-use Rattle.trailer.specs.declared.kinds.Kind.TheVariants.{Permanent}
+use Rattle.common.specs.declared.kind.Kind.{Kind}
+use Rattle.common.specs.declared.kind.Kind.TheVariants.{Permanent}
 use Rattle.trailer.specs.Fields.{bytes_at, erased_fields, fields_at, flag, place_of}
 use Rattle.trailer.specs.Standing.{is_good, is_permanent, requested_fields, standing_of}
 

@@ -10,9 +10,10 @@ use Rattle.sector_map.specs.Map.{part_of}
 use Rattle.trailer.specs.declared.kinds.Magic.{Magic}
 use Rattle.trailer.specs.declared.kinds.Magic.TheVariants.{Good, Unset, Bad}
 use Rattle.trailer.specs.declared.kinds.Trailer.{Trailer}
-use Rattle.trailer.specs.declared.kinds.Kind.{Kind}
-use Rattle.trailer.specs.declared.kinds.Kind.TheVariants.{Test, Permanent}
+use Rattle.common.specs.declared.kind.Kind.{Kind}
+use Rattle.common.specs.declared.kind.Kind.TheVariants.{Test, Permanent}
 use Rattle.trailer.specs.Fields.{Fields, is_set, fields_at, trailer_of, erased_fields}
+use Rattle.common.specs.Kind.{kind_of}
 
 abbrev pub is_good : Magic → Bool
 is_good Good = true
@@ -22,10 +23,6 @@ is_good Bad = false
 abbrev pub is_permanent : Kind → Bool
 is_permanent Test = false
 is_permanent Permanent = true
-
--- The kind of a request: permanent if `image_ok` is set.
-abbrev pub kind_of : Bool → Kind
-kind_of image_ok = if image_ok then Permanent else Test
 
 -- Whether the first unit of a slot's bytes is set.
 abbrev pub first_is_set : List ℕ → Bool

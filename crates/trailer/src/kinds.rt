@@ -1,4 +1,4 @@
-//! The values of a trailer's fields, the kinds of requests, and the swap types.
+//! The values of a trailer's fields, and the swap types.
 
 /// What the magic of a trailer says (`BOOT_MAGIC_GOOD`, `BOOT_MAGIC_UNSET` and `BOOT_MAGIC_BAD` of
 /// MCUboot).
@@ -23,15 +23,6 @@ pub struct Trailer {
     pub image_ok: bool,
     /// Whether the withdrawn unit, which is bootswap's own, is set: the request was withdrawn.
     pub withdrawn: bool,
-}
-
-/// The kind of a request for an image.
-#[derive(Clone, Copy, Debug, PartialEq, Eq)]
-pub enum Kind {
-    /// The image is tried. The device reverts to the old image unless the new one is confirmed.
-    Test,
-    /// The image stays, also without a confirmation.
-    Permanent,
 }
 
 /// The swap type: what the two trailers of an image ask of a boot (`BOOT_SWAP_TYPE_*` of MCUboot).

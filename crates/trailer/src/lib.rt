@@ -7,7 +7,7 @@
 //!   `set_ok`, `settle`
 //! - Allocates: no.
 //! - Callers: `swap_scratch`, `upload`, `decision`, `boot_core`, `sweep`, `inspecting`,
-//!   `c_interface`; `machine` cites its definitions.
+//!   `c_interface`; `flash_contents` cites its definitions.
 //!
 //! A trailer fills the sector after its slot. The fields except *withdrawn* are MCUboot's (its
 //! design document, "Image Trailer"). Their places and the bytes of a flag are bootswap's own
@@ -35,8 +35,9 @@ mod withdrawing;
 
 pub use blank::is_blank;
 pub use clearing::clear;
+pub use common::kind::Kind;
 pub use format::MAGIC;
-pub use kinds::{Kind, Magic, Settling, SwapType, Trailer};
+pub use kinds::{Magic, Settling, SwapType, Trailer};
 pub use requesting::{request, set_ok};
 pub use settling::settle;
 pub use sizes::{read_size, write_size};

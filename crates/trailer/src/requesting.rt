@@ -7,8 +7,8 @@ ghost use Rattle.trailer.specs.Fields.{erased_fields, fields_at};
 ghost use Rattle.trailer.specs.Requests.{Confirms, MarksKind, Requests};
 
 use crate::format::{IMAGE_OK, MAGIC, MAGIC_PLACE};
-use crate::kinds::Kind;
 use crate::units::{is_unit_set, write_units};
+use common::kind::Kind;
 use flash_model::{FLAG, Flash, Result};
 use sector_map::{SectorMap, Side};
 

@@ -6,8 +6,9 @@ ghost use Rattle.sector_map.specs.Part.{Slot};
 ghost use Rattle.trailer.specs.Standing.{first_is_set, standing_kind, standing_of};
 ghost use Rattle.trailer.specs.Reads.{Tells};
 
-use crate::kinds::{Kind, Magic, Trailer};
+use crate::kinds::{Magic, Trailer};
 use crate::trailer_reading::read_trailer;
+use common::kind::Kind;
 use flash_model::{Flash, Result, is_unit_erased};
 use sector_map::{SectorMap, Side};
 

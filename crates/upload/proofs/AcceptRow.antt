@@ -8,12 +8,13 @@ use Rattle.set_log.specs.declared.state.State.{State}
 use Rattle.set_log.specs.declared.state.RecordKind.TheVariants.{Steady}
 use Rattle.manifest.specs.declared.manifest.Component.{Component}
 use Rattle.upload.specs.View.{View, KeepsView}
-use Rattle.upload.specs.Device.{DeviceState, Machine, Session, Wanted}
+use Rattle.machine.specs.Device.{DeviceState, Machine, Session, Wanted}
 use Rattle.upload.specs.Steady.{IsFront, IsRequested, IsImageAt, IsSteadyAt, logged}
 use Rattle.upload.specs.Sessions.{AllOpenAt, upload_at, session_of, HasSession, IsUpAt}
 use Rattle.upload.specs.Withdrawal.{IsKeptOrGone}
 use Rattle.upload.specs.Taking.{LeavesAccept}
-use Rattle.upload.specs.Accepted.{latest, OpenedAt, IsOpening, IsOpened, opened, accepted, IsAcceptCut}
+use Rattle.machine.specs.Accepted.{latest, opened, accepted, IsAcceptCut}
+use Rattle.upload.specs.Accepted.{OpenedAt, IsOpening, IsOpened}
 use Rattle.upload.specs.declared.sessions.Upload.{Upload}
 use Rattle.upload.proofs.Frames.{erased_stands, session_kept, unasked}
 use Rattle.upload.proofs.Added.{session_eq}

@@ -2,11 +2,12 @@
 use Rattle.std.proofs.Common.{◌≡◌, ℕ, ◌+◌, ◌*◌, ◌<◌, ◌≤◌, ◌++◌, List, length, refl, sym, ◌∙◌, ap, arith, append_assoc, length-append}
 use Rattle.sector_map.specs.declared.layout.Side.TheVariants.{Secondary}
 use Rattle.sector_map.specs.Part.{Slot, only}
-use Rattle.trailer.specs.declared.kinds.Kind.{Kind}
+use Rattle.common.specs.declared.kind.Kind.{Kind}
 use Rattle.upload.specs.View.{View, KeepsView}
-use Rattle.upload.specs.Device.{Session}
+use Rattle.machine.specs.Device.{Session}
 use Rattle.upload.specs.Sessions.{IsWritten, session_of}
-use Rattle.upload.specs.Piece.{TakesMore, appended}
+use Rattle.upload.specs.Piece.{TakesMore}
+use Rattle.machine.specs.Piece.{appended}
 use Rattle.upload.specs.declared.sessions.Upload.{Upload}
 
 abbrev session_made : ℕ → List ℕ → Kind → List ℕ → Session

@@ -6,10 +6,11 @@ use Rattle.flash_model.specs.Chip.{Chip, Ends, IsUncut}
 use Rattle.flash_model.proofs.Ending.{ends_well as ended, uncut_trans}
 use Rattle.flash_model.specs.declared.error.FlashError.{FlashError}
 use Rattle.flash_model.specs.declared.error.FlashError.TheVariants.{Cut, Off}
-use Rattle.upload.specs.declared.error.UploadError.{UploadError}
-use Rattle.upload.specs.declared.error.UploadError.TheVariants as no
+use Rattle.machine.specs.declared.upload_error.UploadError.{UploadError}
+use Rattle.machine.specs.declared.upload_error.UploadError.TheVariants as no
 use Rattle.trailer.specs.Reads.{Decides}
-use Rattle.upload.specs.Ending.{EndsUpload, is_flash}
+use Rattle.upload.specs.Ending.{EndsUpload}
+use Rattle.machine.specs.Intake.{is_flash}
 
 same_error : {T U : Type 0} (a b : FlashError) → IsErrOf {T = U} (Err (no.Flash a)) (no.Flash b)
     → IsErrOf {T = T} (Err a) b

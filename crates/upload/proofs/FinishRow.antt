@@ -5,22 +5,25 @@ use Rattle.std.proofs.lemmas.Option.{none-some}
 use Rattle.flash_model.specs.declared.error.FlashError.TheVariants as flash
 use Rattle.sector_map.specs.declared.layout.Side.TheVariants.{Secondary}
 use Rattle.sector_map.specs.Part.{incoming_of}
-use Rattle.trailer.specs.declared.kinds.Kind.{Kind}
-use Rattle.trailer.specs.declared.kinds.Kind.TheVariants.{Test, Permanent}
+use Rattle.common.specs.declared.kind.Kind.{Kind}
+use Rattle.common.specs.declared.kind.Kind.TheVariants.{Test, Permanent}
 use Rattle.trailer.specs.Fields.{erased_fields, trailer_of}
-use Rattle.trailer.specs.Standing.{is_permanent, kind_of, requested_fields, standing_kind}
+use Rattle.trailer.specs.Standing.{is_permanent, requested_fields, standing_kind}
+use Rattle.common.specs.Kind.{kind_of}
 use Rattle.upload.specs.View.{View, KeepsView}
-use Rattle.upload.specs.Device.{Machine, Session, Wanted, closed}
+use Rattle.machine.specs.Device.{Machine, Session, Wanted, closed}
 use Rattle.common.specs.Bytes.{Starts}
-use Rattle.upload.specs.Steady.{IsFront, IsImage, IsRequested, IsSteadyAt, told_by, request_in}
+use Rattle.upload.specs.Steady.{IsFront, IsRequested, IsSteadyAt, told_by, request_in}
+use Rattle.machine.specs.Finish.{IsImage, Finishes, FinishRow, asked}
 use Rattle.upload.specs.Sessions.{upload_at, AllOpenAt, IsWith, IsUploadAt, session_of, HasSessions, IsUpAt}
-use Rattle.upload.specs.Ending.{IsClosedAfter, is_flash}
-use Rattle.upload.specs.Piece.{with_session}
-use Rattle.upload.specs.Withdrawal.{with_request}
-use Rattle.upload.specs.Finish.{EndsFinish, IsFinishedAt, Finishes, FinishRow, asked}
+use Rattle.upload.specs.Ending.{IsClosedAfter}
+use Rattle.machine.specs.Intake.{is_flash}
+use Rattle.machine.specs.Piece.{with_session}
+use Rattle.machine.specs.Withdrawal.{with_request}
+use Rattle.upload.specs.Finish.{EndsFinish, IsFinishedAt}
 use Rattle.upload.specs.declared.sessions.Upload.{Upload}
-use Rattle.upload.specs.declared.error.UploadError.{UploadError}
-use Rattle.upload.specs.declared.error.UploadError.TheVariants as no
+use Rattle.machine.specs.declared.upload_error.UploadError.{UploadError}
+use Rattle.machine.specs.declared.upload_error.UploadError.TheVariants as no
 use Rattle.upload.proofs.Images.{image_is_set}
 use Rattle.upload.proofs.OpenOnes.{open_none, open_nothing, open_to}
 use Rattle.upload.proofs.Frames.{others_kept, steady_to, steady_unasked, erased_stands, sessions_to, closed_up, not_asked}

@@ -6,15 +6,16 @@ use Rattle.flash_model.specs.declared.error.FlashError.TheVariants as flash
 use Rattle.sector_map.specs.declared.layout.Side.TheVariants.{Secondary}
 use Rattle.sector_map.specs.Part.{Slot, TrailerOf, only}
 use Rattle.trailer.specs.Fields.{Fields, erased_fields}
-use Rattle.trailer.specs.Standing.{first_is_set, is_good, kind_of, requested_fields}
+use Rattle.trailer.specs.Standing.{first_is_set, is_good, requested_fields}
+use Rattle.common.specs.Kind.{kind_of}
 use Rattle.upload.specs.View.{View, KeepsView}
-use Rattle.upload.specs.Device.{Session}
+use Rattle.machine.specs.Device.{Session}
 use Rattle.upload.specs.Steady.{told_by}
 use Rattle.upload.specs.Sessions.{IsUploadAt, IsWritten, session_of}
 use Rattle.upload.specs.Finish.{Judges, EndsFinish, IsFinishedAt}
 use Rattle.upload.specs.declared.sessions.Upload.{Upload}
-use Rattle.upload.specs.declared.error.UploadError.{UploadError}
-use Rattle.upload.specs.declared.error.UploadError.TheVariants as no
+use Rattle.machine.specs.declared.upload_error.UploadError.{UploadError}
+use Rattle.machine.specs.declared.upload_error.UploadError.TheVariants as no
 use Rattle.upload.proofs.Frames.{erased_stands}
 
 pub not_good_stands : (t : Fields) (l : List ℕ) → is_good t.magic ≡ false → told_by t l ≡ None

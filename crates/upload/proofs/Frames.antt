@@ -7,7 +7,7 @@ use Rattle.sector_map.specs.declared.layout.Side.TheVariants.{Primary, Secondary
 use Rattle.sector_map.specs.Part.{Slot, only, incoming_of}
 use Rattle.trailer.specs.Fields.{Fields, erased_fields}
 use Rattle.upload.specs.View.{View, KeepsView}
-use Rattle.upload.specs.Device.{DeviceState, Machine, Wanted, Session, closed}
+use Rattle.machine.specs.Device.{DeviceState, Machine, Wanted, Session, closed}
 use Rattle.upload.specs.Steady.{IsFront, IsRequested, IsImageAt, IsSteadyAt, told_by}
 use Rattle.upload.specs.Sessions.{upload_at, IsWith, AllClosed, IsWritten, IsUploadAt, session_of, HasSession, HasSessions, IsUpAt}
 use Rattle.upload.specs.declared.sessions.Upload.{Upload}

@@ -2,7 +2,7 @@
 use Rattle.std.proofs.Common.{◌≡◌, ℕ, List, Option, Some, None, refl, sym, ◌∙◌, subst}
 use Rattle.std.proofs.lemmas.Option.{none-some}
 use Rattle.upload.specs.View.{View}
-use Rattle.upload.specs.Device.{Session}
+use Rattle.machine.specs.Device.{Session}
 use Rattle.upload.specs.Sessions.{upload_at, AllClosed, AllOpenAt, IsOpenAt, IsWith, HasSession, HasSessions, session_of}
 use Rattle.upload.specs.declared.sessions.Upload.{Upload}
 use Rattle.upload.proofs.Frames.{IsOthersKept, sessions_to}

@@ -1,6 +1,6 @@
 -- Opening the uploads of the components, one after the other.
 use Rattle.std.proofs.Common.{◌≡◌, ◌⊎◌, ℕ, zero, suc, ◌+◌, ◌<◌, ◌==◌, ◌&&◌, Bool, true, false, List, [], ◌∷◌, length, take, get_or, Option, Some, None, refl, sym, ◌∙◌, ap, subst, arith, add-one, ⊎_elim, inl, inr, if◌then◌else◌}
-use Rattle.std.specs.Prelude.{All}
+use Rattle.std.specs.Prelude.{All, is_some}
 use Rattle.std.proofs.lemmas.Bool.{eq-eqb, eqb-true, false≢true}
 use Rattle.std.proofs.lemmas.Option.{none-some}
 use Rattle.flash_model.specs.Chip.{Chip}
@@ -16,8 +16,8 @@ use Rattle.upload.specs.Steady.{told_by, request_in}
 use Rattle.upload.specs.Sessions.{upload_at, IsWith, IsWritten}
 use Rattle.upload.specs.Withdrawal.{IsKeptOrGone}
 use Rattle.std.specs.Option.{option_or}
-use Rattle.std.specs.Prelude.{is_some}
-use Rattle.upload.specs.Accepted.{latest, is_named, named_parts, accepted_parts, IsFresh, OpenedAt, IsOpening, IsOpened}
+use Rattle.machine.specs.Accepted.{latest, is_named}
+use Rattle.upload.specs.Accepted.{named_parts, accepted_parts, IsFresh, OpenedAt, IsOpening, IsOpened}
 use Rattle.upload.specs.declared.sessions.Upload.{Upload}
 use Rattle.upload.proofs.Frames.{others_kept}
 

@@ -12,13 +12,14 @@ use Rattle.trailer.specs.Fields.{erased_fields, fields_at}
 use Rattle.sector_map.specs.declared.layout.Side.TheVariants.{Secondary}
 use Rattle.sector_map.specs.Part.{Slot, only}
 use Rattle.upload.specs.View.{View, KeepsView, view}
-use Rattle.upload.specs.Device.{DeviceState, Machine, closed}
+use Rattle.machine.specs.Device.{DeviceState, Machine, closed}
 use Rattle.upload.specs.Steady.{IsSteadyAt}
 use Rattle.upload.specs.Sessions.{upload_at, IsWith, AllClosed, IsOpenAt, IsUploadAt, session_of, HasSession, IsUpAt}
-use Rattle.upload.specs.Piece.{Pieces, TakesMore, appended, with_session}
+use Rattle.machine.specs.Piece.{Pieces, appended, with_session}
+use Rattle.upload.specs.Piece.{TakesMore}
 use Rattle.upload.specs.NoSession.{IsReadyFor, LacksSession, NotOpen, NotReady}
 use Rattle.upload.specs.declared.sessions.Upload.{Upload}
-use Rattle.upload.specs.declared.error.UploadError.TheVariants as no
+use Rattle.machine.specs.declared.upload_error.UploadError.TheVariants as no
 use Rattle.upload.proofs.Views.{view_kept, view_refl}
 use Rattle.upload.proofs.Frames.{others_slot, steady_unasked, erased_stands, sessions_to, closed_up, opened_as, with_with}
 

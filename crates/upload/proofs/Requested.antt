@@ -5,11 +5,12 @@ use Rattle.flash_model.specs.Chip.{Chip}
 use Rattle.sector_map.specs.declared.layout.SectorMap.{SectorMap}
 use Rattle.sector_map.specs.declared.layout.Side.TheVariants.{Secondary}
 use Rattle.sector_map.specs.Map.{IsLaidOut}
-use Rattle.trailer.specs.declared.kinds.Kind.{Kind}
+use Rattle.common.specs.declared.kind.Kind.{Kind}
 use Rattle.trailer.specs.declared.kinds.Trailer.{Trailer}
 use Rattle.flash_model.specs.Units.{are_erased}
 use Rattle.trailer.specs.Fields.{Fields, erased_fields, fields_at, trailer_bytes, trailer_of}
-use Rattle.trailer.specs.Standing.{first_is_set, incoming_slot, is_good, kind_of, standing_kind, standing_of}
+use Rattle.trailer.specs.Standing.{first_is_set, incoming_slot, is_good, standing_kind, standing_of}
+use Rattle.common.specs.Kind.{kind_of}
 use Rattle.trailer.proofs.Erased.{erased_fields_at}
 
 -- No request is pending if the slot begins with an erased unit.

@@ -14,15 +14,17 @@ use Rattle.set_log.specs.declared.state.State.{State}
 use Rattle.set_log.specs.declared.state.RecordKind.TheVariants.{Steady}
 use Rattle.manifest.specs.declared.manifest.Component.{Component}
 use Rattle.upload.specs.View.{View, view}
-use Rattle.upload.specs.Device.{DeviceState, Machine, closed}
+use Rattle.machine.specs.Device.{DeviceState, Machine, closed}
 use Rattle.upload.specs.Steady.{IsFront, IsSteadyAt, logged}
 use Rattle.upload.specs.Sessions.{AllOpenAt, IsUpAt}
-use Rattle.upload.specs.Ending.{IsClosedAfter, is_flash}
-use Rattle.upload.specs.Accepted.{Accepts, AreBlank, AllFit, AreThere, MayAccept, latest, AllFollow, AllFollowAt, FrontHasDigest, IsPrecursor, accepted}
+use Rattle.upload.specs.Ending.{IsClosedAfter}
+use Rattle.machine.specs.Intake.{is_flash}
+use Rattle.machine.specs.Accepted.{Accepts, AllFit, MayAccept, latest, AllFollow, IsPrecursor, accepted}
+use Rattle.upload.specs.Accepted.{AreBlank, AreThere, AllFollowAt, FrontHasDigest}
 use Rattle.upload.specs.Taking.{CutsAccept, EndsAccept, IsNewer, IsTaken, IsUnchanged, LeavesAccept, MayTake, Refuses}
 use Rattle.upload.specs.declared.sessions.Upload.{Upload}
-use Rattle.upload.specs.declared.error.UploadError.{UploadError}
-use Rattle.upload.specs.declared.error.UploadError.TheVariants as no
+use Rattle.machine.specs.declared.upload_error.UploadError.{UploadError}
+use Rattle.machine.specs.declared.upload_error.UploadError.TheVariants as no
 use Rattle.upload.proofs.Frames.{closed_up}
 use Rattle.upload.proofs.OpenOnes.{open_none}
 use Rattle.upload.proofs.AcceptRow.{same_state}

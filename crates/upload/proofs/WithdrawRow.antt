@@ -7,14 +7,15 @@ use Rattle.sector_map.specs.declared.layout.Side.TheVariants.{Secondary}
 use Rattle.sector_map.specs.Part.{incoming_of}
 use Rattle.trailer.specs.Fields.{erased_fields}
 use Rattle.upload.specs.View.{View, KeepsView}
-use Rattle.upload.specs.Device.{DeviceState, Machine, Session, Wanted, closed}
+use Rattle.machine.specs.Device.{DeviceState, Machine, Session, Wanted, closed}
 use Rattle.upload.specs.Steady.{IsRequested, IsSteadyAt, request_in}
 use Rattle.upload.specs.Sessions.{upload_at, AllOpenAt, HasSession, HasSessions, IsUpAt}
 use Rattle.upload.specs.Ending.{IsClosedAfter}
-use Rattle.upload.specs.Withdrawal.{EndsWithdraw, Withdraws, with_request}
+use Rattle.upload.specs.Withdrawal.{EndsWithdraw}
+use Rattle.machine.specs.Withdrawal.{Withdraws, with_request}
 use Rattle.upload.specs.declared.sessions.Upload.{Upload}
-use Rattle.upload.specs.declared.error.UploadError.{UploadError}
-use Rattle.upload.specs.declared.error.UploadError.TheVariants as no
+use Rattle.machine.specs.declared.upload_error.UploadError.{UploadError}
+use Rattle.machine.specs.declared.upload_error.UploadError.TheVariants as no
 use Rattle.upload.proofs.OpenOnes.{open_none, open_of_sessions, sessions_of_open}
 use Rattle.upload.proofs.Frames.{others_kept, steady_to, session_same, closed_up, erased_stands, not_asked, unasked}
 

@@ -22,7 +22,8 @@ use Rattle.upload.specs.View.{view}
 use Rattle.upload.specs.Sessions.{IsWritten}
 use Rattle.std.specs.Option.{option_or}
 use Rattle.std.specs.Prelude.{is_some}
-use Rattle.upload.specs.Accepted.{AreBlank, IsBlank, is_named, latest}
+use Rattle.upload.specs.Accepted.{AreBlank, IsBlank}
+use Rattle.machine.specs.Accepted.{is_named, latest}
 use Rattle.upload.specs.Wear.{ErasesWorn, erases_of_record, journal_of_components, one_unless_erased, sector_in, worn, worn_in, worn_of, worn_slot}
 use Rattle.upload.proofs.AcceptRow.{same_state}
 use Rattle.upload.proofs.Writing.{behind_at, next_sector, sector_place}

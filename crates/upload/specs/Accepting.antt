@@ -1,6 +1,5 @@
 -- Contracts of the calls that accept a manifest: one record for each call.
-use Rattle.std.specs.Prelude.{◌≡◌, ◌⊎◌, ◌+◌, ◌≤◌, ℕ, true, false, List, Option, Some, Result, Err}
-use Rattle.std.specs.Prelude.{IfErr, IsErrOf, OnOk}
+use Rattle.std.specs.Prelude.{◌≡◌, ◌⊎◌, ◌+◌, ◌≤◌, ℕ, true, false, List, Option, Some, Result, Err, IfErr, IsErrOf, OnOk}
 use Rattle.flash_model.specs.declared.error.FlashError.{FlashError}
 use Rattle.flash_model.specs.declared.error.FlashError.TheVariants.{Off}
 use Rattle.flash_model.specs.Chip.{Chip, Ends}
@@ -12,15 +11,17 @@ use Rattle.set_log.specs.Log.{state_of}
 use Rattle.set_log.specs.Record as format
 use Rattle.manifest.specs.declared.manifest.Component.{Component}
 use Rattle.manifest.specs.declared.manifest.Manifest.{Manifest}
-use Rattle.upload.specs.declared.error.UploadError.{UploadError}
-use Rattle.upload.specs.declared.error.UploadError.TheVariants.{Flash}
+use Rattle.machine.specs.declared.upload_error.UploadError.{UploadError}
+use Rattle.machine.specs.declared.upload_error.UploadError.TheVariants.{Flash}
 use Rattle.upload.specs.declared.sessions.Upload.{Upload}
 use Rattle.upload.specs.View.{view}
-use Rattle.upload.specs.Device.{DeviceState, Machine}
+use Rattle.machine.specs.Device.{DeviceState, Machine}
 use Rattle.upload.specs.Steady.{IsSteadyAt}
 use Rattle.upload.specs.Sessions.{AllClosed, AllOpenAt, IsUpAt}
-use Rattle.upload.specs.Ending.{EndsUpload, is_flash}
-use Rattle.upload.specs.Accepted.{Accepts, AreBlank, IsAcceptCut, accepted_parts}
+use Rattle.upload.specs.Ending.{EndsUpload}
+use Rattle.machine.specs.Intake.{is_flash}
+use Rattle.machine.specs.Accepted.{Accepts, IsAcceptCut}
+use Rattle.upload.specs.Accepted.{AreBlank, accepted_parts}
 use Rattle.upload.specs.Wear.{ErasesWorn, erases_of_record, journal_of_components}
 use Rattle.upload.specs.Taking.{EndsAccept, IsTaken, LeavesAccept}
 

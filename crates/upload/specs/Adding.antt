@@ -10,17 +10,19 @@ use Rattle.sector_map.specs.declared.layout.Side.TheVariants.{Secondary}
 use Rattle.sector_map.specs.Part.{Slot, only}
 use Rattle.sector_map.specs.Map.{IsLaidOut, Keeps, start_of}
 use Rattle.trailer.specs.Fields.{erased_fields, fields_at}
-use Rattle.upload.specs.declared.error.UploadError.{UploadError}
-use Rattle.upload.specs.declared.error.UploadError.TheVariants.{Flash, NoSession, TooMuch}
+use Rattle.machine.specs.declared.upload_error.UploadError.{UploadError}
+use Rattle.machine.specs.declared.upload_error.UploadError.TheVariants.{Flash, NoSession, TooMuch}
 use Rattle.upload.specs.declared.sessions.Upload.{Upload}
 use Rattle.upload.specs.View.{view}
-use Rattle.upload.specs.Device.{DeviceState, Machine}
+use Rattle.machine.specs.Device.{DeviceState, Machine}
 use Rattle.upload.specs.Standing.{HasCounts}
 use Rattle.upload.specs.Steady.{IsSteadyAt}
 use Rattle.upload.specs.Sessions.{AllClosed, AllOpenAt, IsOpenAt, IsUpAt, IsWith, upload_at}
-use Rattle.upload.specs.Ending.{EndsUpload, is_flash}
+use Rattle.upload.specs.Ending.{EndsUpload}
+use Rattle.machine.specs.Intake.{is_flash}
 use Rattle.upload.specs.NoSession.{IsReadyFor, LacksSession}
-use Rattle.upload.specs.Piece.{Pieces, TakesMore}
+use Rattle.machine.specs.Piece.{Pieces}
+use Rattle.upload.specs.Piece.{TakesMore}
 
 -- The counts of an upload fit, it takes `n` bytes more, and the units that they complete are erased
 -- in the slot of its image.

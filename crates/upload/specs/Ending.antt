@@ -1,16 +1,12 @@
 -- How an upload call ends.
-use Rattle.std.specs.Prelude.{◌≡◌, Bool, true, false, List, Option, Result, Err, IsErrOf}
+use Rattle.std.specs.Prelude.{◌≡◌, true, false, List, Option, Result, IsErrOf}
 use Rattle.flash_model.specs.Chip.{Chip, IsCut, IsUncut}
 use Rattle.flash_model.specs.declared.error.FlashError.TheVariants.{Cut, Off}
-use Rattle.upload.specs.declared.error.UploadError.{UploadError}
-use Rattle.upload.specs.declared.error.UploadError.TheVariants as no
+use Rattle.machine.specs.declared.upload_error.UploadError.{UploadError}
+use Rattle.machine.specs.declared.upload_error.UploadError.TheVariants as no
 use Rattle.upload.specs.declared.sessions.Upload.{Upload}
 use Rattle.upload.specs.Sessions.{AllClosed}
-
--- Whether the flash stopped a call, by a power cut or because it was off.
-abbrev pub is_flash : {T : Type 0} → Result T UploadError → Bool
-is_flash (Err (no.Flash error)) = true
-is_flash other = false
+use Rattle.machine.specs.Intake.{is_flash}
 
 -- How an upload call ends: power unchanged, or after one power cut, or on a flash that was off.
 pub record EndsUpload {T : Type 0} (result : Result T UploadError) (old new : Chip)

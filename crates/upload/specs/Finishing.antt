@@ -10,15 +10,16 @@ use Rattle.sector_map.specs.declared.layout.Side.TheVariants.{Secondary}
 use Rattle.sector_map.specs.Part.{Slot, incoming_of, only}
 use Rattle.sector_map.specs.Map.{Keeps, start_of}
 use Rattle.trailer.specs.Standing.{incoming_slot}
-use Rattle.upload.specs.declared.error.UploadError.{UploadError}
-use Rattle.upload.specs.declared.error.UploadError.TheVariants.{Flash, NoSession, SizeWrong}
+use Rattle.machine.specs.declared.upload_error.UploadError.{UploadError}
+use Rattle.machine.specs.declared.upload_error.UploadError.TheVariants.{Flash, NoSession, SizeWrong}
 use Rattle.upload.specs.declared.sessions.Upload.{Upload}
 use Rattle.upload.specs.View.{view}
-use Rattle.upload.specs.Device.{Machine}
-use Rattle.upload.specs.Sessions.{AllClosed, AllOpenAt, IsUpAt, IsUploadAt, IsWith, session_of}
-use Rattle.upload.specs.Sessions.{upload_at}
-use Rattle.upload.specs.Ending.{EndsUpload, is_flash}
-use Rattle.upload.specs.Finish.{EndsFinish, FinishRow, Judges}
+use Rattle.machine.specs.Device.{Machine}
+use Rattle.upload.specs.Sessions.{AllClosed, AllOpenAt, IsUpAt, IsUploadAt, IsWith, session_of, upload_at}
+use Rattle.upload.specs.Ending.{EndsUpload}
+use Rattle.machine.specs.Intake.{is_flash}
+use Rattle.upload.specs.Finish.{EndsFinish, Judges}
+use Rattle.machine.specs.Finish.{FinishRow}
 
 -- A call returns the SHA-256 of the first `size` bytes of a secondary slot.
 pub record ReadsDigest (map : SectorMap) (image size : ℕ) (old new : Chip)

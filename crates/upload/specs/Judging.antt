@@ -1,6 +1,5 @@
 -- Contracts of the calls that check a manifest: one record for each call. None of them writes.
-use Rattle.std.specs.Prelude.{◌≡◌, ◌≢◌, ◌↔◌, Bool, true, false, List, None, Some, Result, IfErr, IfOk}
-use Rattle.std.specs.Prelude.{IsErrOf, IsTrue}
+use Rattle.std.specs.Prelude.{◌≡◌, ◌≢◌, ◌↔◌, Bool, true, false, List, None, Some, Result, IfErr, IfOk, IsErrOf, IsTrue}
 use Rattle.flash_model.specs.declared.error.FlashError.{FlashError}
 use Rattle.flash_model.specs.declared.error.FlashError.TheVariants.{Off}
 use Rattle.flash_model.specs.Chip.{Chip, Ends}
@@ -13,8 +12,8 @@ use Rattle.set_log.specs.Log.{state_of}
 use Rattle.set_log.specs.Record as format
 use Rattle.manifest.specs.declared.manifest.Component.{Component}
 use Rattle.manifest.specs.declared.manifest.Manifest.{Manifest}
-use Rattle.upload.specs.declared.error.UploadError.{UploadError}
-use Rattle.upload.specs.declared.error.UploadError.TheVariants.{Flash}
+use Rattle.machine.specs.declared.upload_error.UploadError.{UploadError}
+use Rattle.machine.specs.declared.upload_error.UploadError.TheVariants.{Flash}
 use Rattle.upload.specs.View.{view}
 use Rattle.upload.specs.Ending.{EndsUpload}
 use Rattle.upload.specs.Accepted.{AllFollowAt, AreThere, FrontHasDigest}

@@ -13,8 +13,8 @@ use Rattle.upload.specs.declared.sessions.Upload.{Upload}
 use Rattle.upload.specs.View.{view}
 use Rattle.upload.specs.Sessions.{IsWith, IsWritten}
 use Rattle.upload.specs.Withdrawal.{IsKeptOrGone}
-use Rattle.upload.specs.Accepted.{AreBlank, IsBlank, IsFresh, IsOpened, IsOpening, latest}
-use Rattle.upload.specs.Accepted.{named_parts}
+use Rattle.upload.specs.Accepted.{AreBlank, IsBlank, IsFresh, IsOpened, IsOpening, named_parts}
+use Rattle.machine.specs.Accepted.{latest}
 use Rattle.upload.specs.Wear.{journal_of_components, worn, worn_of}
 
 -- A call withdraws the request of an image, and erases its secondary slot.

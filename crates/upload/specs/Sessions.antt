@@ -4,7 +4,7 @@ use Rattle.std.specs.Prelude.{Option, Some, None, slice_index_or, if◌then◌el
 use Rattle.sector_map.specs.declared.layout.Side.TheVariants.{Secondary}
 use Rattle.trailer.specs.Fields.{erased_fields}
 use Rattle.upload.specs.View.{View}
-use Rattle.upload.specs.Device.{Session, Machine}
+use Rattle.machine.specs.Device.{Session, Machine}
 use Rattle.upload.specs.Steady.{IsSteadyAt}
 use Rattle.upload.specs.declared.sessions.Upload.{Upload}
 

@@ -4,18 +4,15 @@ use Rattle.common.specs.Bytes.{Starts}
 use Rattle.sector_map.specs.declared.layout.Side.TheVariants.{Primary, Secondary}
 use Rattle.trailer.specs.Fields.{Fields, trailer_of}
 use Rattle.trailer.specs.Standing.{first_is_set, standing_kind}
-use Rattle.trailer.specs.declared.kinds.Kind as request
+use Rattle.common.specs.declared.kind.Kind as request
 use Rattle.set_log.specs.declared.state.RecordKind.{RecordKind}
 use Rattle.set_log.specs.declared.state.RecordKind.TheVariants.{Steady}
 use Rattle.set_log.specs.declared.state.State.{State}
 use Rattle.image_reading.specs.declared.desc.Desc.{Desc}
 use Rattle.image_reading.specs.Image.{IsIntact}
 use Rattle.upload.specs.View.{View}
-use Rattle.upload.specs.Device.{DeviceState, Wanted}
-
--- Bytes are an intact image.
-abbrev pub IsImage : List ℕ → Type 0
-IsImage bytes = (description : Desc) × IsIntact bytes description
+use Rattle.machine.specs.Device.{DeviceState, Wanted}
+use Rattle.machine.specs.Finish.{IsImage}
 
 -- The intact image that bytes begin with, or none.
 pub record IsFront (whole : List ℕ) (held : Option (List ℕ)) : Type 0 where

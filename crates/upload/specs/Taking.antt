@@ -4,17 +4,18 @@ use Rattle.flash_model.specs.declared.error.FlashError.TheVariants as flash
 use Rattle.sector_map.specs.declared.layout.SectorMap.{SectorMap}
 use Rattle.set_log.specs.declared.state.State.{State}
 use Rattle.manifest.specs.declared.manifest.Component.{Component}
-use Rattle.upload.specs.declared.error.UploadError.{UploadError}
-use Rattle.upload.specs.declared.error.UploadError.TheVariants as no
+use Rattle.machine.specs.declared.upload_error.UploadError.{UploadError}
+use Rattle.machine.specs.declared.upload_error.UploadError.TheVariants as no
 use Rattle.upload.specs.declared.sessions.Upload.{Upload}
 use Rattle.upload.specs.View.{View}
-use Rattle.upload.specs.Device.{DeviceState, Machine}
+use Rattle.machine.specs.Device.{DeviceState, Machine}
 use Rattle.upload.specs.Steady.{IsSteadyAt}
 use Rattle.sector_map.specs.declared.layout.Side.TheVariants.{Secondary}
 use Rattle.trailer.specs.Fields.{erased_fields}
 use Rattle.upload.specs.Sessions.{AllOpenAt, IsUpAt, IsWritten, upload_at}
 use Rattle.upload.specs.Withdrawal.{IsKeptOrGone}
-use Rattle.upload.specs.Accepted.{AllFit, AllFollowAt, IsAcceptCut, OpenedAt, accepted, latest}
+use Rattle.machine.specs.Accepted.{AllFit, IsAcceptCut, accepted, latest}
+use Rattle.upload.specs.Accepted.{AllFollowAt, OpenedAt}
 
 -- The log has this state, whose sequence number isn't above the manifest's.
 pub record IsNewer (w : View) (state : State) (sequence : ℕ) : Type 0 where

@@ -1,6 +1,5 @@
 -- The number of sectors that accepting a manifest has to erase: those that aren't erased.
-use Rattle.std.specs.Prelude.{◌≡◌, ℕ, zero, suc, ◌+◌, ◌*◌, ◌==◌, List, [], ◌∷◌, slice_range}
-use Rattle.std.specs.Prelude.{if◌then◌else◌}
+use Rattle.std.specs.Prelude.{◌≡◌, ℕ, zero, suc, ◌+◌, ◌*◌, ◌==◌, List, [], ◌∷◌, slice_range, if◌then◌else◌}
 use Rattle.flash_model.specs.Chip.{Chip}
 use Rattle.sector_map.specs.declared.layout.SectorMap.{SectorMap}
 use Rattle.sector_map.specs.declared.layout.Side.TheVariants.{Secondary}
@@ -10,7 +9,7 @@ use Rattle.trailer.specs.Fields.{trailer_bytes}
 use Rattle.trailer.specs.Standing.{incoming_slot}
 use Rattle.set_log.specs.Log.{is_place_free}
 use Rattle.manifest.specs.declared.manifest.Component.{Component}
-use Rattle.upload.specs.Accepted.{is_named}
+use Rattle.machine.specs.Accepted.{is_named}
 
 -- 0 if all of these bytes are erased, else 1.
 abbrev pub one_unless_erased : List ℕ → ℕ

@@ -1,29 +1,12 @@
--- The step of a machine that withdraws a request.
-use Rattle.std.specs.Prelude.{◌≡◌, ◌≢◌, ◌⊎◌, ℕ, ◌<◌, ◌==◌, Option, None, Result, Ok, Err, if◌then◌else◌}
+-- What a withdrawal leaves on the flash.
+use Rattle.std.specs.Prelude.{◌≡◌, ◌≢◌, ◌⊎◌, ℕ, None, Result, Ok, Err}
 use Rattle.flash_model.specs.declared.error.FlashError.TheVariants as flash
 use Rattle.sector_map.specs.declared.layout.Side.TheVariants.{Secondary}
 use Rattle.trailer.specs.Fields.{erased_fields}
-use Rattle.upload.specs.declared.error.UploadError.{UploadError}
-use Rattle.upload.specs.declared.error.UploadError.TheVariants as no
+use Rattle.machine.specs.declared.upload_error.UploadError.{UploadError}
+use Rattle.machine.specs.declared.upload_error.UploadError.TheVariants as no
 use Rattle.upload.specs.View.{View}
-use Rattle.upload.specs.Device.{DeviceState, Machine, Wanted, closed}
 use Rattle.upload.specs.Steady.{request_in}
-
--- The state with another request for an image.
-abbrev pub with_request : DeviceState → ℕ → Option Wanted → DeviceState
-with_request s i wanted = record s { request = λ j. if j == i then wanted else s.request j }
-
--- A pending request is withdrawn, or none is pending, or no such image exists. If the flash stops
--- the call, all sessions end and nothing else changes, but a power cut may remove the request.
-abbrev pub Withdraws : Machine → ℕ → Result Unit UploadError → Machine → Type 0
-Withdraws m i (Ok done) next =
-    (m.kept.request i ≢ None) × (next ≡ record m { kept = with_request m.kept i None })
-Withdraws m i (Err no.NothingRequested) next =
-    (i < m.kept.images → m.kept.request i ≡ None) × (next ≡ m)
-Withdraws m i (Err (no.Flash flash.Cut)) next = (m.kept.request i ≢ None)
-    × ((next ≡ closed m m.kept) ⊎ (next ≡ closed m (with_request m.kept i None)))
-Withdraws m i (Err (no.Flash flash.Off)) next = next ≡ closed m m.kept
-Withdraws m i other next = ⊥
 
 -- The request of an image is as it was, slot and trailer, or none is pending.
 abbrev pub IsKeptOrGone : View → View → ℕ → Type 0

@@ -1,19 +1,20 @@
 -- Contracts of the calls that withdraw a request: one record for each call.
-use Rattle.std.specs.Prelude.{◌≡◌, ◌≤◌, ◌<◌, ◌+◌, ℕ, false, List, Option, Result, Err, IfErr}
-use Rattle.std.specs.Prelude.{IsErrOf, OnOk}
+use Rattle.std.specs.Prelude.{◌≡◌, ◌≤◌, ◌<◌, ◌+◌, ℕ, false, List, Option, Result, Err, IfErr, IsErrOf, OnOk}
 use Rattle.flash_model.specs.declared.error.FlashError.TheVariants.{Off}
 use Rattle.flash_model.specs.Chip.{Chip}
 use Rattle.sector_map.specs.declared.layout.SectorMap.{SectorMap}
 use Rattle.sector_map.specs.Part.{incoming_of}
 use Rattle.sector_map.specs.Map.{Keeps}
-use Rattle.upload.specs.declared.error.UploadError.{UploadError}
-use Rattle.upload.specs.declared.error.UploadError.TheVariants.{Flash, NothingRequested}
+use Rattle.machine.specs.declared.upload_error.UploadError.{UploadError}
+use Rattle.machine.specs.declared.upload_error.UploadError.TheVariants.{Flash, NothingRequested}
 use Rattle.upload.specs.declared.sessions.Upload.{Upload}
 use Rattle.upload.specs.View.{view}
-use Rattle.upload.specs.Device.{Machine}
+use Rattle.machine.specs.Device.{Machine}
 use Rattle.upload.specs.Sessions.{AllOpenAt, IsUpAt}
-use Rattle.upload.specs.Ending.{EndsUpload, IsClosedAfter, is_flash}
-use Rattle.upload.specs.Withdrawal.{EndsWithdraw, Withdraws}
+use Rattle.upload.specs.Ending.{EndsUpload, IsClosedAfter}
+use Rattle.machine.specs.Intake.{is_flash}
+use Rattle.upload.specs.Withdrawal.{EndsWithdraw}
+use Rattle.machine.specs.Withdrawal.{Withdraws}
 
 -- A call withdraws the request of an image of the map, if one is pending.
 pub record WithdrawsStanding (map : SectorMap) (image : ℕ) (old new : Chip)

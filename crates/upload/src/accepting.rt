@@ -3,16 +3,16 @@
 ghost use Rattle.std.specs.Prelude.{◌≢◌, None};
 ghost use Rattle.sector_map.specs.Map.{IsLaidOut};
 ghost use Rattle.set_log.specs.Log.{state_of};
-ghost use Rattle.upload.specs.Accepted.{AllFit, AreThere};
+ghost use Rattle.machine.specs.Accepted.{AllFit};
+ghost use Rattle.upload.specs.Accepted.{AreThere};
 ghost use Rattle.upload.specs.Judging.{CanJudge};
-ghost use Rattle.upload.specs.Accepting.{AcceptsManifest, CanRecord, RecordsSequence};
-ghost use Rattle.upload.specs.Accepting.{TakesManifest, WritesManifest};
+ghost use Rattle.upload.specs.Accepting.{AcceptsManifest, CanRecord, RecordsSequence, TakesManifest, WritesManifest};
 
-use crate::error::UploadError;
 use crate::judging::judge_manifest;
 use crate::opening::open_all;
 use crate::sessions::Uploads;
 use flash_model::{Flash, Result};
+use machine::UploadError;
 use manifest::{Component, Manifest};
 use sector_map::SectorMap;
 use set_log::{State, append};

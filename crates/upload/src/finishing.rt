@@ -12,12 +12,12 @@ ghost use Rattle.upload.specs.Slots.{Appends, HasRoomBehind};
 ghost use Rattle.upload.specs.Finishing.{FinishesTaken, FinishesUpload, JudgesSlot, ReadsDigest};
 
 use crate::adding::extend;
-use crate::error::UploadError;
 use crate::sessions::{UNIT, Upload, Uploads};
 use crate::slots::write_slot;
 use arrayvec::ArrayVec;
 use flash_model::{Flash, Result};
 use image_reading::{Desc, SlotError, describe_file_into, digest_file};
+use machine::UploadError;
 use sector_map::{SectorMap, Side};
 use trailer::request;
 

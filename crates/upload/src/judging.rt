@@ -3,13 +3,13 @@
 ghost use Rattle.std.specs.Prelude.{◌≡◌, ◌≢◌, ◌↔◌, IsTrue, None};
 ghost use Rattle.sector_map.specs.Map.{HasImage, IsLaidOut};
 ghost use Rattle.set_log.specs.Log.{state_of};
-ghost use Rattle.upload.specs.Accepted.{AllFit, AreThere};
-ghost use Rattle.upload.specs.Judging.{CanJudge, JudgesManifest, ReadsPrecursor, ReadsPrecursors};
-ghost use Rattle.upload.specs.Judging.{ReadsState};
+ghost use Rattle.machine.specs.Accepted.{AllFit};
+ghost use Rattle.upload.specs.Accepted.{AreThere};
+ghost use Rattle.upload.specs.Judging.{CanJudge, JudgesManifest, ReadsPrecursor, ReadsPrecursors, ReadsState};
 
-use crate::error::UploadError;
 use flash_model::{Flash, Result};
 use image_reading::{Desc, intact_image_into};
+use machine::UploadError;
 use manifest::{Component, Manifest};
 use sector_map::{SectorMap, Side};
 use set_log::{LogError, State, read_state};

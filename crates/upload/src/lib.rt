@@ -5,8 +5,8 @@
 //! - Main calls: `Uploads::accept`, `piece`, `finish`, `withdraw`
 //! - Allocates: no.
 //! - Callers: `boot_core` alone makes the calls that write, and `c_interface` checks saved uploads;
-//!   `machine`, `decision`, `device_texts`, `device_commands`, `sweep`, `inspecting` and
-//!   `explaining` use errors and definitions alone.
+//!   `flash_contents`, `decision`, `device_commands`, `sweep` and `inspecting` use definitions
+//!   alone.
 //!
 //! A manifest opens an upload for each image that it lists. Pieces fill the secondary slot, and a
 //! finished upload requests its image. Uploads of different images don't affect each other.
@@ -14,7 +14,6 @@
 
 mod accepting;
 mod adding;
-mod error;
 mod finishing;
 mod judging;
 mod opening;
@@ -24,5 +23,5 @@ mod slots;
 mod standing;
 mod withdrawing;
 
-pub use error::UploadError;
+pub use machine::UploadError;
 pub use sessions::{Upload, Uploads};

@@ -2,7 +2,7 @@
 
 ghost use Rattle.std.specs.Prelude.{◌≡◌};
 ghost use Rattle.sector_map.specs.Map.{HasImage, IsLaidOut};
-ghost use Rattle.trailer.specs.Standing.{kind_of};
+ghost use Rattle.common.specs.Kind.{kind_of};
 ghost use Rattle.upload.specs.Accepted.{AreThere, IsFresh};
 ghost use Rattle.upload.specs.Opening.{OpensSlot, OpensUpload, OpensUploads};
 

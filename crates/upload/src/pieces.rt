@@ -5,9 +5,9 @@ ghost use Rattle.sector_map.specs.Map.{IsLaidOut};
 ghost use Rattle.upload.specs.Adding.{TakesPiece};
 
 use crate::adding::add_bytes;
-use crate::error::UploadError;
 use crate::sessions::{Upload, Uploads};
 use flash_model::Flash;
+use machine::UploadError;
 use sector_map::SectorMap;
 
 /// Returns whether an upload takes `count` bytes more: its size allows them.

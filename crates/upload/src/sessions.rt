@@ -5,9 +5,9 @@ ghost use Rattle.upload.specs.Ending.{IsClosedAfter};
 ghost use Rattle.upload.specs.Sessions.{AllClosed, IsWith, upload_at};
 ghost use Rattle.upload.specs.declared.sessions.Upload.{Upload};
 
-use crate::error::UploadError;
 use arrayvec::ArrayVec;
 use common::limits::MOST_IMAGES;
+use machine::UploadError;
 use trailer::Kind;
 
 /// The length of a unit in bytes.

@@ -3,9 +3,9 @@
 ghost use Rattle.sector_map.specs.Map.{HasImage, IsLaidOut};
 ghost use Rattle.upload.specs.Withdrawing.{WithdrawsRequest, WithdrawsStanding};
 
-use crate::error::UploadError;
 use crate::sessions::Uploads;
 use flash_model::Flash;
+use machine::UploadError;
 use sector_map::SectorMap;
 use trailer::{standing, withdraw};
 

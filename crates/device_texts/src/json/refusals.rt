@@ -5,11 +5,10 @@ ghost use Rattle.serde_json.specs.View.{members_view, view};
 ghost use Rattle.device_texts.specs.Json.{code_json, fault_json, layer_json, map_json, upload_json, with_code, with_refused};
 
 use crate::json::{Object, put_number, put_text, put_value};
-use machine::Fault;
+use machine::{Fault, UploadError};
 use sector_map::MapError;
 use serde_json::{Map, Value};
 use std::alloc::{AllocError, Global};
-use upload::UploadError;
 
 /// Makes the object of a refusal: its number and its name.
 pub fn code_value(alloc: Global, code: u8, name: &str) -> Result<Value, AllocError>

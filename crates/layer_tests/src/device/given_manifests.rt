@@ -6,13 +6,12 @@ ghost use Rattle.flash_model.specs.Blanks.{IsBlankOf};
 use super::devices::{UPGRADE, device_on, outcome_of, put, two_images};
 use crate::images::{FIRST, FIRST_DIGEST, SECOND, SECOND_DIGEST};
 use crate::memory::in_memory;
-use machine::{Event, Fault, Reply};
+use machine::{Event, Fault, Reply, UploadError};
 use manifest::{Component, Manifest, ManifestError};
 use std::marker::Brand;
 use std::process::Abort;
 use std::sync::ledger::{Blank, Ledger};
 use std::test::Fail;
-use upload::UploadError;
 
 /// A component for a test: a file of 96 bytes for an image.
 fn component(image: u8, digest: [u8; 32]) -> Component {

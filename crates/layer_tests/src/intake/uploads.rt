@@ -15,6 +15,7 @@ use crate::images::{FIRST, FIRST_DIGEST, SECOND, SECOND_DIGEST};
 use crate::memory::in_memory;
 use arrayvec::ArrayVec;
 use flash_model::{Flash, MemFlash};
+use machine::UploadError;
 use manifest::{Component, Manifest};
 use sector_map::SectorMap;
 use set_log::{State, read_state, start};
@@ -24,7 +25,7 @@ use std::process::Abort;
 use std::sync::ledger::{Blank, Ledger};
 use std::test::Fail;
 use trailer::Kind;
-use upload::{Upload, UploadError, Uploads};
+use upload::{Upload, Uploads};
 
 /// The bytes after the map's sectors.
 const MORE: [u8; 1536] = [0xa5; 1536];

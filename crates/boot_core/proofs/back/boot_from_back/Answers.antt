@@ -5,7 +5,7 @@ use Rattle.sector_map.specs.declared.layout.Side.TheVariants.{Primary, Secondary
 use Rattle.sector_map.proofs.Parts.{laid_out_kept}
 use Rattle.upload.specs.View.{view}
 use Rattle.upload.proofs.Ends.{err_passed}
-use Rattle.machine.specs.Starting.{IsLost, IsLowestLost}
+use Rattle.flash_contents.specs.Starting.{IsLost, IsLowestLost}
 use Rattle.boot_core.specs.Found.{IsLostFor}
 use Rattle.boot_core.proofs.Reverts.{finish_fails, finish_gives, lost_stops, reverted_stops, swap_fails, swapped_lost}
 use Rattle.boot_core.proofs.Reverts.{swapped_then_fails}

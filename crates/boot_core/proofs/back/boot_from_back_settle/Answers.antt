@@ -2,7 +2,7 @@ use Rattle.std.proofs.Common.{◌≡◌, arith, refl, subst}
 use Rattle.sector_map.specs.declared.layout.Side.TheVariants.{Primary}
 use Rattle.upload.specs.View.{view}
 use Rattle.upload.proofs.Ends.{err_passed}
-use Rattle.machine.specs.Starting.{IsLost, IsLowestLost}
+use Rattle.flash_contents.specs.Starting.{IsLost, IsLowestLost}
 use Rattle.boot_core.specs.Found.{IsLostFor}
 use Rattle.boot_core.proofs.Reverts.{look_fails, lost_stops, reverted_stops, settle_fails, settle_gives, settled_lost}
 use Rattle.boot_core.proofs.Asking.{asks_few, members_few}

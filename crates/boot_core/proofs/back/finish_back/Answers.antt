@@ -1,7 +1,7 @@
 use Rattle.std.proofs.Common.{◌≡◌, ap, arith, inl, refl, ⊎_elim}
 use Rattle.std.proofs.lemmas.Result.{IfOk-weaker}
 use Rattle.upload.proofs.Ends.{err_passed}
-use Rattle.machine.proofs.Returning.{back_finishes}
+use Rattle.flash_contents.proofs.Returning.{back_finishes}
 use Rattle.set_log.specs.declared.state.State.{State}
 use Rattle.boot_core.proofs.OnMap.{layout_then}
 use Rattle.boot_core.proofs.Passed.{passes_err, then_ends}

@@ -1,6 +1,6 @@
 use Rattle.std.proofs.Common.{◌∙◌, inl, inr, refl, ⊎_elim}
 use Rattle.std.proofs.lemmas.Result.{IfOk-weaker}
-use Rattle.machine.proofs.Returning.{back_settle_either, back_settle_ok}
+use Rattle.flash_contents.proofs.Returning.{back_settle_either, back_settle_ok}
 use Rattle.boot_core.proofs.Records.{fits_back_settle, has_state}
 use Rattle.boot_core.proofs.OnMap.{layout_kept, log_settled}
 use Rattle.boot_core.proofs.back.record_back.Goals as goal

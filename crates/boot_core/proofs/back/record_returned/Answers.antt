@@ -1,6 +1,6 @@
 use Rattle.std.proofs.Common.{rules, inl, inr, refl, ⊎_elim}
 use Rattle.std.proofs.lemmas.Result.{on_ok_weaker}
-use Rattle.machine.proofs.Returning.{return_either, return_ok}
+use Rattle.flash_contents.proofs.Returning.{return_either, return_ok}
 use Rattle.boot_core.proofs.Records.{fits_steady}
 use Rattle.boot_core.proofs.back.record_returned.Goals as goal
 

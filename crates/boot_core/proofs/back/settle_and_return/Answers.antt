@@ -3,8 +3,8 @@ use Rattle.std.proofs.lemmas.Result.{IfOk-weaker}
 use Rattle.sector_map.proofs.Parts.{laid_out_kept}
 use Rattle.upload.specs.View.{view}
 use Rattle.upload.proofs.Ends.{err_passed}
-use Rattle.machine.specs.Holding.{AreSettled}
-use Rattle.machine.proofs.Returning.{returning_kept}
+use Rattle.flash_contents.specs.Holding.{AreSettled}
+use Rattle.flash_contents.proofs.Returning.{returning_kept}
 use Rattle.boot_core.proofs.Records.{read_kept}
 use Rattle.boot_core.proofs.OnMap.{layout_kept, layout_more, log_settled, trailers_settled}
 use Rattle.boot_core.proofs.Passed.{ok_both, passes_err, then_ends}

@@ -1,7 +1,7 @@
 use Rattle.std.proofs.Common.{arith, refl, subst, sym}
 use Rattle.sector_map.specs.declared.layout.Side.TheVariants.{Secondary}
 use Rattle.swap_scratch.specs.Swap.{IsSwapAt}
-use Rattle.machine.proofs.Reverting.{back_done, back_resumes}
+use Rattle.flash_contents.proofs.Reverting.{back_done, back_resumes}
 use Rattle.boot_core.proofs.Passed.{on_ok_both}
 use Rattle.boot_core.proofs.Records.{read_kept, stands_within}
 use Rattle.boot_core.proofs.back.swap_back.Goals as goal

@@ -1,7 +1,7 @@
 use Rattle.std.proofs.Common.{◌≡◌, ◌∙◌, ◌+◌, None, refl, sym, true≢false}
 use Rattle.std.proofs.lemmas.Result.{IfOk-weaker}
 use Rattle.set_log.specs.Log.{state_of}
-use Rattle.machine.proofs.Stepping.{sound_answers, stands_some}
+use Rattle.flash_contents.proofs.Stepping.{sound_answers, stands_some}
 use Rattle.boot_core.proofs.Wears.{worn_read}
 use Rattle.boot_core.proofs.Stops.{no_log_stopped, read_again, read_idle, read_over, read_stopped, stood_none}
 use Rattle.boot_core.proofs.OnMap.{layout_same}

@@ -1,18 +1,18 @@
 use Rattle.std.proofs.Common.{refl, ◌≡◌, ◌+◌, Err, ap, inl, inr, sym, subst, ◌∙◌}
-use Rattle.common.specs.declared.event.Event.TheVariants as event
+use Rattle.machine.specs.declared.event.Event.TheVariants as event
 use Rattle.upload.specs.View.{view}
 use Rattle.upload.proofs.OpenOnes.{open_none}
 use Rattle.upload.proofs.Ends.{err_passed}
 use Rattle.machine.specs.Boots.{is_answer}
-use Rattle.machine.specs.Passing.{StepsTo}
+use Rattle.flash_contents.specs.Passing.{StepsTo}
 use Rattle.machine.specs.declared.error.Fault.TheVariants as no
-use Rattle.machine.proofs.Stepping.{steps_boot}
+use Rattle.flash_contents.proofs.Stepping.{steps_boot}
 use Rattle.boot_core.specs.Answers.{IsBootReply}
 use Rattle.boot_core.specs.Device.{made, seen}
 use Rattle.boot_core.proofs.Stopping.{boot_stopped, ended_ends, not_empty, not_uncut, stopped_ends, stopped_worn, unprovisioned}
 use Rattle.boot_core.specs.Over.{IsIdleTrial}
 use Rattle.boot_core.specs.Wear.{DoesNothing, IsWorn}
-use Rattle.machine.specs.Starting.{StartsBy}
+use Rattle.flash_contents.specs.Starting.{StartsBy}
 use Rattle.flash_model.proofs.Ending.{no_error}
 use Rattle.boot_core.proofs.Stops.{flash_again, flash_idle, flash_off, flash_over, flash_starts, flash_stopped, flash_stopped_it, flash_unanswered}
 use Rattle.decision.specs.Places.{read_as}

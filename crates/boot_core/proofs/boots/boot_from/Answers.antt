@@ -1,6 +1,6 @@
 use Rattle.std.proofs.Common.{◌+◌, arith, refl}
 use Rattle.std.proofs.lemmas.Result.{IfOk-weaker}
-use Rattle.machine.proofs.Standing.{stands_steady}
+use Rattle.flash_contents.proofs.Standing.{stands_steady}
 use Rattle.set_log.specs.declared.state.RecordKind.TheVariants as log
 use Rattle.boot_core.proofs.Booted.{boot_as, boot_wider, boots_idle, boots_stop, recorded_moves}
 use Rattle.decision.specs.Places.{read_as}

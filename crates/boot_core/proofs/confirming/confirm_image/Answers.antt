@@ -2,7 +2,7 @@ use Rattle.std.proofs.Common.{rules, arith, ◌≡◌, ◌<◌, true, ap}
 use Rattle.common.specs.Masks.{is_member}
 use Rattle.trailer.specs.Fields.{Fields}
 use Rattle.upload.proofs.Ends.{err_passed}
-use Rattle.machine.proofs.Confirming.{confirm_either, confirm_yes}
+use Rattle.flash_contents.proofs.Confirming.{confirm_either, confirm_yes}
 use Rattle.boot_core.proofs.Trials.{set_answers}
 use Rattle.boot_core.proofs.Passed.{err_ends, ok_ends}
 use Rattle.boot_core.proofs.confirming.confirm_image.Goals as goal

@@ -1,10 +1,10 @@
 use Rattle.std.proofs.Common.{ap, refl, subst, sym}
 use Rattle.flash_model.proofs.Ending.{no_error}
-use Rattle.common.specs.declared.event.Event.TheVariants as event
+use Rattle.machine.specs.declared.event.Event.TheVariants as event
 use Rattle.sector_map.proofs.Parts.{laid_out_kept}
 use Rattle.upload.proofs.OpenOnes.{open_none}
-use Rattle.machine.specs.Passing.{StepsTo}
-use Rattle.machine.proofs.Stepping.{steps_confirmed, steps_not_on_trial}
+use Rattle.flash_contents.specs.Passing.{StepsTo}
+use Rattle.flash_contents.proofs.Stepping.{steps_confirmed, steps_not_on_trial}
 use Rattle.boot_core.specs.Answers.{fault_reply}
 use Rattle.boot_core.specs.Device.{made, seen}
 use Rattle.boot_core.proofs.Stopping.{confirm_stopped, no_own, steps_interrupted, stopped_ends}

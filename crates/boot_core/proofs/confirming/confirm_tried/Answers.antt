@@ -1,5 +1,5 @@
 use Rattle.std.proofs.Common.{rules, ◌∙◌, refl, sym, Bool, true, false, true≢false, Ok, Err}
-use Rattle.machine.proofs.Confirming.{confirm_cut, confirm_ends}
+use Rattle.flash_contents.proofs.Confirming.{confirm_cut, confirm_ends}
 use Rattle.boot_core.specs.declared.confirming.Confirmation.{Confirmation}
 use Rattle.boot_core.proofs.Passed.{err_as, err_ends, ok_ends}
 use Rattle.boot_core.proofs.Trials.{tried_answers}

@@ -2,7 +2,7 @@ use Rattle.std.proofs.Common.{◌≡◌, ◌<◌, ℕ, true, Some}
 use Rattle.sector_map.specs.Map.{IsLaidOut}
 use Rattle.common.specs.Masks.{is_member}
 use Rattle.trailer.specs.Standing.{standing_of}
-use Rattle.trailer.specs.declared.kinds.Kind.TheVariants.{Permanent}
+use Rattle.common.specs.declared.kind.Kind.TheVariants.{Permanent}
 use Rattle.boot_core.proofs.deciding.asks_for_good.Given as goal
 
 abbrev pub invariant-loop-image : goal.invariant-loop-image

@@ -1,6 +1,6 @@
 use Rattle.std.proofs.Common.{◌≡◌, arith, subst, sym}
 use Rattle.upload.specs.View.{view}
-use Rattle.machine.specs.Reading.{HasImages}
+use Rattle.flash_contents.specs.Reading.{HasImages}
 use Rattle.machine.proofs.Unique.{one_greatest, one_table}
 use Rattle.machine.proofs.FoundAgain.{chosen_again, found_again}
 use Rattle.decision.specs.Found.{HasTable, IsFindingAt, IsFindingHeld}

@@ -1,4 +1,4 @@
-use Rattle.machine.specs.Reading.{AreRaisedBy}
+use Rattle.flash_contents.specs.Reading.{AreRaisedBy}
 use Rattle.boot_core.proofs.deciding.raised.Given as goal
 
 abbrev pub invariant-loop-number : goal.invariant-loop-number

@@ -1,5 +1,5 @@
 use Rattle.std.proofs.Common.{rules, ◌∙◌, subst}
-use Rattle.machine.specs.Wear.{IsSetFound, IsSetIn}
+use Rattle.flash_contents.specs.Wear.{IsSetFound, IsSetIn}
 use Rattle.machine.proofs.Answered.{no_members}
 use Rattle.boot_core.specs.Found.{StartsFound}
 use Rattle.boot_core.proofs.Undecided.{decided_in}

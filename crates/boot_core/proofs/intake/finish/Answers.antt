@@ -1,5 +1,5 @@
 use Rattle.std.proofs.Common.{refl}
-use Rattle.common.specs.declared.event.Event.TheVariants as event
+use Rattle.machine.specs.declared.event.Event.TheVariants as event
 use Rattle.sector_map.specs.Part.{incoming_of}
 use Rattle.boot_core.proofs.Finished.{finish_declined, finish_passed}
 use Rattle.boot_core.proofs.Keeping.{kept_by_finish}

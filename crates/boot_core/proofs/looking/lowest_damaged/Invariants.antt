@@ -1,6 +1,6 @@
 use Rattle.std.proofs.Common.{◌≡◌}
 use Rattle.upload.specs.View.{view}
-use Rattle.machine.specs.Starting.{AreHeld}
+use Rattle.flash_contents.specs.Starting.{AreHeld}
 use Rattle.boot_core.proofs.looking.lowest_damaged.Given as goal
 
 abbrev pub invariant-loop-image : goal.invariant-loop-image

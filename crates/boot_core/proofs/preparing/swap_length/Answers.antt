@@ -2,7 +2,7 @@ use Rattle.std.proofs.Common.{arith, ◌∙◌, subst, sym}
 use Rattle.sector_map.specs.declared.layout.Side.TheVariants.{Primary, Secondary}
 use Rattle.image_reading.specs.Slot.{slot_bytes}
 use Rattle.upload.proofs.Ends.{err_passed}
-use Rattle.machine.specs.Starting.{IsHeld}
+use Rattle.flash_contents.specs.Starting.{IsHeld}
 use Rattle.boot_core.specs.SwapSize.{IsUsed}
 use Rattle.boot_core.proofs.Passed.{err_ends, then_err, then_ok}
 use Rattle.boot_core.proofs.preparing.swap_length.Goals as goal

@@ -1,8 +1,9 @@
 use Rattle.std.proofs.Common.{rules, arith, ◌≡◌, ◌≤◌, ◌∙◌, ◌+◌, [], ◌∷◌, length, subst}
 use Rattle.std.proofs.lemmas.List.{take_all, take_more}
-use Rattle.machine.specs.Passing.{RunsTo}
+use Rattle.flash_contents.specs.Passing.{RunsTo}
 use Rattle.machine.specs.Steps.{cuts_in}
-use Rattle.machine.proofs.Runs.{cuts_on, runs_on}
+use Rattle.machine.proofs.Runs.{cuts_on}
+use Rattle.flash_contents.proofs.HeldRuns.{runs_on}
 use Rattle.boot_core.specs.CutEvents.{IsCutAsDue, StartsAfter, StepsEach}
 use Rattle.boot_core.proofs.CutEvents.{each_on}
 use Rattle.boot_core.proofs.running.run.Goals as goal

@@ -1,5 +1,5 @@
 use Rattle.std.proofs.Common.{◌≡◌, ◌+◌, ◌≤◌, true, length, take, vec_capacity, vec_len}
-use Rattle.machine.specs.Passing.{RunsTo}
+use Rattle.flash_contents.specs.Passing.{RunsTo}
 use Rattle.machine.specs.Steps.{cuts_in}
 use Rattle.boot_core.specs.CutEvents.{IsCutAsDue, StartsAfter, StepsEach}
 use Rattle.boot_core.proofs.running.run.Given as goal

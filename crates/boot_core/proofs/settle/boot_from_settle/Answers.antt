@@ -1,6 +1,6 @@
 use Rattle.std.proofs.Common.{arith, ◌∙◌, sym}
 use Rattle.boot_core.proofs.Asking.{asks_few, members_few}
-use Rattle.machine.proofs.Standing.{settle_cut, settle_ends}
+use Rattle.flash_contents.proofs.Standing.{settle_cut, settle_ends}
 use Rattle.upload.proofs.Ends.{err_passed}
 use Rattle.boot_core.proofs.Booted.{boot_fails, boot_replies}
 use Rattle.boot_core.proofs.OnMap.{layout_wider, settled_moved}

@@ -3,8 +3,8 @@ use Rattle.std.proofs.lemmas.Result.{IfOk-weaker}
 use Rattle.set_log.specs.Log.{state_of}
 use Rattle.upload.proofs.Ends.{err_passed}
 use Rattle.upload.specs.View.{view}
-use Rattle.machine.specs.Reading.{CanRead}
-use Rattle.machine.specs.Wear.{IsSetFound}
+use Rattle.flash_contents.specs.Reading.{CanRead}
+use Rattle.flash_contents.specs.Wear.{IsSetFound}
 use Rattle.boot_core.specs.Found.{IsToldAgain, StartsFound}
 use Rattle.boot_core.proofs.OnMap.{layout_keeps, layout_same}
 use Rattle.boot_core.proofs.Undecided.{starts_settled}

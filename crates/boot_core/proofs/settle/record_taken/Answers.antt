@@ -1,6 +1,6 @@
 use Rattle.std.proofs.Common.{rules, inl, inr, refl, true≢false, ⊎_elim}
 use Rattle.std.proofs.lemmas.Result.{on_ok_weaker}
-use Rattle.machine.proofs.Ending.{good_either, good_ok}
+use Rattle.flash_contents.proofs.Ending.{good_either, good_ok}
 use Rattle.boot_core.proofs.Records.{fits_steady}
 use Rattle.boot_core.proofs.settle.record_taken.Goals as goal
 

@@ -1,7 +1,7 @@
 use Rattle.std.proofs.Common.{rules, inl, inr, refl, subst, sym, ⊎_elim}
 use Rattle.boot_core.specs.FromSettle.{IsTrialLogged}
 use Rattle.std.proofs.lemmas.Result.{on_ok_weaker}
-use Rattle.machine.proofs.Ending.{trial_either, trial_ok}
+use Rattle.flash_contents.proofs.Ending.{trial_either, trial_ok}
 use Rattle.boot_core.proofs.Records.{fits_trial}
 use Rattle.boot_core.proofs.settle.record_trial.Goals as goal
 

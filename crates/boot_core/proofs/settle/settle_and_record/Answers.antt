@@ -1,7 +1,7 @@
 use Rattle.std.proofs.Common.{arith, inl, refl, sym, subst}
 use Rattle.upload.proofs.Ends.{err_passed}
 use Rattle.sector_map.proofs.Parts.{laid_out_kept}
-use Rattle.machine.proofs.Swapping.{settling_kept}
+use Rattle.flash_contents.proofs.Swapping.{settling_kept}
 use Rattle.boot_core.specs.FromSettle.{RecordsTaken}
 use Rattle.boot_core.proofs.Records.{read_kept}
 use Rattle.boot_core.proofs.Concluding.{settled_as, settles_taken}

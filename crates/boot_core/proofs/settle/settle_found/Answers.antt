@@ -1,11 +1,10 @@
 use Rattle.std.proofs.Common.{rules, arith, ◌≤◌, inl, refl, subst, sym}
 use Rattle.upload.proofs.Ends.{err_passed}
-use Rattle.machine.proofs.Resuming.{never_found, settle_reports, settle_stands}
+use Rattle.flash_contents.proofs.Resuming.{never_found, settle_reports, settle_stands}
 use Rattle.decision.specs.Found.{HasTable}
 use Rattle.boot_core.proofs.OnMap.{layout_same}
 use Rattle.boot_core.proofs.Passed.{here_ends, ok_ends, passes_err}
-use Rattle.boot_core.proofs.Undecided.{kept_for, never_again}
-use Rattle.boot_core.proofs.Undecided.{decided_in, undecided_in}
+use Rattle.boot_core.proofs.Undecided.{kept_for, never_again, decided_in, undecided_in}
 use Rattle.decision.specs.Places.{finding_in}
 use Rattle.boot_core.proofs.settle.settle_found.Goals as goal
 

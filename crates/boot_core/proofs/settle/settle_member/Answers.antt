@@ -3,7 +3,7 @@ use Rattle.sector_map.specs.Part.{trailers_in, trailers_of}
 use Rattle.common.specs.Masks.{is_member}
 use Rattle.sector_map.proofs.Parts.{keeps_wider}
 use Rattle.sector_map.proofs.Touched.{trailers_in_mask}
-use Rattle.machine.proofs.Swapping.{settled_kept}
+use Rattle.flash_contents.proofs.Swapping.{settled_kept}
 use Rattle.boot_core.proofs.Passed.{err_ends, ok_ends}
 use Rattle.boot_core.proofs.settle.settle_member.Goals as goal
 

@@ -6,7 +6,7 @@ use Rattle.flash_model.proofs.Ending.{ends_after}
 use Rattle.swap_scratch.proofs.Sums.{sum_more}
 use Rattle.trailer.specs.Settled.{is_confirmed}
 use Rattle.upload.specs.View.{view}
-use Rattle.machine.specs.Holding.{IsSettledAt}
+use Rattle.flash_contents.specs.Holding.{IsSettledAt}
 use Rattle.upload.proofs.Ends.{err_passed}
 use Rattle.boot_core.proofs.Masks.{sum_before}
 use Rattle.boot_core.proofs.settle.settle_set.Goals as goal

@@ -6,7 +6,7 @@ use Rattle.common.specs.Masks.{is_member}
 use Rattle.swap_scratch.specs.Swap.{sum_over}
 use Rattle.trailer.specs.Settled.{is_confirmed}
 use Rattle.upload.specs.View.{view}
-use Rattle.machine.specs.Holding.{IsSettledAt}
+use Rattle.flash_contents.specs.Holding.{IsSettledAt}
 use Rattle.boot_core.proofs.settle.settle_set.Given as goal
 
 abbrev pub invariant-loop-image : goal.invariant-loop-image

@@ -1,7 +1,7 @@
 use Rattle.std.proofs.Common.{arith, inl, refl}
 use Rattle.upload.proofs.Ends.{err_passed}
-use Rattle.machine.proofs.Frames.{primary_aside, steady_kept}
-use Rattle.machine.proofs.Beginning.{begin_either, begin_ok}
+use Rattle.flash_contents.proofs.Frames.{primary_aside, steady_kept}
+use Rattle.flash_contents.proofs.Beginning.{begin_either, begin_ok}
 use Rattle.boot_core.proofs.Begun.{begun}
 use Rattle.boot_core.proofs.Records.{fits_swap, state_kept}
 use Rattle.boot_core.proofs.OnMap.{layout_kept, trailers_moved}

@@ -1,12 +1,12 @@
 use Rattle.std.proofs.Common.{rules, ◌+◌, ◌∙◌, ap, arith, refl, subst, sym}
 use Rattle.std.proofs.lemmas.Result.{IfOk-weaker}
 use Rattle.upload.proofs.Ends.{err_passed}
-use Rattle.upload.specs.Device.{DeviceState}
+use Rattle.machine.specs.Device.{DeviceState}
 use Rattle.upload.specs.Steady.{IsSteadyAt}
 use Rattle.upload.specs.View.{view}
-use Rattle.machine.proofs.Steadying.{chosen_here, ends_damaged, ends_invalid, ends_plain}
-use Rattle.machine.proofs.Upgrading.{steady_cut}
-use Rattle.machine.specs.Wear.{IsSetIn}
+use Rattle.flash_contents.proofs.Steadying.{chosen_here, ends_damaged, ends_invalid, ends_plain}
+use Rattle.flash_contents.proofs.Upgrading.{steady_cut}
+use Rattle.flash_contents.specs.Wear.{IsSetIn}
 use Rattle.boot_core.specs.FromSteady.{HasChosen}
 use Rattle.boot_core.proofs.Booted.{boot_after, boot_fails, boot_wider}
 use Rattle.boot_core.proofs.Moves.{mask_asked, mask_moves, set_held, starts_set}

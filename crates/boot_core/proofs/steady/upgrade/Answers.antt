@@ -1,6 +1,6 @@
 use Rattle.std.proofs.Common.{◌+◌, arith, ap, refl, subst, sym, ◌∙◌}
 use Rattle.upload.proofs.Ends.{err_passed}
-use Rattle.machine.proofs.Upgrading.{steady_cut}
+use Rattle.flash_contents.proofs.Upgrading.{steady_cut}
 use Rattle.set_log.specs.Log.{state_of}
 use Rattle.sector_map.specs.Map.{IsLaidOut}
 use Rattle.sector_map.specs.declared.layout.Side.TheVariants.{Primary}

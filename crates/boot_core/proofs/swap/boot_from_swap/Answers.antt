@@ -1,5 +1,5 @@
 use Rattle.std.proofs.Common.{◌∙◌, sym}
-use Rattle.machine.proofs.Standing.{stands_swap, swap_cut, swap_ends}
+use Rattle.flash_contents.proofs.Standing.{stands_swap, swap_cut, swap_ends}
 use Rattle.upload.proofs.Ends.{err_passed}
 use Rattle.boot_core.proofs.Booted.{boot_fails, boot_replies}
 use Rattle.boot_core.proofs.Stops.{swap_stops}

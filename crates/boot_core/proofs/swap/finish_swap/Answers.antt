@@ -1,18 +1,17 @@
 use Rattle.std.proofs.Common.{◌≡◌, Some, arith, inl, inr, refl, subst, sym, ⊎_elim, ◌∙◌}
 use Rattle.std.proofs.lemmas.Result.{IfOk-weaker}
 use Rattle.upload.proofs.Ends.{err_passed}
-use Rattle.machine.specs.Reading.{IsFoundAgain}
-use Rattle.machine.specs.Wear.{IsSetFound}
+use Rattle.flash_contents.specs.Reading.{IsFoundAgain}
+use Rattle.flash_contents.specs.Wear.{IsSetFound}
 use Rattle.decision.specs.Found.{HasTable}
 use Rattle.boot_core.specs.FromSwap.{IsSettleRecorded}
 use Rattle.boot_core.proofs.Readable.{decided_alone, decided_told}
-use Rattle.machine.proofs.Resuming.{swap_finishes}
+use Rattle.flash_contents.proofs.Resuming.{swap_finishes}
 use Rattle.boot_core.proofs.OnMap.{layout_keeps, layout_then, layout_wider, settled_moved}
 use Rattle.boot_core.specs.Found.{StartsFound}
 use Rattle.upload.specs.View.{view}
 use Rattle.boot_core.proofs.Passed.{passes_err, then_ends}
-use Rattle.boot_core.proofs.Undecided.{never_again, starts_settled}
-use Rattle.boot_core.proofs.Undecided.{decided_in, undecided_in}
+use Rattle.boot_core.proofs.Undecided.{never_again, starts_settled, decided_in, undecided_in}
 use Rattle.decision.specs.Places.{finding_in, read_as}
 use Rattle.set_log.specs.Log.{state_of}
 use Rattle.set_log.specs.declared.state.RecordKind.TheVariants.{Settle, Swap}

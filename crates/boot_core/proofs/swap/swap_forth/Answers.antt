@@ -1,29 +1,28 @@
 use Rattle.std.proofs.Common.{arith, inl, inr, refl, subst, sym}
 use Rattle.sector_map.proofs.Parts.{keeps_wider, laid_out_kept}
 use Rattle.set_log.specs.declared.state.RecordKind.TheVariants.{Settle, Swap}
-use Rattle.reports.specs.declared.table.Table.{Table}
-use Rattle.upload.specs.Device.{DeviceState}
+use Rattle.certificate.specs.declared.table.Table.{Table}
+use Rattle.machine.specs.Device.{DeviceState}
 use Rattle.upload.proofs.Ends.{err_passed}
 use Rattle.upload.proofs.Views.{view_kept}
-use Rattle.machine.specs.Passing.{IsSwappingSome}
-use Rattle.machine.specs.Reading.{IsFoundAgain}
-use Rattle.machine.specs.Wear.{IsSetFound}
-use Rattle.machine.specs.declared.finding.Finding.TheVariants.{Decided}
+use Rattle.flash_contents.specs.Passing.{IsSwappingSome}
+use Rattle.flash_contents.specs.Reading.{IsFoundAgain}
+use Rattle.flash_contents.specs.Wear.{IsSetFound}
+use Rattle.flash_contents.specs.declared.finding.Finding.TheVariants.{Decided}
 use Rattle.decision.specs.Found.{HasTable}
-use Rattle.machine.proofs.Resuming.{never_swapped}
-use Rattle.machine.proofs.Swapping.{settle_either, settle_ok, swap_done, swap_resumes}
+use Rattle.flash_contents.proofs.Resuming.{never_swapped}
+use Rattle.flash_contents.proofs.Swapping.{settle_either, settle_ok, swap_done, swap_resumes}
 use Rattle.boot_core.proofs.Readable.{can_read_before}
 use Rattle.boot_core.proofs.Records.{fits_next, kind_of_read, read_kept, stands_within, state_kept}
 use Rattle.boot_core.proofs.OnMap.{layout_kept, layout_more, log_moved, log_settled, swap_moved}
 use Rattle.boot_core.proofs.Passed.{passes_err, then_ends, then_ok}
-use Rattle.boot_core.proofs.Undecided.{alone_for, never_again, never_recorded, starts_settled}
+use Rattle.boot_core.proofs.Undecided.{alone_for, never_again, never_recorded, starts_settled, decided_in, undecided_in}
 use Rattle.boot_core.specs.Found.{StartsFound}
 use Rattle.boot_core.specs.Moving.{settled_parts}
 use Rattle.sector_map.specs.Part.{Log, only}
 use Rattle.common.specs.Masks.{is_member}
 use Rattle.sector_map.specs.declared.layout.Side.TheVariants.{Primary}
 use Rattle.upload.specs.View.{view}
-use Rattle.boot_core.proofs.Undecided.{decided_in, undecided_in}
 use Rattle.boot_core.proofs.Asking.{asks_record, asks_swap, either_kind, this_kind}
 use Rattle.boot_core.specs.Journal.{CountsOn, is_moving}
 use Rattle.boot_core.proofs.swap.swap_forth.Goals as goal

@@ -1,7 +1,7 @@
 use Rattle.std.proofs.Common.{arith, inl, refl}
 use Rattle.std.proofs.lemmas.Bool.{false≢true}
 use Rattle.upload.proofs.Ends.{err_passed}
-use Rattle.machine.proofs.Reverting.{back_either, back_kept, back_ok}
+use Rattle.flash_contents.proofs.Reverting.{back_either, back_kept, back_ok}
 use Rattle.boot_core.proofs.Begun.{begun}
 use Rattle.boot_core.proofs.Records.{fits_back, state_kept}
 use Rattle.boot_core.proofs.OnMap.{layout_kept, trailers_moved}

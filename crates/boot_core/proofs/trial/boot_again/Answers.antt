@@ -1,10 +1,9 @@
 use Rattle.std.proofs.Common.{arith, ◌<◌, inl, refl}
-use Rattle.sector_map.specs.Part.{Log, only}
-use Rattle.common.specs.Masks.{is_member}
-use Rattle.machine.proofs.Starting.{intact_kept}
+use Rattle.sector_map.specs.Part.{Log, is_member, only}
+use Rattle.flash_contents.proofs.Starting.{intact_kept}
 use Rattle.boot_core.proofs.Trying.{again_is}
 use Rattle.upload.proofs.Ends.{err_passed}
-use Rattle.machine.proofs.Trying.{again_cut, again_ends}
+use Rattle.flash_contents.proofs.Trying.{again_cut, again_ends}
 use Rattle.boot_core.proofs.Again.{fits_again}
 use Rattle.boot_core.proofs.Records.{has_state, one_erase}
 use Rattle.boot_core.proofs.Booted.{boot_fails, boot_gives}

@@ -1,9 +1,9 @@
 use Rattle.std.proofs.Common.{◌≡◌, ap, arith, refl}
 use Rattle.upload.proofs.Ends.{err_passed}
-use Rattle.upload.specs.Device.{DeviceState}
+use Rattle.machine.specs.Device.{DeviceState}
 use Rattle.machine.specs.Boots.{GoesBack}
-use Rattle.machine.specs.Holding.{Stands}
-use Rattle.machine.proofs.Trying.{back_here, open_of, opened_cut}
+use Rattle.flash_contents.specs.Holding.{Stands}
+use Rattle.flash_contents.proofs.Trying.{back_here, open_of, opened_cut}
 use Rattle.set_log.specs.declared.state.State.{State}
 use Rattle.boot_core.specs.FromTrial.{HasTrial}
 use Rattle.boot_core.proofs.Booted.{boot_after, boot_fails}

@@ -1,10 +1,10 @@
 use Rattle.std.proofs.Common.{◌≡◌, ◌+◌, ◌∙◌, ap, arith, inl, inr, refl, subst, sym}
 use Rattle.std.proofs.lemmas.Result.{IfOk-weaker}
 use Rattle.set_log.specs.Log.{state_of}
-use Rattle.upload.specs.Device.{DeviceState}
+use Rattle.machine.specs.Device.{DeviceState}
 use Rattle.upload.specs.View.{view}
-use Rattle.machine.specs.Holding.{Stands}
-use Rattle.machine.specs.declared.finding.Passage.TheVariants.{Over, Back, Again, Stays, Refused}
+use Rattle.flash_contents.specs.Holding.{Stands}
+use Rattle.flash_contents.specs.declared.finding.Passage.TheVariants.{Over, Back, Again, Stays, Refused}
 use Rattle.decision.specs.Places.{read_as}
 use Rattle.boot_core.specs.FromTrial.{IsLooked}
 use Rattle.boot_core.specs.Places.{reply_in}

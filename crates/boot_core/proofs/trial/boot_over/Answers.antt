@@ -2,7 +2,7 @@ use Rattle.std.proofs.Common.{◌≡◌, ◌+◌, ap, arith, ◌∙◌, subst}
 use Rattle.std.proofs.lemmas.Result.{IfOk-weaker}
 use Rattle.set_log.specs.Log.{state_of}
 use Rattle.upload.proofs.Ends.{err_passed}
-use Rattle.machine.proofs.Trying.{over_cut, over_ends, over_recorded, stands_open, trial_cut}
+use Rattle.flash_contents.proofs.Trying.{over_cut, over_ends, over_recorded, stands_open, trial_cut}
 use Rattle.set_log.specs.declared.state.State.{State}
 use Rattle.boot_core.proofs.Wears.{over_alone, over_worn}
 use Rattle.boot_core.proofs.Booted.{boot_fails}

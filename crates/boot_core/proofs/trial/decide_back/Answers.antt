@@ -2,9 +2,9 @@ use Rattle.std.proofs.Common.{◌≡◌, ℕ, ◌<◌, ◌∙◌, false, None, �
 use Rattle.sector_map.specs.declared.layout.Side.TheVariants.{Primary, Secondary}
 use Rattle.upload.specs.Steady.{IsFront}
 use Rattle.upload.specs.View.{view}
-use Rattle.machine.specs.Starting.{AreIntact, IsLost, IsLowestLost}
-use Rattle.machine.proofs.Starting.{held_lost}
-use Rattle.machine.proofs.Trying.{passage_back, passage_never}
+use Rattle.flash_contents.specs.Starting.{AreIntact, IsLost, IsLowestLost}
+use Rattle.flash_contents.proofs.Starting.{held_lost}
+use Rattle.flash_contents.proofs.Trying.{passage_back, passage_never}
 use Rattle.boot_core.proofs.Looked.{all_intact, lowest_running}
 use Rattle.boot_core.proofs.Passed.{ok_ends, then_ok}
 use Rattle.boot_core.proofs.trial.decide_back.Goals as goal

@@ -1,7 +1,7 @@
 use Rattle.std.proofs.Common.{false, true, ◌∙◌, refl, subst}
 use Rattle.upload.specs.View.{view}
-use Rattle.machine.specs.Reading.{AreSetOk}
-use Rattle.machine.proofs.Trying.{passage_again}
+use Rattle.flash_contents.specs.Reading.{AreSetOk}
+use Rattle.flash_contents.proofs.Trying.{passage_again}
 use Rattle.boot_core.specs.FromTrial.{IsGoingOn}
 use Rattle.boot_core.proofs.Passed.{then_ok}
 use Rattle.boot_core.proofs.trial.decide_trial.Goals as goal

@@ -1,6 +1,6 @@
 use Rattle.std.proofs.Common.{subst}
-use Rattle.machine.specs.Reading.{IsReadOf}
-use Rattle.machine.proofs.Trying.{floor_raised, floor_stays}
+use Rattle.flash_contents.specs.Reading.{IsReadOf}
+use Rattle.flash_contents.proofs.Trying.{floor_raised, floor_stays}
 use Rattle.boot_core.proofs.Passed.{ok_ends}
 use Rattle.boot_core.proofs.trial.floor_of.Goals as goal
 

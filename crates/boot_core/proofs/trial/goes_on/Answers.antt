@@ -1,7 +1,7 @@
 use Rattle.std.proofs.Common.{◌<◌, arith, inr, subst}
 use Rattle.sector_map.specs.declared.layout.Side.TheVariants.{Primary}
 use Rattle.upload.specs.View.{view}
-use Rattle.machine.specs.Starting.{IsLost, IsLowestLost}
+use Rattle.flash_contents.specs.Starting.{IsLost, IsLowestLost}
 use Rattle.boot_core.proofs.Looked.{all_intact}
 use Rattle.boot_core.proofs.Passed.{ok_ends}
 use Rattle.boot_core.proofs.trial.goes_on.Goals as goal

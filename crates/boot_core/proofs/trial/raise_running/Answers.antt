@@ -1,7 +1,7 @@
 use Rattle.std.proofs.Common.{arith, ◌≡◌, ◌≢◌, ◌∙◌, ◌+◌, ◌<◌, length, slice_index, length-set, get_or-set_other, set, sym, subst}
 use Rattle.machine.specs.States.{IsRaised}
-use Rattle.machine.specs.Reading.{IsFloorOf}
-use Rattle.machine.proofs.Trying.{raised_more}
+use Rattle.flash_contents.specs.Reading.{IsFloorOf}
+use Rattle.flash_contents.proofs.Trying.{raised_more}
 use Rattle.boot_core.proofs.Fronts.{running_front}
 use Rattle.boot_core.proofs.Passed.{here_ends}
 use Rattle.boot_core.proofs.trial.raise_running.Goals as goal

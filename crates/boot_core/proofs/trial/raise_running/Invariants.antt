@@ -1,8 +1,8 @@
 use Rattle.std.proofs.Common.{◌≡◌, ◌≤◌, ℕ, length, slice_index}
-use Rattle.upload.specs.Device.{DeviceState}
+use Rattle.machine.specs.Device.{DeviceState}
 use Rattle.upload.specs.View.{view}
 use Rattle.machine.specs.States.{IsRaised}
-use Rattle.machine.specs.Reading.{RunsAt}
+use Rattle.flash_contents.specs.Reading.{RunsAt}
 use Rattle.boot_core.proofs.trial.raise_running.Given as goal
 
 abbrev pub invariant-loop-image : goal.invariant-loop-image

@@ -1,5 +1,5 @@
 use Rattle.std.proofs.lemmas.Result.{IfOk-weaker}
-use Rattle.machine.proofs.Trying.{over_either, over_ok}
+use Rattle.flash_contents.proofs.Trying.{over_either, over_ok}
 use Rattle.boot_core.proofs.Records.{fits_steady}
 use Rattle.boot_core.proofs.trial.record_over.Goals as goal
 

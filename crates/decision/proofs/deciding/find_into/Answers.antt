@@ -1,8 +1,8 @@
 use Rattle.std.proofs.Common.{rules, ◌≡◌, ◌∙◌, length, subst}
 use Rattle.reports.specs.Combination.{IsValid, running_set}
 use Rattle.upload.specs.View.{view}
-use Rattle.machine.specs.Reading.{HasRows, IsReading}
-use Rattle.machine.proofs.Steadying.{taken_below}
+use Rattle.flash_contents.specs.Reading.{HasRows, IsReading}
+use Rattle.flash_contents.proofs.Steadying.{taken_below}
 use Rattle.decision.specs.Found.{IsReadingAt, IsTableHeld}
 use Rattle.decision.specs.Places.{reading_in}
 use Rattle.decision.proofs.deciding.find_into.Goals as goal

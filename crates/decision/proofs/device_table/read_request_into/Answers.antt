@@ -1,5 +1,5 @@
 use Rattle.std.proofs.Common.{rules, ap, subst, sym}
-use Rattle.machine.proofs.Rows.{damaged_request, intact_request}
+use Rattle.flash_contents.proofs.Rows.{damaged_request, intact_request}
 use Rattle.decision.specs.Places.{some_if}
 use Rattle.sector_map.specs.declared.layout.Side.TheVariants.{Secondary}
 use Rattle.image_reading.specs.Slot.{slot_bytes}

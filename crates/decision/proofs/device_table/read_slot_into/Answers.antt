@@ -1,8 +1,8 @@
 use Rattle.std.proofs.Common.{rules, sym, subst}
 use Rattle.machine.specs.Boots.{IsEntryOf}
-use Rattle.machine.proofs.Rows.{read_some}
+use Rattle.flash_contents.proofs.Rows.{read_some}
 use Rattle.image_reading.specs.Slot.{slot_bytes}
-use Rattle.machine.specs.Starting.{HoldsEntry}
+use Rattle.flash_contents.specs.Starting.{HoldsEntry}
 use Rattle.decision.proofs.Described.{described_entry, described_front, described_held, fault_front, fault_held}
 use Rattle.decision.proofs.device_table.read_slot_into.Goals as goal
 

@@ -1,11 +1,11 @@
 use Rattle.std.proofs.Common.{rules, ◌≡◌, ◌∙◌, sym, subst, ap, ◌<◌, arith, ◌+◌, length, slice_index}
 use Rattle.sector_map.specs.Map.{IsLaidOut}
 use Rattle.upload.specs.View.{view}
-use Rattle.machine.specs.Reading.{AreRowsOf}
+use Rattle.flash_contents.specs.Reading.{AreRowsOf}
 use Rattle.decision.specs.Found.{AreReadable, AreRowsHeld}
 use Rattle.decision.proofs.Held.{held_more, held_none, one_more}
 use Rattle.decision.specs.Places.{some_if}
-use Rattle.machine.proofs.Rows.{lowest_damaged, row_none, row_some, rows_more, rows_none, whole_table}
+use Rattle.flash_contents.proofs.Rows.{lowest_damaged, row_none, row_some, rows_more, rows_none, whole_table}
 use Rattle.decision.proofs.Readable.{lowest_at, readable_more, readable_none}
 use Rattle.decision.proofs.device_table.read_table_into.Goals as goal
 

@@ -1,8 +1,8 @@
 use Rattle.std.proofs.Common.{◌≡◌, ◌≤◌, length}
 use Rattle.sector_map.specs.Map.{IsLaidOut}
-use Rattle.upload.specs.Device.{DeviceState}
+use Rattle.machine.specs.Device.{DeviceState}
 use Rattle.upload.specs.View.{view}
-use Rattle.machine.specs.Reading.{AreRowsOf, CanRead}
+use Rattle.flash_contents.specs.Reading.{AreRowsOf, CanRead}
 use Rattle.decision.specs.Found.{AreReadable, AreRowsHeld}
 use Rattle.decision.proofs.device_table.read_table_into.Given as goal
 

@@ -1,9 +1,9 @@
 use Rattle.std.proofs.Common.{◌≡◌, ◌++◌, [], ℕ, List, rules}
 use Rattle.common.proofs.Results.{IfErr-passed}
-use Rattle.common.specs.declared.event.Event.{Event}
-use Rattle.machine.specs.Holding.{DeviceView}
+use Rattle.machine.specs.declared.event.Event.{Event}
+use Rattle.flash_contents.specs.Holding.{DeviceView}
 use Rattle.machine.specs.Intake.{Setup}
-use Rattle.machine.specs.Passing.{StepsTo}
+use Rattle.flash_contents.specs.Passing.{StepsTo}
 use Rattle.machine.specs.Steps.{DeviceEvent}
 use Rattle.machine.specs.declared.reply.Reply.{Reply}
 use Rattle.std.proofs.KnownBytes.{Appends-trans}

@@ -1,5 +1,5 @@
 use Rattle.std.proofs.Common.{◌≡◌, ◌+◌, ◌≤◌, ℕ, List, is_some, length, true}
-use Rattle.common.specs.declared.event.Event.{Event}
+use Rattle.machine.specs.declared.event.Event.{Event}
 use Rattle.device_commands.specs.Telling.{TellsAll}
 use Rattle.inputs.proofs.ScriptLaws.{AreTaken}
 use Rattle.device_commands.proofs.run.run_events.Given as goal

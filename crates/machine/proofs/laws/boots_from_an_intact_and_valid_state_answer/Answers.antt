@@ -1,5 +1,4 @@
-use Rattle.machine.proofs.Stepping.{boots_answer}
-use Rattle.machine.proofs.SoundBoots.{sound_reads}
+use Rattle.machine.proofs.SoundBoots.{boots_answer, sound_reads}
 use Rattle.machine.proofs.laws.boots_from_an_intact_and_valid_state_answer.Goals as goal
 
 pub returns : goal.returns

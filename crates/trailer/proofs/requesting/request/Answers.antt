@@ -4,7 +4,7 @@ use Rattle.flash_model.proofs.Ending.{at_error, ends_passed, ends_then}
 use Rattle.flash_model.proofs.Frame.{same_outside_trans, same_outside_wider}
 use Rattle.sector_map.specs.declared.layout.Side.TheVariants.{Secondary}
 use Rattle.sector_map.proofs.Parts.{keeps_trans, laid_out_kept}
-use Rattle.trailer.specs.declared.kinds.Kind.{Kind}
+use Rattle.common.specs.declared.kind.Kind.{Kind}
 use Rattle.trailer.specs.declared.kinds.Magic.TheVariants.{Good}
 use Rattle.trailer.specs.Fields.{Fields, erased_fields}
 use Rattle.trailer.specs.Standing.{is_good, is_permanent, requested_fields}

@@ -14,7 +14,7 @@ use Rattle.upload.specs.declared.sessions.Upload.{Upload}
 use Rattle.upload.specs.Ending.{EndsUpload}
 use Rattle.upload.specs.View.{view}
 use Rattle.upload.specs.Wear.{journal_of_components}
-use Rattle.upload.specs.declared.error.UploadError.TheVariants as no
+use Rattle.machine.specs.declared.upload_error.UploadError.TheVariants as no
 use Rattle.upload.specs.Taking.{CutsAccept, IsTaken, LeavesAccept}
 use Rattle.upload.proofs.Ends.{ends_flash, ends_well, err_passed, same_off}
 use Rattle.upload.proofs.TakenRow.{equal_blank, equal_log, stopped}

@@ -1,5 +1,4 @@
-use Rattle.std.proofs.Common.{◌-◌, arith, ◌∙◌, ap, subst}
-use Rattle.std.proofs.Common.{Err, Ok, length-append, refl, sym}
+use Rattle.std.proofs.Common.{◌-◌, arith, ◌∙◌, ap, subst, Err, Ok, length-append, refl, sym}
 use Rattle.std.proofs.lemmas.Grind.{common_steps}
 use Rattle.flash_model.specs.Chip.{Chip}
 use Rattle.flash_model.proofs.Ending.{no_error}
@@ -13,7 +12,7 @@ use Rattle.trailer.specs.Fields.{fields_at}
 use Rattle.upload.specs.View.{view}
 use Rattle.upload.specs.Sessions.{session_of}
 use Rattle.upload.specs.Ending.{EndsUpload}
-use Rattle.upload.specs.declared.error.UploadError.TheVariants as no
+use Rattle.machine.specs.declared.upload_error.UploadError.TheVariants as no
 use Rattle.upload.proofs.Views.{view_kept, slot_then_trailer}
 use Rattle.upload.proofs.Ends.{ends_flash, ends_later, ends_well, err_passed, journal_both, off_stops, same_off}
 use Rattle.upload.proofs.RefusedFinish.{done_finish, judged_finish, last_unit, stopped_finish}

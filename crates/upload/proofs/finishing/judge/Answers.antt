@@ -6,7 +6,7 @@ use Rattle.sector_map.specs.Part.{Slot}
 use Rattle.sector_map.specs.declared.layout.Side.TheVariants.{Secondary}
 use Rattle.image_reading.specs.Fault.{IsFirstFault}
 use Rattle.image_reading.specs.Image.{IsIntact}
-use Rattle.upload.specs.declared.error.UploadError.TheVariants as no
+use Rattle.machine.specs.declared.upload_error.UploadError.TheVariants as no
 use Rattle.upload.proofs.Ends.{ends_flash, ends_read, err_passed, only_off}
 use Rattle.upload.proofs.finishing.judge.Goals as goal
 

@@ -5,7 +5,7 @@ use Rattle.manifest.specs.declared.manifest.Component.{Component}
 use Rattle.sector_map.specs.Map.{length_of}
 use Rattle.sector_map.specs.Part.{Slot}
 use Rattle.sector_map.specs.declared.layout.Side.TheVariants.{Secondary}
-use Rattle.upload.specs.Accepted.{AllFit}
+use Rattle.machine.specs.Accepted.{AllFit}
 use Rattle.upload.proofs.judging.all_fit.Goals as goal
 
 abbrev blank : Component

@@ -1,5 +1,5 @@
 use Rattle.std.proofs.Common.{take}
-use Rattle.upload.specs.Accepted.{AllFit}
+use Rattle.machine.specs.Accepted.{AllFit}
 use Rattle.upload.proofs.judging.all_fit.Given as goal
 
 abbrev pub invariant-loop-component : goal.invariant-loop-component

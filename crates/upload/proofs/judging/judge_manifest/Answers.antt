@@ -1,9 +1,10 @@
 use Rattle.std.proofs.Common.{◌∙◌, Err, ap, refl, subst, sym, true≢false}
 use Rattle.flash_model.proofs.Ending.{ends_after, no_error}
 use Rattle.upload.specs.View.{view}
-use Rattle.upload.specs.Accepted.{AllFit, AllFollowAt}
+use Rattle.machine.specs.Accepted.{AllFit}
+use Rattle.upload.specs.Accepted.{AllFollowAt}
 use Rattle.upload.specs.Taking.{Refuses}
-use Rattle.upload.specs.declared.error.UploadError.TheVariants as no
+use Rattle.machine.specs.declared.upload_error.UploadError.TheVariants as no
 use Rattle.upload.proofs.Ends.{ends_flash, ends_read, err_passed, only_off}
 use Rattle.upload.proofs.judging.judge_manifest.Goals as goal
 

@@ -4,7 +4,8 @@ use Rattle.sector_map.proofs.Parts.{keeps_refl, keeps_wider, laid_out_kept}
 use Rattle.flash_model.proofs.Ending.{asleep_trans, ends_after, ends_well, uncut_refl, uncut_trans}
 use Rattle.manifest.specs.declared.manifest.Component.{Component}
 use Rattle.upload.specs.View.{view}
-use Rattle.upload.specs.Accepted.{IsOpened, latest, named_parts}
+use Rattle.upload.specs.Accepted.{IsOpened, named_parts}
+use Rattle.machine.specs.Accepted.{latest}
 use Rattle.upload.proofs.Views.{view_kept, view_long}
 use Rattle.upload.proofs.Opened.{first_parts, keeps_more, latest_at, latest_less, opening_more, opening_wider, opened_more, opened_none}
 use Rattle.upload.proofs.Ends.{err_passed}

@@ -2,7 +2,8 @@ use Rattle.std.proofs.Common.{◌≡◌, ◌+◌, ◌≤◌, false, drop, take}
 use Rattle.flash_model.specs.Chip.{IsUncut}
 use Rattle.sector_map.specs.Map.{Keeps}
 use Rattle.upload.specs.View.{view}
-use Rattle.upload.specs.Accepted.{AreBlank, IsOpened, latest, named_parts}
+use Rattle.upload.specs.Accepted.{AreBlank, IsOpened, named_parts}
+use Rattle.machine.specs.Accepted.{latest}
 use Rattle.upload.specs.Wear.{journal_of_components, worn_of}
 use Rattle.upload.proofs.opening.open_all.Given as goal
 

@@ -1,10 +1,10 @@
 use Rattle.std.proofs.Common.{◌+◌, false, ap, refl, subst}
-use Rattle.common.specs.declared.event.Event.TheVariants as event
+use Rattle.machine.specs.declared.event.Event.TheVariants as event
 use Rattle.sector_map.specs.Part.{any_part}
 use Rattle.boot_core.specs.Calls.{Takes}
 use Rattle.boot_core.specs.Taking.{TouchesNamed}
 use Rattle.boot_core.specs.Device.{Whole, made, seen}
-use Rattle.machine.specs.Holding.{DeviceView}
+use Rattle.flash_contents.specs.Holding.{DeviceView}
 use Rattle.boot_core.proofs.Keeping.{if_err_as, keeps_unstopped}
 use Rattle.boot_core.proofs.Wholes.{whole_of}
 use Rattle.boot_core.proofs.device.Device.accept.Goals as goal

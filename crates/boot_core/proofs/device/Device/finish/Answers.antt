@@ -1,5 +1,5 @@
 use Rattle.std.proofs.Common.{◌+◌, subst}
-use Rattle.common.specs.declared.event.Event.TheVariants as event
+use Rattle.machine.specs.declared.event.Event.TheVariants as event
 use Rattle.sector_map.specs.Part.{incoming_of}
 use Rattle.boot_core.specs.Calls.{FinishesUpload}
 use Rattle.boot_core.specs.Device.{Whole, made, seen}

@@ -1,8 +1,8 @@
 use Rattle.std.proofs.Common.{rules, false, subst}
-use Rattle.machine.specs.Holding.{Holds}
+use Rattle.flash_contents.specs.Holding.{Holds}
 use Rattle.machine.specs.States.{asleep}
-use Rattle.machine.proofs.Stepping.{holds_asleep}
-use Rattle.upload.specs.Device.{Machine}
+use Rattle.flash_contents.proofs.Stepping.{holds_asleep}
+use Rattle.machine.specs.Device.{Machine}
 use Rattle.boot_core.specs.Device.{Whole, seen}
 use Rattle.boot_core.proofs.device.Device.reset.Goals as goal
 

@@ -1,5 +1,5 @@
 use Rattle.std.proofs.Common.{◌+◌}
-use Rattle.common.specs.declared.event.Event.TheVariants as event
+use Rattle.machine.specs.declared.event.Event.TheVariants as event
 use Rattle.sector_map.specs.Part.{incoming_of}
 use Rattle.boot_core.proofs.Wholes.{device_takes}
 use Rattle.boot_core.proofs.device.Device.withdraw.Goals as goal

@@ -1,6 +1,6 @@
 use Rattle.std.proofs.Common.{subst, sym}
-use Rattle.common.specs.declared.event.Event.TheVariants as event
-use Rattle.common.specs.Event.{event_map}
+use Rattle.machine.specs.declared.event.Event.TheVariants as event
+use Rattle.machine.specs.Event.{event_map}
 use Rattle.device_texts.specs.Said.{said_file}
 use Rattle.inputs.specs.Loading.{Loads}
 use Rattle.inputs.specs.Script.{Comes}

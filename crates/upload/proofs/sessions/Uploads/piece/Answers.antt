@@ -11,7 +11,7 @@ use Rattle.upload.specs.Standing.{HasCounts}
 use Rattle.upload.specs.NoSession.{NotReady}
 use Rattle.upload.specs.View.{view}
 use Rattle.upload.specs.declared.sessions.Upload.{Upload}
-use Rattle.upload.specs.declared.error.UploadError.TheVariants as no
+use Rattle.machine.specs.declared.upload_error.UploadError.TheVariants as no
 use Rattle.upload.proofs.Ends.{added_not, ends_flash, ends_read, ends_unstopped, ends_well, no_session_none, not_added, not_no_session, not_too_much, off_stops, stopped_not, too_much_none}
 use Rattle.upload.proofs.Frames.{others_slot, with_others, with_with}
 use Rattle.upload.proofs.OpenOnes.{open_more, open_none, open_nothing, open_to}

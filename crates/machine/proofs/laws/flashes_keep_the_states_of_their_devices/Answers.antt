@@ -1,5 +1,0 @@
-use Rattle.machine.proofs.Lifecycle.{holder_anew}
-use Rattle.machine.proofs.laws.flashes_keep_the_states_of_their_devices.Goals as goal
-
-pub returns : goal.returns
-returns c = holder_anew
