@@ -3,9 +3,9 @@ use Rattle.std.proofs.Common.{◌≡◌, ◌≢◌, ℕ, ◌+◌, ◌<◌, List,
 use Rattle.std.proofs.Common.{sym, ◌∙◌, ap, arith, ⊎_elim, length-set, get_or-set_same, get_or-set_other, unwrap_or}
 use Rattle.std.proofs.lemmas.Bool.{cases_eq}
 use Rattle.std.proofs.lemmas.Option.{unwrap_or-slice_get}
-use Rattle.sector_map.specs.Part.{is_member}
-use Rattle.certificate.specs.Combination.{entry_in}
-use Rattle.certificate.specs.declared.table.Image.{Image}
+use Rattle.common.specs.Masks.{is_member}
+use Rattle.reports.specs.Combination.{entry_in}
+use Rattle.reports.specs.declared.table.Image.{Image}
 use Rattle.flash_contents.specs.Reading.{AreRaisedBy}
 
 module _ (images : List Image) (mask n v : ℕ) (image : Image) (old before : List ℕ) (lt : n < length before)

@@ -12,9 +12,9 @@ use Rattle.machine.specs.Device.{DeviceState}
 use Rattle.upload.specs.Steady.{IsFront, IsRequested}
 use Rattle.upload.proofs.Views.{view_kept}
 use Rattle.machine.specs.States.{wanted_bytes}
-use Rattle.certificate.specs.declared.table.Table.{Table}
+use Rattle.reports.specs.declared.table.Table.{Table}
 use Rattle.flash_contents.specs.Reading.{CanRead, CanReadAt}
-use Rattle.certificate.specs.declared.report.Report.{Report}
+use Rattle.reports.specs.declared.report.Report.{Report}
 use Rattle.set_log.specs.declared.state.State.{State}
 use Rattle.flash_contents.specs.declared.finding.Finding.{Finding}
 use Rattle.flash_contents.specs.declared.finding.Finding.TheVariants.{Decided}

@@ -24,7 +24,7 @@ use Rattle.decision.specs.declared.places.Verdict.TheVariants as verdicts
 use Rattle.boot_core.specs.Found.{IsKeptFor, IsSwapAloneFor, IsToldAgain, StartsFound}
 use Rattle.boot_core.specs.Moving.{settled_parts}
 use Rattle.flash_contents.proofs.Starting.{set_kept}
-use Rattle.certificate.specs.Rightness.{taken_in}
+use Rattle.reports.specs.Rightness.{taken_in}
 use Rattle.boot_core.specs.FromSwap.{IsSettleRecorded}
 
 -- A finding is no decision.

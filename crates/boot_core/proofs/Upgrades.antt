@@ -3,7 +3,7 @@ use Rattle.std.proofs.Common.{◌≡◌, ◌⊎◌, ℕ, ◌+◌, Bool, Ok, ap, 
 use Rattle.flash_model.specs.Chip.{Chip, Ends}
 use Rattle.sector_map.specs.declared.layout.SectorMap.{SectorMap}
 use Rattle.sector_map.specs.Map.{IsLaidOut}
-use Rattle.certificate.specs.declared.table.Table.{Table}
+use Rattle.reports.specs.declared.table.Table.{Table}
 use Rattle.machine.specs.Device.{DeviceState}
 use Rattle.upload.specs.Steady.{IsSteadyAt}
 use Rattle.upload.specs.View.{view}

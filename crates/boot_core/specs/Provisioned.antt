@@ -15,10 +15,10 @@ use Rattle.set_log.specs.declared.state.State.{State}
 use Rattle.image_reading.specs.declared.desc.Desc.{Desc}
 use Rattle.image_reading.specs.Image.{BeginsIntact, IsIntact}
 use Rattle.image_reading.specs.Slot.{slot_bytes}
-use Rattle.certificate.specs.declared.table.Table.{Table}
-use Rattle.certificate.specs.declared.table.Image.{Image}
-use Rattle.certificate.specs.declared.table.Request.TheVariants as request
-use Rattle.certificate.specs.Combination.{IsValid, running_set}
+use Rattle.reports.specs.declared.table.Table.{Table}
+use Rattle.reports.specs.declared.table.Image.{Image}
+use Rattle.reports.specs.declared.table.Request.TheVariants as request
+use Rattle.reports.specs.Combination.{IsValid, running_set}
 use Rattle.machine.specs.Device.{DeviceState}
 use Rattle.common.specs.Bytes.{Starts}
 use Rattle.machine.specs.Finish.{IsImage}

@@ -3,11 +3,11 @@
 
 ghost use Rattle.std.specs.Prelude.{◌<◌, ◌≤◌, ◌≡◌, ℕ, ◌^◌, length};
 ghost use Rattle.sector_map.specs.Map.{HasImage, IsLaidOut};
-ghost use Rattle.sector_map.specs.Part.{is_member};
-ghost use Rattle.certificate.specs.declared.table.Table.{Table};
-ghost use Rattle.certificate.specs.declared.report.Report.{Report};
-ghost use Rattle.certificate.specs.Combination.{entry_in};
-ghost use Rattle.certificate.specs.Rightness.{taken_in};
+ghost use Rattle.common.specs.Masks.{is_member};
+ghost use Rattle.reports.specs.declared.table.Table.{Table};
+ghost use Rattle.reports.specs.declared.report.Report.{Report};
+ghost use Rattle.reports.specs.Combination.{entry_in};
+ghost use Rattle.reports.specs.Rightness.{taken_in};
 ghost use Rattle.flash_contents.specs.Reading.{AreRaisedBy};
 ghost use Rattle.decision.specs.Telling.{Tells};
 ghost use Rattle.decision.specs.Places.{finding_in, read_as};

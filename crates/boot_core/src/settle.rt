@@ -16,7 +16,7 @@ ghost use Rattle.trailer.specs.Settled.{is_confirmed};
 use crate::deciding::{find_again, raised_floors, reply_to};
 use crate::outcome::Outcome;
 use common::limits::MOST_IMAGES;
-use common::mask::{is_member};
+use common::mask::is_member;
 use decision::Verdict;
 use flash_model::{Flash, Result};
 use reports::{Report, Table};

@@ -31,7 +31,7 @@ use decision::read_slot;
 use flash_contents::Passage;
 use flash_model::{Flash, Result};
 use machine::Fault;
-use sector_map::{SectorMap, Side, is_member};
+use sector_map::{SectorMap, Side};
 use set_log::{RecordKind, State, append};
 use trailer::read_trailer;
 

@@ -9,8 +9,8 @@ use Rattle.image_reading.proofs.Descriptions.{front_has_no_fault}
 use Rattle.common.specs.Bytes.{Starts}
 use Rattle.flash_model.specs.Chip.{Chip}
 use Rattle.sector_map.specs.declared.layout.SectorMap.{SectorMap}
-use Rattle.certificate.specs.declared.table.Request.{Request}
-use Rattle.certificate.specs.declared.table.Request.TheVariants as request
+use Rattle.reports.specs.declared.table.Request.{Request}
+use Rattle.reports.specs.declared.table.Request.TheVariants as request
 use Rattle.upload.specs.Steady.{IsFront, request_in}
 use Rattle.machine.specs.Finish.{IsImage}
 use Rattle.upload.specs.View.{view}

@@ -6,7 +6,7 @@ use Rattle.sector_map.specs.declared.layout.SectorMap.{SectorMap}
 use Rattle.common.specs.Masks.{is_member}
 use Rattle.reports.specs.declared.table.Image.{Image}
 use Rattle.upload.specs.View.{view}
-use Rattle.certificate.specs.declared.table.Table.{Table}
+use Rattle.reports.specs.declared.table.Table.{Table}
 use Rattle.flash_contents.specs.declared.finding.Reading.{Reading}
 use Rattle.flash_contents.specs.declared.finding.Reading.TheVariants.{Read}
 use Rattle.decision.specs.Found.{AreReadable, IsDamagedAt, IsLowestAt, IsReadingAt, IsRowAt}

@@ -1,9 +1,9 @@
 -- Results of calls that fill places of their caller, read as if they were returned.
 use Rattle.std.specs.Prelude.{ℕ, Bool, true, false, Option, Some, None, Result, Ok, Err}
-use Rattle.certificate.specs.declared.table.Request.{Request}
-use Rattle.certificate.specs.declared.table.Request.TheVariants as request
-use Rattle.certificate.specs.declared.table.Table.{Table}
-use Rattle.certificate.specs.declared.report.Report.{Report}
+use Rattle.reports.specs.declared.table.Request.{Request}
+use Rattle.reports.specs.declared.table.Request.TheVariants as request
+use Rattle.reports.specs.declared.table.Table.{Table}
+use Rattle.reports.specs.declared.report.Report.{Report}
 use Rattle.flash_contents.specs.declared.finding.Finding.{Finding}
 use Rattle.flash_contents.specs.declared.finding.Finding.TheVariants as finding
 use Rattle.flash_contents.specs.declared.finding.Reading.{Reading}

@@ -10,10 +10,11 @@ ghost use Rattle.decision.specs.Rows.{PushesRow, ReadsRequest, ReadsRow, ReadsSl
 
 use arrayvec::ArrayVec;
 use common::limits::MOST_IMAGES;
+use common::mask::is_member;
 use flash_contents::Reading;
 use flash_model::{Flash, Result};
 use image_reading::{Desc, intact_image_into};
-use sector_map::{SectorMap, Side, is_member};
+use sector_map::{SectorMap, Side};
 use trailer::standing;
 
 /// Returns what a decision uses of an image's description.

@@ -9,9 +9,9 @@ use Rattle.manifest.specs.Codes as manifest
 use Rattle.machine.specs.declared.upload_error.UploadError.{UploadError}
 use Rattle.machine.specs.declared.upload_error.UploadError.TheVariants.{NotAnImage}
 use Rattle.machine.specs.UploadCodes as upload
-use Rattle.certificate.specs.declared.report.Report.{Report}
-use Rattle.certificate.specs.declared.report.ReportedImage.{ReportedImage}
-use Rattle.certificate.specs.ReportText.{report_text}
+use Rattle.reports.specs.declared.report.Report.{Report}
+use Rattle.reports.specs.declared.report.ReportedImage.{ReportedImage}
+use Rattle.reports.specs.ReportText.{report_text}
 use Rattle.machine.specs.declared.error.Fault.{Fault}
 use Rattle.machine.specs.declared.error.Fault.TheVariants.{RunningDamaged, Manifest, Upload}
 use Rattle.machine.specs.Codes as boot

@@ -7,8 +7,8 @@ ghost use Rattle.device_texts.specs.ReplyText.{decision_text, fault_text, group_
 ghost use Rattle.device_texts.specs.ReplyText.{refused_fault_text, reply_text, set_text, upload_text};
 
 use common::limits::MOST_IMAGES;
+use common::mask::is_member;
 use machine::{Fault, Reply, UploadError};
-use sector_map::is_member;
 use std::alloc::{AllocError, Global};
 use std::fmt;
 

@@ -18,7 +18,7 @@ use Rattle.upload.specs.View.{view}
 use Rattle.upload.proofs.Views.{view_kept}
 use Rattle.machine.specs.Device.{DeviceState}
 use Rattle.upload.specs.Steady.{IsFront, IsImageAt, IsSteadyAt, logged}
-use Rattle.certificate.specs.declared.table.Table.{Table}
+use Rattle.reports.specs.declared.table.Table.{Table}
 use Rattle.machine.specs.States.{wanted_bytes}
 use Rattle.machine.specs.Boots.{IsDecision}
 use Rattle.flash_contents.specs.Holding.{IsSwapping}

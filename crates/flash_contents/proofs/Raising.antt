@@ -6,11 +6,11 @@ use Rattle.common.specs.Masks.{is_member}
 use Rattle.image_reading.specs.declared.desc.Desc.{Desc}
 use Rattle.image_reading.specs.Image.{IsIntact}
 use Rattle.machine.specs.Device.{DeviceState, Wanted}
-use Rattle.certificate.specs.declared.table.Table.{Table}
-use Rattle.certificate.specs.declared.table.Image.{Image}
-use Rattle.certificate.specs.declared.table.Entry.{Entry}
-use Rattle.certificate.specs.declared.table.Request.{Request}
-use Rattle.certificate.specs.Combination.{entry_in}
+use Rattle.reports.specs.declared.table.Table.{Table}
+use Rattle.reports.specs.declared.table.Image.{Image}
+use Rattle.reports.specs.declared.table.Entry.{Entry}
+use Rattle.reports.specs.declared.table.Request.{Request}
+use Rattle.reports.specs.Combination.{entry_in}
 use Rattle.machine.specs.States.{wanted_bytes, IsRaised, running_after}
 use Rattle.machine.specs.Boots.{IsEntryOf, IsRequestOf, IsRowOf, IsTableOf, IsDecision}
 use Rattle.flash_contents.specs.Reading.{AreRaisedBy}

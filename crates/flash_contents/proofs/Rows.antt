@@ -19,7 +19,7 @@ use Rattle.reports.specs.declared.table.Entry.{Entry}
 use Rattle.machine.specs.States.{entry_of}
 use Rattle.machine.specs.Boots.{IsEntryOf, IsRequestOf, IsRowOf, IsTableOf, IsLowestDamaged}
 use Rattle.flash_contents.specs.Reading.{IsReadOf, CanReadAt, CanRead, IsRowRead, AreRowsOf}
-use Rattle.certificate.specs.declared.table.Request.TheVariants as request
+use Rattle.reports.specs.declared.table.Request.TheVariants as request
 use Rattle.common.specs.declared.kind.Kind as request_kind
 use Rattle.image_reading.proofs.Descriptions.{intact-unique}
 use Rattle.upload.proofs.Images.{same_front}

@@ -5,8 +5,8 @@ use Rattle.sector_map.specs.declared.layout.SectorMap.{SectorMap}
 use Rattle.sector_map.specs.declared.layout.Side.{Side}
 use Rattle.common.specs.Masks.{is_member}
 use Rattle.swap_scratch.specs.Swap.{steps_done, steps_in_all, sum_over}
-use Rattle.certificate.specs.declared.report.Report.{Report}
-use Rattle.certificate.specs.Rightness.{taken_in}
+use Rattle.reports.specs.declared.report.Report.{Report}
+use Rattle.reports.specs.Rightness.{taken_in}
 use Rattle.flash_contents.specs.declared.finding.Finding.{Finding}
 use Rattle.flash_contents.specs.declared.finding.Finding.TheVariants.{Decided, Damaged, Invalid}
 use Rattle.machine.specs.declared.reply.Reply.{Reply}

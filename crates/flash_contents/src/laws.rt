@@ -1,7 +1,7 @@
 //! Laws of flashes: what trailers, booted devices and new devices say of the state of a device.
 
 ghost use Rattle.std.specs.Prelude.{◌≡◌, ◌<◌, ℕ, true, false, Some};
-ghost use Rattle.sector_map.specs.Part.{is_member};
+ghost use Rattle.common.specs.Masks.{is_member};
 ghost use Rattle.trailer.specs.declared.kinds.SwapType.TheVariants.{Revert};
 ghost use Rattle.machine.specs.Device.{DeviceState, Machine, Trial, Wanted};
 ghost use Rattle.upload.specs.Steady.{IsSteadyAt};

@@ -19,7 +19,7 @@ use Rattle.set_log.specs.declared.state.RecordKind.{RecordKind}
 use Rattle.set_log.specs.declared.state.RecordKind.TheVariants.{Steady, Swap, Settle, Trial, Back, BackSettle}
 use Rattle.set_log.specs.declared.state.State.{State}
 use Rattle.upload.specs.View.{view}
-use Rattle.certificate.specs.declared.table.Table.{Table}
+use Rattle.reports.specs.declared.table.Table.{Table}
 use Rattle.flash_contents.specs.Reading.{IsFinding, IsReading}
 use Rattle.flash_contents.specs.declared.finding.Finding.{Finding}
 use Rattle.flash_contents.specs.declared.finding.Finding.TheVariants as finding

@@ -18,7 +18,7 @@ use decision::{find, read_table};
 use flash_contents::{Finding, Reading};
 use flash_model::{Flash, is_erased};
 use image_reading::{Desc, ImageError, SlotError, describe_slot};
-use sector_map::{SectorMap, Side, is_member};
+use sector_map::{SectorMap, Side};
 use set_log::{RecordKind, State};
 use std::alloc::{AllocError, Global};
 use swap_scratch::{Progress, swap_progress};

@@ -7,10 +7,10 @@ use Rattle.std.proofs.Math.Numerals.{add-one}
 use Rattle.std.proofs.Common.{true≢false}
 use Rattle.std.proofs.lemmas.Option.{none-some}
 use Rattle.machine.specs.declared.event.Event.TheVariants as event
-use Rattle.sector_map.specs.Part.{is_member}
-use Rattle.certificate.specs.declared.table.Table.{Table}
-use Rattle.certificate.specs.declared.report.Report.{Report}
-use Rattle.certificate.specs.Rightness.{taken_in}
+use Rattle.common.specs.Masks.{is_member}
+use Rattle.reports.specs.declared.table.Table.{Table}
+use Rattle.reports.specs.declared.report.Report.{Report}
+use Rattle.reports.specs.Rightness.{taken_in}
 use Rattle.machine.specs.Device.{DeviceState, Machine, Trial}
 use Rattle.machine.specs.States.{IsConfirmed, IsRaised, IsBegun, left_after, running_after, with_taken, wanted_bytes}
 use Rattle.machine.specs.Boots.{Boots, IsDecision, IsOver, IsReadAs, IsReported, IsTaken}

@@ -2,13 +2,13 @@
 use Rattle.std.proofs.Common.{◌≡◌, ℕ, Bool, sym, ◌∙◌, subst}
 use Rattle.std.proofs.lemmas.Option.{none-some}
 use mathlib.Core.Path.{fun_ext}
-use Rattle.sector_map.specs.Part.{is_member}
+use Rattle.common.specs.Masks.{is_member}
 use Rattle.machine.specs.Device.{DeviceState}
-use Rattle.certificate.specs.declared.table.Table.{Table}
-use Rattle.certificate.specs.declared.report.Report.{Report}
-use Rattle.certificate.specs.Combination.{IsValid, IsGreatest, running_set}
-use Rattle.certificate.specs.Rightness.{IsRight, taken_in}
-use Rattle.certificate.specs.StandardOrder.{IsInStandardOrder}
+use Rattle.reports.specs.declared.table.Table.{Table}
+use Rattle.reports.specs.declared.report.Report.{Report}
+use Rattle.reports.specs.Combination.{IsValid, IsGreatest, running_set}
+use Rattle.reports.specs.Rightness.{IsRight, taken_in}
+use Rattle.reports.specs.StandardOrder.{IsInStandardOrder}
 use Rattle.machine.specs.Boots.{IsTableOf, IsDecision, IsReported, IsLowestDamaged}
 use Rattle.machine.proofs.Tables.{running_bytes}
 use Rattle.machine.proofs.Unique.{one_greatest}

@@ -5,13 +5,13 @@ use Rattle.std.specs.Prelude.{IsSomeAnd, unwrap_or}
 use Rattle.std.proofs.lemmas.Option.{none-some}
 use Rattle.common.specs.Masks.{is_member}
 use Rattle.version_order.specs.Order.{IsAtLeast}
-use Rattle.certificate.specs.declared.table.Table.{Table}
-use Rattle.certificate.specs.declared.table.Image.{Image}
-use Rattle.certificate.specs.declared.table.Entry.{Entry}
-use Rattle.certificate.specs.declared.table.Request.{Request}
-use Rattle.certificate.specs.declared.table.Request.TheVariants as request
-use Rattle.certificate.specs.Rightness.{taken_in}
-use Rattle.certificate.specs.Combination.{entry_in, intact_entry, running_set, IsValid}
+use Rattle.reports.specs.declared.table.Table.{Table}
+use Rattle.reports.specs.declared.table.Image.{Image}
+use Rattle.reports.specs.declared.table.Entry.{Entry}
+use Rattle.reports.specs.declared.table.Request.{Request}
+use Rattle.reports.specs.declared.table.Request.TheVariants as request
+use Rattle.reports.specs.Rightness.{taken_in}
+use Rattle.reports.specs.Combination.{entry_in, intact_entry, running_set, IsValid}
 use Rattle.machine.specs.Device.{DeviceState, Trial, Wanted}
 use Rattle.machine.specs.States.{IsBegun, IsConfirmed, left_after, reverted, running_after}
 use Rattle.machine.specs.States.{settled, with_taken, tried_again, wanted_bytes, with_confirmed}

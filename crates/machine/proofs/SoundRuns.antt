@@ -6,8 +6,8 @@ use Rattle.machine.specs.declared.event.Event.TheVariants as event
 use Rattle.flash_model.specs.declared.error.FlashError.TheVariants as flash
 use Rattle.sector_map.specs.declared.layout.SectorMap.{SectorMap}
 use Rattle.manifest.specs.declared.manifest.Component.{Component}
-use Rattle.certificate.specs.declared.table.Request.{Request}
-use Rattle.certificate.specs.declared.table.Request.TheVariants as request
+use Rattle.reports.specs.declared.table.Request.{Request}
+use Rattle.reports.specs.declared.table.Request.TheVariants as request
 use Rattle.machine.specs.declared.upload_error.UploadError.{UploadError}
 use Rattle.machine.specs.declared.upload_error.UploadError.TheVariants as upload
 use Rattle.machine.specs.Device.{DeviceState, Machine, Session, Wanted, closed}

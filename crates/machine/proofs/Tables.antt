@@ -2,16 +2,16 @@
 use Rattle.std.proofs.Common.{◌≡◌, ℕ, ◌<◌, ◌≤◌, Bool, true, List, length, Option, Some, None, refl}
 use Rattle.std.proofs.Common.{sym, ◌∙◌, ap, arith, slice_get, IsSomeAnd, ⊎_elim, get_or}
 use Rattle.std.proofs.lemmas.Option.{slice_get_cases, none-some}
-use Rattle.sector_map.specs.Part.{is_member}
+use Rattle.common.specs.Masks.{is_member}
 use Rattle.machine.specs.Device.{DeviceState, Wanted}
-use Rattle.certificate.specs.declared.table.Table.{Table}
-use Rattle.certificate.specs.declared.table.Image.{Image}
-use Rattle.certificate.specs.declared.table.Entry.{Entry}
-use Rattle.certificate.specs.declared.table.Request.{Request}
-use Rattle.certificate.specs.Combination.{IsValid, image_at, intact_entry}
+use Rattle.reports.specs.declared.table.Table.{Table}
+use Rattle.reports.specs.declared.table.Image.{Image}
+use Rattle.reports.specs.declared.table.Entry.{Entry}
+use Rattle.reports.specs.declared.table.Request.{Request}
+use Rattle.reports.specs.Combination.{IsValid, image_at, intact_entry}
 use Rattle.version_order.specs.Order.{IsAtLeast}
 use Rattle.machine.specs.Boots.{IsEntryOf, IsRequestOf, IsTableOf, IsDecision}
-use Rattle.certificate.specs.declared.table.Request.TheVariants as request
+use Rattle.reports.specs.declared.table.Request.TheVariants as request
 
 entry_bytes : (held : Option (List ℕ)) (entry : Entry) → IsEntryOf held entry → (bytes : List ℕ) × (held ≡ Some bytes)
 entry_bytes None entry is = absurd is

@@ -6,13 +6,13 @@ use Rattle.image_reading.specs.Image.{IsIntact}
 use Rattle.image_reading.proofs.Descriptions.{intact-unique}
 use Rattle.machine.specs.States.{entry_of}
 use Rattle.machine.specs.Device.{DeviceState, Wanted}
-use Rattle.certificate.specs.declared.table.Table.{Table}
-use Rattle.certificate.specs.declared.table.Image.{Image}
-use Rattle.certificate.specs.declared.table.Entry.{Entry}
-use Rattle.certificate.specs.declared.table.Request.{Request}
-use Rattle.certificate.specs.Combination.{IsGreatest}
-use Rattle.certificate.specs.declared.report.Report.{Report}
-use Rattle.certificate.specs.Rightness.{taken_in}
+use Rattle.reports.specs.declared.table.Table.{Table}
+use Rattle.reports.specs.declared.table.Image.{Image}
+use Rattle.reports.specs.declared.table.Entry.{Entry}
+use Rattle.reports.specs.declared.table.Request.{Request}
+use Rattle.reports.specs.Combination.{IsGreatest}
+use Rattle.reports.specs.declared.report.Report.{Report}
+use Rattle.reports.specs.Rightness.{taken_in}
 use Rattle.machine.specs.Boots.{IsEntryOf, IsReported, IsRequestOf, IsRowOf, IsTableOf}
 use Rattle.reports.specs.declared.table.Request.TheVariants as request
 

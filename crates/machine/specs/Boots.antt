@@ -1,17 +1,17 @@
 -- The steps of a machine that boots, and of one that confirms an image.
 use Rattle.std.specs.Prelude.{◌≡◌, ◌⊎◌, ℕ, ◌+◌, ◌<◌, Bool, true, false, List, length, Option, Some, None, slice_get}
 use Rattle.std.specs.Prelude.{slice_index}
-use Rattle.sector_map.specs.Part.{is_member}
+use Rattle.common.specs.Masks.{is_member}
 use Rattle.common.specs.declared.kind.Kind.TheVariants.{Permanent}
-use Rattle.certificate.specs.declared.table.Table.{Table}
-use Rattle.certificate.specs.declared.table.Image.{Image}
-use Rattle.certificate.specs.declared.table.Entry.{Entry}
-use Rattle.certificate.specs.declared.table.Request.{Request}
-use Rattle.certificate.specs.declared.table.Request.TheVariants as request
-use Rattle.certificate.specs.declared.report.Report.{Report}
-use Rattle.certificate.specs.Combination.{IsValid, IsGreatest, running_set}
-use Rattle.certificate.specs.Rightness.{IsRight, taken_in}
-use Rattle.certificate.specs.StandardOrder.{IsInStandardOrder}
+use Rattle.reports.specs.declared.table.Table.{Table}
+use Rattle.reports.specs.declared.table.Image.{Image}
+use Rattle.reports.specs.declared.table.Entry.{Entry}
+use Rattle.reports.specs.declared.table.Request.{Request}
+use Rattle.reports.specs.declared.table.Request.TheVariants as request
+use Rattle.reports.specs.declared.report.Report.{Report}
+use Rattle.reports.specs.Combination.{IsValid, IsGreatest, running_set}
+use Rattle.reports.specs.Rightness.{IsRight, taken_in}
+use Rattle.reports.specs.StandardOrder.{IsInStandardOrder}
 use Rattle.image_reading.specs.declared.desc.Desc.{Desc}
 use Rattle.image_reading.specs.Image.{IsIntact}
 use Rattle.machine.specs.Device.{DeviceState, Machine, Trial, Wanted}

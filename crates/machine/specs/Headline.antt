@@ -2,12 +2,12 @@
 use Rattle.std.specs.Prelude.{◌≡◌, ℕ, ◌+◌, Bool, true, false, List, replicate, take, drop, Option, Some, None}
 use Rattle.std.specs.Prelude.{slice_get, if◌then◌else◌}
 use Rattle.machine.specs.declared.event.Event.TheVariants as event
-use Rattle.sector_map.specs.Part.{is_member}
-use Rattle.certificate.specs.declared.table.Table.{Table}
-use Rattle.certificate.specs.declared.report.Report.{Report}
-use Rattle.certificate.specs.Combination.{IsGreatest}
-use Rattle.certificate.specs.Rightness.{IsRight, taken_in}
-use Rattle.certificate.specs.StandardOrder.{IsInStandardOrder}
+use Rattle.common.specs.Masks.{is_member}
+use Rattle.reports.specs.declared.table.Table.{Table}
+use Rattle.reports.specs.declared.report.Report.{Report}
+use Rattle.reports.specs.Combination.{IsGreatest}
+use Rattle.reports.specs.Rightness.{IsRight, taken_in}
+use Rattle.reports.specs.StandardOrder.{IsInStandardOrder}
 use Rattle.common.specs.declared.kind.Kind.TheVariants.{Permanent}
 use Rattle.machine.specs.Device.{DeviceState, Machine, Trial, Wanted}
 use Rattle.machine.specs.States.{asleep, wanted_bytes, IsRaised}

@@ -5,9 +5,9 @@
 
 ghost use Rattle.std.specs.Prelude.{◌≡◌, ◌⊎◌, ◌+◌, ◌++◌, ℕ, Bool, true, List, Some, length, take, drop, slice_get};
 ghost use Rattle.machine.specs.declared.event.Event.TheVariants as event;
-ghost use Rattle.certificate.specs.declared.table.Table.{Table};
-ghost use Rattle.certificate.specs.declared.report.Report.{Report};
-ghost use Rattle.certificate.specs.Rightness.{taken_in};
+ghost use Rattle.reports.specs.declared.table.Table.{Table};
+ghost use Rattle.reports.specs.declared.report.Report.{Report};
+ghost use Rattle.reports.specs.Rightness.{taken_in};
 ghost use Rattle.machine.specs.Device.{DeviceState, Machine};
 ghost use Rattle.machine.specs.Boots.{Boots, IsAllSound, IsReported, IsTableOf, is_answer};
 ghost use Rattle.machine.specs.Headline.{AreCut, HasFinished, IsBootedAt, StartsGreatest};

@@ -1,7 +1,7 @@
 use Rattle.std.proofs.Common.{arith, inl, inr, refl, subst, sym}
 use Rattle.sector_map.proofs.Parts.{keeps_wider, laid_out_kept}
 use Rattle.set_log.specs.declared.state.RecordKind.TheVariants.{Settle, Swap}
-use Rattle.certificate.specs.declared.table.Table.{Table}
+use Rattle.reports.specs.declared.table.Table.{Table}
 use Rattle.machine.specs.Device.{DeviceState}
 use Rattle.upload.proofs.Ends.{err_passed}
 use Rattle.upload.proofs.Views.{view_kept}

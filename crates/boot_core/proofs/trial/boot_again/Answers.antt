@@ -1,5 +1,6 @@
 use Rattle.std.proofs.Common.{arith, ◌<◌, inl, refl}
-use Rattle.sector_map.specs.Part.{Log, is_member, only}
+use Rattle.sector_map.specs.Part.{Log, only}
+use Rattle.common.specs.Masks.{is_member}
 use Rattle.flash_contents.proofs.Starting.{intact_kept}
 use Rattle.boot_core.proofs.Trying.{again_is}
 use Rattle.upload.proofs.Ends.{err_passed}
