@@ -1,4 +1,4 @@
-use Rattle.boot_cli.proofs.sweeping.sweep_images.Given as goal
+use Rattle.sweep.proofs.command.sweep_images.Given as goal
 
 -- The token of the flash.
 abbrev pub ghosts-provision_in_memory : goal.ghosts-provision_in_memory

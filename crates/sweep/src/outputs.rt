@@ -1,39 +1,15 @@
-//! `bootswap sweep --merge`: adds up the outputs of the parts of a sweep.
-ghost use Rattle.std.specs.Prelude.{IfOk, IfSome, OnOk};
+//! Runs `bootswap sweep --merge`: adds up the outputs of the parts of a sweep.
+ghost use Rattle.std.specs.Prelude.{IfSome, OnOk};
 ghost use Rattle.device_commands.specs.ProvisionEnd.{AreOthers};
 ghost use Rattle.host.specs.Input.{KeepsFiles};
-ghost use Rattle.boot_cli.specs.SweepEnd.{AnswersMerge, KeepsOutputs};
+ghost use Rattle.sweep.specs.SweepEnd.{KeepsOutputs};
 
-use crate::sweeping::{check_picture, hold_picture, make_picture, write_swept};
-use device_texts::{Form, NoteList};
-use host::{
-    Answer, BadText, FlashFault, Host, MOST_FILE, Refusal, Source, SourceFault, refuse_input,
-};
+use crate::found::Found;
+use crate::merging::add_output;
+use crate::picture_file::{check_picture, hold_picture, make_picture};
+use crate::swept::Swept;
+use host::{BadText, FlashFault, Host, MOST_FILE, Refusal, Source, SourceFault, refuse_input};
 use std::alloc::Global;
-use std::io::Write;
-use sweep::{Found, Swept, add_output};
-
-/// Reads the outputs of the parts of a sweep from `host`, and writes to `out` the output of all their
-/// runs, in this form. `merge_outputs` says what it reads and makes.
-///
-/// # Errors
-/// Those of `merge_outputs`, and `CannotWrite` if the answer can't be written.
-pub fn run_merge<H: Host, O: Write>(
-    alloc: Global,
-    form: Form,
-    outputs: &[&str],
-    picture: Option<&str>,
-    is_forced: bool,
-    host: &mut H,
-    out: &mut O,
-) -> Result<Answer, Refusal>
-    ensures answers { IfOk result (λ answer.
-        AnswersMerge form answer (O.contents out.old) (O.contents out.new)) }
-    ensures outputs { KeepsOutputs outputs.now picture.entry (H.file host.old) (H.file host.new) }
-{
-    let swept = merge_outputs(alloc, outputs, picture, is_forced, host)?;
-    write_swept(alloc, form, &NoteList::new(alloc), &swept, out)
-}
 
 /// Reads the outputs of the parts of a sweep from `host`, and returns the result of all their runs.
 ///

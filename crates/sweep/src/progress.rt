@@ -1,9 +1,49 @@
-//! Prints the progress of a sweep on standard error while it runs.
+//! Watches the progress of a sweep, and prints it on standard error.
 
 use host::Host;
 use std::io;
 use std::io::Write;
-use sweep::{Cutting, Step, Watch};
+
+/// How far the runs with power cuts are.
+#[derive(Clone, Copy)]
+pub struct Cutting {
+    /// The number of first cuts whose runs are all finished.
+    pub done: u64,
+    /// The number of first cuts.
+    pub all: u64,
+    /// The number of finished runs with a second cut, among those of the current first cut.
+    pub seconds_done: u64,
+    /// The number of runs with a second cut, among those of the current first cut.
+    pub seconds: u64,
+    /// The number of runs so far.
+    pub runs: u64,
+    /// The number of them with an unexpected end.
+    pub others: u64,
+    /// The number of them in which a boot was refused.
+    pub refused: u64,
+}
+
+/// A step of a sweep.
+#[derive(Clone, Copy)]
+pub enum Step {
+    /// The first run, without a power cut, which counts the writes.
+    Counting {
+        /// The number of the event, from 1.
+        event: usize,
+        /// The number of events.
+        events: usize,
+    },
+    /// Another run without a power cut, which finds what runs at its end.
+    Uncut,
+    /// The runs with power cuts.
+    Cutting(Cutting),
+}
+
+/// Watches the progress of a sweep.
+pub trait Watch {
+    /// Sees the start of a step, and the end of each run with power cuts.
+    fn see(&mut self, step: Step);
+}
 
 /// Writes the progress of a sweep to standard error, if that is a terminal.
 #[derive(Drop)]

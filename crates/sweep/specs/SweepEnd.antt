@@ -1,5 +1,5 @@
 -- The result of `sweep`: what it read, and which files it keeps.
-use Rattle.std.specs.Prelude.{◌≡◌, ◌≢◌, ◌⊎◌, ℕ, Bool, IsSomeAnd, IsTrue, List, [], ◌∷◌, None, Option, Some, codes, if◌then◌else◌}
+use Rattle.std.specs.Prelude.{◌≡◌, ◌≢◌, ◌⊎◌, ℕ, Bool, IsSomeAnd, IsTrue, List, [], ◌∷◌, None, Option, Some, codes}
 use Rattle.std.specs.Io.KnownBytes.{Appends, Keeps}
 use Rattle.std.specs.Borrow.{Bor}
 use Rattle.common.specs.Lines.{lines_of}
@@ -9,7 +9,6 @@ use Rattle.device_texts.specs.LineText.{IsLineText}
 use Rattle.device_texts.specs.Said.{Said}
 use Rattle.device_texts.specs.Said as said
 use Rattle.host.specs.declared.answer.Answer.{Answer}
-use Rattle.host.specs.declared.answer.Answer.TheVariants.{Done, Refused}
 use Rattle.host.specs.declared.source.Source.{Source}
 use Rattle.host.specs.declared.source.Source.TheVariants.{StandardInput, File}
 use Rattle.inputs.specs.declared.device_input.BadMap.{BadMap}
@@ -22,7 +21,7 @@ use Rattle.device_texts.specs.declared.form.Form.{Form}
 use Rattle.device_texts.specs.DeviceFile.{IsDeviceFile}
 use Rattle.device_commands.specs.ProvisionEnd.{AreOthers, KeepsWords}
 use Rattle.inputs.specs.Script.{IsScript, known_after_each}
-use Rattle.sweep.specs.Swept.{is_good, written}
+use Rattle.sweep.specs.Swept.{answer_of, written}
 use Rattle.sweep.specs.declared.swept.Swept.{Swept}
 use Rattle.sweep.specs.declared.swept.Swept.TheVariants as swept
 
@@ -55,10 +54,6 @@ FindsSweep (swept.RefusedMap refused) device script input files =
 FindsSweep (swept.RefusedDevice fault) device script input files =
     SweepsDevice device script input files
 FindsSweep swept.Nothing device script input files = ⊥
-
--- The answer: `Refused` if something is refused, or if a run had an unexpected end.
-abbrev pub answer_of : Swept → Answer
-answer_of it = if is_good it then Done else Refused
 
 -- A writer took the result of a sweep in this form. A JSON object may have notes.
 pub record WritesSwept (form : Form) (answer : Answer) (it : Swept) (old new : Option (List ℕ))

@@ -1,5 +1,5 @@
 use Rattle.std.proofs.lemmas.Result.{IfOk-weaker}
-use Rattle.boot_cli.proofs.merging.run_merge.Goals as goal
+use Rattle.boot_cli.proofs.answering.answer_merge.Goals as goal
 
 -- The result of the runs was written, without notes.
 pub returns-clause-answers : goal.returns-clause-answers

@@ -1,5 +1,5 @@
-use Rattle.boot_cli.proofs.SweepLaws.{apart_more}
-use Rattle.boot_cli.proofs.sweeping.refuse_named.Goals as goal
+use Rattle.sweep.proofs.SweepEndLaws.{apart_more}
+use Rattle.sweep.proofs.command.refuse_named.Goals as goal
 
 -- The file that the next line names is apart too.
 pub loop-lines-preserved : goal.loop-lines-preserved

@@ -1,9 +1,7 @@
-use Rattle.std.proofs.Common.{map}
 use Rattle.std.proofs.lemmas.Result.{IfOk-weaker}
-use Rattle.boot_cli.specs.SweepEnd.{AnswersSweep}
-use Rattle.boot_cli.proofs.sweeping.run_sweep.Goals as goal
+use Rattle.boot_cli.proofs.answering.answer_sweep.Goals as goal
 
--- The result of the sweep was written, without notes.
+-- The result of the sweep was written, with some notes.
 pub returns-clause-answers : goal.returns-clause-answers
 returns-clause-answers g c =
     IfOk-weaker c.write_swept.result _ _

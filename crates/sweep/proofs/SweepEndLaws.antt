@@ -1,8 +1,6 @@
 -- The result of a sweep from what it read in turn, and the files that it keeps.
-use Rattle.std.proofs.Common.{◌≡◌, ◌⊎◌, IfOk, Ok, Result, ℕ, Bool, List, [], ◌∷◌, None, Option, Some, inl, inr, subst, sym}
+use Rattle.std.proofs.Common.{◌⊎◌, ℕ, Bool, List, [], ◌∷◌, None, Option, Some, inl, inr, subst, sym}
 use Rattle.std.proofs.KnownBytes.{Appends-kept}
-use Rattle.std.proofs.lemmas.Result.{IfOk-weaker}
-use Rattle.host.specs.declared.error.Refusal.{Refusal}
 use Rattle.std.specs.Io.KnownBytes.{Keeps}
 use Rattle.common.specs.Lines.{lines_of}
 use Rattle.device_texts.specs.LineText.{IsLineText}
@@ -22,7 +20,7 @@ use Rattle.host.specs.declared.source.Source.TheVariants.{StandardInput, File}
 use Rattle.host.specs.Doings.{KeepsSource}
 use Rattle.host.specs.Input.{FileBytes, Gives, IsKnownAs, KeepsFiles, KeepsOthers}
 use Rattle.device_commands.specs.ProvisionEnd.{AreOthers}
-use Rattle.boot_cli.specs.SweepEnd.{FindsSweep, HasDevice, WritesSwept, KeepsBesides, KeepsOutputs, IsNamedBy, IsNamedIn, IsOther, KeepsInputs, KeepsRead, LineNames, SaysFile, SomeNames, SweepsDevice}
+use Rattle.sweep.specs.SweepEnd.{FindsSweep, HasDevice, WritesSwept, KeepsBesides, KeepsOutputs, IsNamedBy, IsNamedIn, IsOther, KeepsInputs, KeepsRead, LineNames, SaysFile, SomeNames, SweepsDevice}
 use Rattle.inputs.specs.Script.{IsScript, Known, StaysKnown, known_after}
 use Rattle.device_texts.specs.declared.form.Form.{Form}
 use Rattle.sweep.specs.Swept.{written}
@@ -71,14 +69,6 @@ WritesSwept-kept form answer it old mid new writes kept = record {
   answered = writes.answered;
   taken = Appends-kept old mid new (written form writes.notes it) writes.taken kept;
 }
-
--- What was found for a result is found for the result that is written.
-pub written-found : (Finds : Swept → Type 0) (form : Form) (swept : Result Swept Refusal)
-    (result : Result Answer Refusal) (old new : Option (List ℕ)) → IfOk swept Finds
-    → IfOk result (λ answer. (it : Swept) × (swept ≡ Ok it) × WritesSwept form answer it old new)
-    → IfOk result (λ answer. (it : Swept) × Finds it × WritesSwept form answer it old new)
-written-found Finds form swept result old new found told =
-    IfOk-weaker result _ _ (λ answer one. (one.0, rw one.1 at found, one.2)) told
 
 -- If all files were kept, the inputs of a sweep were.
 pub inputs_kept : (device script : Source) (images : List (Bor (List ℕ))) (IsNamed : List ℕ → Type 0)

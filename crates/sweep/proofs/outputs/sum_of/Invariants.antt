@@ -1,5 +1,5 @@
 use Rattle.host.specs.Input.{KeepsFiles}
-use Rattle.boot_cli.proofs.merging.sum_of.Given as goal
+use Rattle.sweep.proofs.outputs.sum_of.Given as goal
 
 -- The files are as they were.
 abbrev pub invariant-loop-output : goal.invariant-loop-output

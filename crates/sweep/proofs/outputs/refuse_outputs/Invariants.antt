@@ -1,7 +1,7 @@
 use Rattle.std.proofs.Common.{◌≡◌, ◌≢◌, ℕ, ◌<◌, List, IsTrue, Some, codes}
 use Rattle.std.specs.Borrow.{Bor}
 use Rattle.std.specs.List.{slice_get}
-use Rattle.boot_cli.proofs.merging.refuse_outputs.Given as goal
+use Rattle.sweep.proofs.outputs.refuse_outputs.Given as goal
 
 -- The outputs so far are other files.
 abbrev pub invariant-loop-output : goal.invariant-loop-output

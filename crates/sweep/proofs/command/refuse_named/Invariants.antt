@@ -1,6 +1,6 @@
 use Rattle.std.proofs.Common.{length}
-use Rattle.boot_cli.proofs.SweepLaws.{AreApartBefore}
-use Rattle.boot_cli.proofs.sweeping.refuse_named.Given as goal
+use Rattle.sweep.proofs.SweepEndLaws.{AreApartBefore}
+use Rattle.sweep.proofs.command.refuse_named.Given as goal
 
 -- The files that the lines so far name are apart.
 abbrev pub invariant-loop-lines : goal.invariant-loop-lines
