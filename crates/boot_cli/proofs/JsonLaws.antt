@@ -26,7 +26,7 @@ use Rattle.device_texts.specs.declared.form.Form.{Form}
 use Rattle.device_texts.specs.declared.form.Form.TheVariants as form
 use Rattle.boot_cli.specs.JsonEnd.{AnswersDevice, AnswersIn, AnswersJson, AnswersObject, WritesValue, form_of, is_codes}
 use Rattle.boot_cli.specs.OrderEnd.{AnswersMaking, AnswersSwept}
-use Rattle.boot_cli.proofs.SweepLaws.{WritesSwept-kept}
+use Rattle.sweep.proofs.SweepEndLaws.{WritesSwept-kept}
 
 WritesValue-kept : (old mid new : Option (List ℕ)) → WritesValue old mid → Keeps mid new → WritesValue old new
 WritesValue-kept old mid new writes kept = record {

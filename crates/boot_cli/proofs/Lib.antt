@@ -1,4 +1,3 @@
 mod JsonLaws
 mod OrderLaws
-mod SweepLaws
 mod WordsLaws

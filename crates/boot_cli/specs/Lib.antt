@@ -1,4 +1,3 @@
 pub mod JsonEnd
 pub mod OrderEnd
-pub mod SweepEnd
 pub mod WordsEnd

@@ -17,7 +17,7 @@ use Rattle.device_texts.specs.declared.form.Form.{Form}
 use Rattle.device_texts.specs.declared.form.Form.TheVariants as form
 use Rattle.device_commands.specs.CoreEnd.{AnswersCore}
 use Rattle.device_commands.specs.CoreEnd as core
-use Rattle.boot_cli.specs.SweepEnd.{AnswersMerge, AnswersSweep, KeepsInputs, KeepsOutputs}
+use Rattle.sweep.specs.SweepEnd.{AnswersMerge, AnswersSweep, KeepsInputs, KeepsOutputs}
 
 -- The answer to an order to sweep, or to merge outputs of sweeps, in this form.
 abbrev pub AnswersSwept : Form → Answer → Order → Option (List ℕ) → FileBytes → FileBytes

@@ -8,11 +8,10 @@ ghost use Rattle.device_texts.specs.declared.form.Form.TheVariants as form;
 ghost use Rattle.device_texts.specs.ReplyJson.{last_notes};
 ghost use Rattle.inspecting.specs.PlanAnswers.{AnswersPlan};
 ghost use Rattle.inspecting.specs.ReadingEnd.{AnswersReading};
+ghost use Rattle.sweep.specs.SweepEnd.{AnswersMerge, AnswersSweep, KeepsInputs, KeepsOutputs};
 
 use crate::codes::{is_codes, write_codes};
 use crate::making::run_making;
-use crate::merging::run_merge;
-use crate::sweeping::{Named, run_sweep};
 use command_line::{DeviceOrder, Order, PlanOrder, ReadOrder, Request};
 use device_commands::run_device_order;
 use device_texts::json::last_notes;
@@ -22,6 +21,7 @@ use host::{Answer, Host, Refusal};
 use inspecting::{NoPlanNotes, inspect, run_inspection, run_plan, write_inspection};
 use std::alloc::Global;
 use std::io::Write;
+use sweep::{SweepOrder, merge_outputs, run_sweep, write_swept};
 
 /// Runs the command of an order, and writes its answer to `out` in the requested form, with the notes
 /// on it that JSON has. The progress of a sweep, the notes on the replies of a run, and those on the
@@ -58,14 +58,14 @@ pub fn answer_request<H: Host, O: Write, E: Write>(
             ref images,
             choices,
         } => {
-            let named = Named::of(device, script, images, choices);
-            run_sweep(alloc, form, named, host, out, err, notes)
+            let order = SweepOrder::of(device, script, images, choices);
+            answer_sweep(alloc, form, order, host, out, err, notes)
         }
         Order::MergeSweeps {
             ref outputs,
             picture,
             forced,
-        } => run_merge(alloc, form, outputs, picture, forced, host, out),
+        } => answer_merge(alloc, form, outputs, picture, forced, host, out),
         _ => run_making(alloc, &request.order, host, out, err, notes),
     }
 }
@@ -197,6 +197,45 @@ fn answer_plan<H: Host, O: Write, E: Write>(
     }
     let mut notes = DeviceNotes::new(alloc, err);
     run_plan(alloc, form, order, host, &mut notes, out)
+}
+
+/// Sweeps a device, and writes the result to `out`. The progress goes to `err`.
+fn answer_sweep<H: Host, O: Write, E: Write>(
+    alloc: Global,
+    form: Form,
+    order: SweepOrder<'_, '_>,
+    host: &mut H,
+    out: &mut O,
+    err: &mut E,
+    notes: &mut CommandNotes,
+) -> Result<Answer, Refusal>
+    ensures answers { IfOk result (λ answer.
+        AnswersSweep form answer order.entry.device order.entry.script
+        (H.input host.old) (H.file host.old) (O.contents out.old) (O.contents out.new)) }
+    ensures inputs { KeepsInputs order.entry.device order.entry.script order.entry.images.now
+        order.entry.choices.picture (H.file host.old) (H.file host.new) }
+{
+    let swept = run_sweep(alloc, order, host, err, notes)?;
+    notes.on_answer(swept.answer());
+    write_swept(alloc, form, notes.list(), &swept, out)
+}
+
+/// Merges outputs of sweeps, and writes the result to `out`. There are no notes on it.
+fn answer_merge<H: Host, O: Write>(
+    alloc: Global,
+    form: Form,
+    outputs: &[&str],
+    picture: Option<&str>,
+    is_forced: bool,
+    host: &mut H,
+    out: &mut O,
+) -> Result<Answer, Refusal>
+    ensures answers { IfOk result (λ answer.
+        AnswersMerge form answer (O.contents out.old) (O.contents out.new)) }
+    ensures outputs { KeepsOutputs outputs.now picture.entry (H.file host.old) (H.file host.new) }
+{
+    let swept = merge_outputs(alloc, outputs, picture, is_forced, host)?;
+    write_swept(alloc, form, &NoteList::new(alloc), &swept, out)
 }
 
 /// Lists the codes, and writes the object of the list to `out`.

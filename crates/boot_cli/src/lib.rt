@@ -5,12 +5,12 @@
 //!   Arguments that give no order change no file, and end with 2, or with 1 if memory ran out or a
 //!   write failed.
 //! - Main calls: `cli`, `order`, `run_order`
-//! - Allocates: the order, a flash in memory, events.
+//! - Allocates: the order, and what its command allocates.
 //! - Callers: `bootswap`
 //!
-//! `arguments` reads the order. Here the command is chosen, its answer is written as JSON if that is
-//! asked for, and `sweep` runs. The read-only commands are in `inspecting`, those that make files in
-//! `creating`, and `provision` and `run` in `device_commands`.
+//! `arguments` reads the order. Here its command is chosen, and the notes on its answer are written.
+//! The read-only commands are in `inspecting`, those that make files in `creating`, `provision` and
+//! `run` in `device_commands`, and `sweep` in the crate of that name.
 #![tactic(auto)]
 
 mod answering;
@@ -20,10 +20,7 @@ mod ending;
 mod error_members;
 mod hint;
 mod making;
-mod merging;
 mod program;
-mod progress;
-mod sweeping;
 mod until_failed;
 mod words;
 

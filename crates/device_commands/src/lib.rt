@@ -4,7 +4,7 @@
 //!   of exactly the named images. The exit status says how the arguments' order ended.
 //! - Main calls: `core_cli`, `run_core_order`, `run_device_order`, `answer_words`
 //! - Allocates: a flash in memory, events.
-//! - Callers: `bootswap_core`, `boot_cli`, `bootswap`
+//! - Callers: `bootswap_core`, `sweep`, `boot_cli`, `bootswap`
 #![tactic(auto)]
 
 mod answering;

@@ -4,5 +4,6 @@ pub mod FoundJson
 pub mod FoundText
 pub mod Marks
 pub mod Scenario
+pub mod SweepEnd
 pub mod Swept
 pub mod Tallies

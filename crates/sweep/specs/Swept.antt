@@ -1,23 +1,25 @@
 -- The result of a sweep, and the two forms in which it is written.
-use Rattle.std.specs.Prelude.{ℕ, Bool, false, true, List, []}
+use Rattle.std.specs.Prelude.{ℕ, List, [], if◌then◌else◌}
 use Rattle.serde_json.specs.Data.{Members, no_members, object}
 use Rattle.device_texts.specs.AnswerText.{map_refusal_text}
 use Rattle.device_texts.specs.Json.{fault_json, json_line, map_json, with_notes, with_refused}
 use Rattle.device_texts.specs.ReplyText.{refused_fault_text}
 use Rattle.device_texts.specs.declared.form.Form.{Form}
 use Rattle.device_texts.specs.declared.form.Form.TheVariants as form
-use Rattle.sweep.specs.Findings as findings
+use Rattle.host.specs.declared.answer.Answer.{Answer}
+use Rattle.host.specs.declared.answer.Answer.TheVariants.{Done, Refused}
+use Rattle.sweep.specs.Findings.{is_good}
 use Rattle.sweep.specs.FoundJson.{with_found}
 use Rattle.sweep.specs.FoundText.{found_text}
 use Rattle.sweep.specs.declared.swept.Swept.{Swept}
 use Rattle.sweep.specs.declared.swept.Swept.TheVariants as swept
 
--- Nothing was refused, and no run had an unexpected end.
-abbrev pub is_good : Swept → Bool
-is_good (swept.Found found) = findings.is_good found
-is_good (swept.RefusedMap refused) = false
-is_good (swept.RefusedDevice fault) = false
-is_good swept.Nothing = true
+-- The answer: `Refused` if something is refused, or if a run had an unexpected end.
+abbrev pub answer_of : Swept → Answer
+answer_of (swept.Found found) = if is_good found then Done else Refused
+answer_of (swept.RefusedMap refused) = Refused
+answer_of (swept.RefusedDevice fault) = Refused
+answer_of swept.Nothing = Done
 
 -- The text. If no outputs were merged, it is empty.
 abbrev pub text_of : Swept → List ℕ

@@ -1,17 +1,22 @@
-//! Runs a script once for each write of the flash and each way to tear it, and counts the results.
+//! Runs `bootswap sweep`: a script once for each write of the flash and each way to tear it.
 //!
 //! - Promises: Each run of a sweep is a run of the machine over whole images, in which the flash
 //!   tears exactly the given writes. The versions that are reported to run at its end are those in
 //!   the primary slots. Marks and tallies of parts of the runs add up to those of all runs. The text
-//!   and the JSON of findings are exact.
-//! - Main calls: `run_scenario`, `Mark::sum`, `Tally::sum`, `Swept::written`
-//! - Allocates: a copy of the flash for each run, a few numbers for each write and event, the text
-//!   or the JSON of the answer.
-//! - Callers: any program that has provisioned a flash in memory.
+//!   and the JSON of findings are exact. The device file, the script, the files that it names, the
+//!   images and the outputs to merge keep their bytes.
+//! - Main calls: `run_sweep`, `merge_outputs`, `write_swept`, `run_scenario`, `Mark::sum`,
+//!   `Tally::sum`
+//! - Allocates: the input, a flash in memory, a copy of it for each run, a few numbers for each write
+//!   and event, the text or the JSON of the answer.
+//! - Callers: `boot_cli`
 //!
-//! Tests check what is counted, drawn and read back.
+//! `run_sweep` reads the files that the arguments name, counts how the runs end, and makes the
+//! picture. `merge_outputs` adds up what was counted before. Each finds a value, a `Swept`, and
+//! `write_swept` writes it as a text or as JSON. Tests check what is counted, drawn and read back.
 #![tactic(auto)]
 
+mod command;
 mod cuts;
 mod device;
 mod found;
@@ -19,8 +24,11 @@ mod json;
 mod marks;
 mod merging;
 mod notes;
+mod outputs;
+mod parts;
 mod picture;
-mod plan;
+mod picture_file;
+mod progress;
 mod random_numbers;
 mod reading;
 mod running;
@@ -31,16 +39,13 @@ mod swept;
 mod tally;
 mod text;
 
-pub use cuts::{Cuts, TEARS, Tear, TornWrite, place_of};
+pub use command::{SweepOrder, run_sweep};
+pub use cuts::{Cuts, Tear, TornWrite};
 pub use found::{Found, SetTally};
 pub use marks::Mark;
-pub use merging::add_output;
 pub use notes::{BootOutcome, CutNote, ScenarioEnd};
-pub use picture::picture_of;
-pub use plan::{Cutting, Part, Plan, Step, Watch};
+pub use outputs::merge_outputs;
 pub use scenario::Scenario;
 pub use scenario_run::run_scenario;
-pub use sweeping::sweep;
-pub use swept::Swept;
+pub use swept::{Swept, write_swept};
 pub use tally::Tally;
-pub use text::found_text;

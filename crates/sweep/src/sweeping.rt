@@ -8,16 +8,18 @@ use crate::device::device_over;
 use crate::found::{Found, is_same, without_bytes};
 use crate::marks::Mark;
 use crate::notes::{CutNote, ScenarioEnd, had_memory};
-use crate::plan::{Cutting, Plan, Step, Watch};
+use crate::parts::{WHOLE, has_cut, has_uncut, share_of};
+use crate::progress::{Cutting, Step, Watch};
 use crate::random_numbers::Random;
 use crate::scenario::Scenario;
 use crate::scenario_run::run_scenario;
 use arrayvec::ArrayVec;
 use boot_core::{Device, step};
+use command_line::{SweepChoices, SweepPart};
+use machine::Event;
 use common::limits::MOST_IMAGES;
 use device_texts::flash_of;
 use flash_model::MemFlash;
-use machine::Event;
 use std::alloc::{AllocError, Global};
 use std::marker::Brand;
 use std::sync::ledger::{Blank, Ledger};
@@ -39,11 +41,13 @@ struct EndsBeside {
 
 /// The runs of a sweep so far.
 #[derive(Drop)]
-struct Runs<'s, 'w, W> {
+struct Runs<'s, 'c, 'w, W> {
     alloc: Global,
     scenario: &'s Scenario<'s>,
     watch: &'w mut W,
-    plan: Plan,
+    choices: &'c SweepChoices<'c>,
+    /// The part of the runs to make.
+    part: SweepPart,
     found: Found,
     /// The versions that run at the end without a power cut. `None` if an image is damaged.
     uncut: Option<ArrayVec<Version, MOST_IMAGES>>,
@@ -54,20 +58,20 @@ struct Runs<'s, 'w, W> {
 }
 
 /// Runs a scenario once without a power cut, and then once for each write and each way to tear it,
-/// or as `plan` says. `watch` sees each event of the first run, and each run after it.
+/// or as `choices` say. `watch` sees each event of the first run, and each run after it.
 ///
-/// If `plan` has a part of the runs, the findings are those of this part. The findings of all parts
-/// add up to those of all runs.
+/// If `choices` have a part of the runs, the findings are those of this part. The findings of all
+/// parts add up to those of all runs.
 ///
 /// Memory of `alloc` holds two copies of the flash at a time, and a few numbers for each write and
 /// each event.
 ///
 /// # Errors
 /// `AllocError` if memory is refused, also if the device has none for a manifest.
-pub fn sweep<W: Watch>(
+pub(crate) fn sweep<W: Watch>(
     alloc: Global,
     scenario: &Scenario<'_>,
-    plan: Plan,
+    choices: &SweepChoices<'_>,
     watch: &mut W,
 ) -> Result<Found, AllocError> {
     let mut found = Found::nothing(alloc);
@@ -77,17 +81,19 @@ pub fn sweep<W: Watch>(
     for event in scenario.events {
         found.events.push(without_bytes(event))?;
     }
+    let part = choices.part.unwrap_or(WHOLE);
     let mut runs = Runs {
         alloc,
         scenario,
         watch,
-        plan,
+        choices,
+        part,
         found,
         uncut: None,
         beside: None,
         at: Cutting {
             done: 0,
-            all: plan.part.share(firsts_of(plan, count)),
+            all: share_of(part, firsts_of(choices, count)),
             seconds_done: 0,
             seconds: 0,
             runs: 0,
@@ -96,16 +102,16 @@ pub fn sweep<W: Watch>(
         },
     };
     runs.run_uncut()?;
-    match plan.sample {
+    match choices.sample {
         None => runs.cut_each()?,
         Some(_) => runs.cut_sample()?,
     }
     Ok(runs.into_found())
 }
 
-/// The number of first cuts that a plan tries, if the run without a cut makes this many writes.
-fn firsts_of(plan: Plan, writes: u32) -> u64 {
-    match plan.sample {
+/// The number of first cuts that a sweep tries, if the run without a cut makes this many writes.
+fn firsts_of(choices: &SweepChoices<'_>, writes: u32) -> u64 {
+    match choices.sample {
         None => u64::from(writes) * TEARS.len() as u64,
         Some(_) if writes == 0 => 0,
         Some(sample) => u64::from(sample),
@@ -153,13 +159,13 @@ fn count_through<L: Ledger, W: Watch>(
     Ok(writes)
 }
 
-impl<W: Watch> Runs<'_, '_, W> {
+impl<W: Watch> Runs<'_, '_, '_, W> {
     /// Runs the scenario without a power cut. The run counts in the first part only.
     fn run_uncut(&mut self) -> Result<(), AllocError> {
         self.watch.see(Step::Uncut);
         let end = run_scenario(self.alloc, self.scenario, &[])?;
         self.uncut = end.versions.clone()?;
-        if self.plan.part.has_uncut() {
+        if has_uncut(self.part) {
             self.found.count_run(None, end)?;
         }
         Ok(())
@@ -172,19 +178,19 @@ impl<W: Watch> Runs<'_, '_, W> {
 
     /// Tears each write in each way.
     fn cut_each(&mut self) -> Result<(), AllocError> {
-        for index in 0..firsts_of(self.plan, self.writes()) {
-            if self.plan.part.has(index) {
+        for index in 0..firsts_of(self.choices, self.writes()) {
+            if has_cut(self.part, index) {
                 self.cut_first(first_at(index))?;
             }
         }
         Ok(())
     }
 
-    /// Makes a run with this power cut. If the plan has second cuts, also makes one for each write of
-    /// the boot after it.
+    /// Makes a run with this power cut. If second cuts are asked for, also makes one for each
+    /// write of the boot after it.
     fn cut_first(&mut self, first: TornWrite) -> Result<(), AllocError> {
         let writes = self.try_cuts(Cuts::One(first))?;
-        if self.plan.is_twice {
+        if self.choices.is_twice {
             self.at.seconds = u64::from(writes) * TEARS.len() as u64;
             for place in 0..writes {
                 let write = first.write.saturating_add(place).saturating_add(1);
@@ -209,15 +215,15 @@ impl<W: Watch> Runs<'_, '_, W> {
     fn cut_sample(&mut self) -> Result<(), AllocError> {
         let count = self.writes();
         // The generator takes any number but 0.
-        let mut random = Random::new(self.plan.seed.max(1));
-        for index in 0..firsts_of(self.plan, count) {
+        let mut random = Random::new(self.choices.seed.unwrap_or(1).max(1));
+        for index in 0..firsts_of(self.choices, count) {
             // Each run draws the same numbers in each part, and however the other runs end.
             let first = Draw::from(&mut random);
-            let second = match self.plan.is_twice {
+            let second = match self.choices.is_twice {
                 true => Some(Draw::from(&mut random)),
                 false => None,
             };
-            if self.plan.part.has(index) {
+            if has_cut(self.part, index) {
                 self.cut_drawn(first, second)?;
             }
         }
@@ -293,7 +299,8 @@ impl<W: Watch> Runs<'_, '_, W> {
             alloc,
             scenario,
             watch,
-            plan,
+            choices,
+            part,
             mut found,
             uncut,
             beside,

@@ -1,8 +1,9 @@
 //! The result of a sweep, and the two forms in which it is written.
 ghost use Rattle.std.specs.Prelude.{◌≡◌, IfOk, OnOk, string_bytes};
+ghost use Rattle.std.specs.Io.KnownBytes.{Appends};
 ghost use Rattle.serde_json.specs.Data.{no_members};
 ghost use Rattle.serde_json.specs.View.{members_view};
-ghost use Rattle.sweep.specs.Swept.{is_good, members_of, text_of, written};
+ghost use Rattle.sweep.specs.Swept.{answer_of, members_of, text_of, written};
 ghost use Rattle.device_texts.specs.Notes.{sentences};
 ghost use Rattle.device_texts.specs.declared.form.Form.TheVariants as form;
 
@@ -10,11 +11,13 @@ use crate::found::Found;
 use crate::json::put_found;
 use crate::text::found_text;
 use device_texts::json::{Object, fault_value, map_value, put_notes, put_refused, value_line};
-use device_texts::{Form, NoteList, map_refusal_text, refused_fault_text};
+use device_texts::{Form, NoteList, map_refusal_text, refused_fault_text, write_all};
+use host::{Answer, Refusal};
 use machine::Fault;
 use sector_map::MapError;
 use serde_json::{Map, Value};
 use std::alloc::{AllocError, Global};
+use std::io::Write;
 
 /// The result of a sweep.
 #[derive(Drop)]
@@ -30,14 +33,20 @@ pub enum Swept {
 }
 
 impl Swept {
-    /// Whether nothing was refused, and no run had an unexpected end.
-    pub fn is_good(&self) -> bool
-        ensures { result ≡ is_good self.now }
+    /// Returns the answer: `Refused` if something is refused, or if a run had an unexpected end.
+    pub fn answer(&self) -> Answer
+        ensures { result ≡ answer_of self.now }
     {
         match self {
-            Swept::Found(found) => found.is_good(),
-            Swept::RefusedMap(_) | Swept::RefusedDevice(_) => false,
-            Swept::Nothing => true,
+            Swept::Found(found) => {
+                if found.is_good() {
+                    Answer::Done
+                } else {
+                    Answer::Refused
+                }
+            }
+            Swept::RefusedMap(_) | Swept::RefusedDevice(_) => Answer::Refused,
+            Swept::Nothing => Answer::Done,
         }
     }
 
@@ -72,7 +81,7 @@ impl Swept {
     ///
     /// # Errors
     /// `AllocError` if memory is refused.
-    pub fn written(&self, alloc: Global, form: Form, notes: &NoteList) -> Result<String, AllocError>
+    fn written(&self, alloc: Global, form: Form, notes: &NoteList) -> Result<String, AllocError>
         ensures { IfOk result (λ text. string_bytes text
             ≡ written form (sentences notes.now) self.now) }
     {
@@ -91,5 +100,31 @@ impl Swept {
         self.put_members(alloc, &mut object)?;
         put_notes(alloc, &mut object, notes)?;
         value_line(alloc, &Value::Object(object))
+    }
+}
+
+/// Writes the result of a sweep to `out` in a form, and returns the answer. The object has the notes
+/// in its member `notes`, if there are any. The text has none.
+///
+/// # Errors
+/// `NoMemory` if memory of `alloc` runs out. Then nothing is written. `CannotWrite` if a write fails.
+pub fn write_swept<O: Write>(
+    alloc: Global,
+    form: Form,
+    notes: &NoteList,
+    swept: &Swept,
+    out: &mut O,
+) -> Result<Answer, Refusal>
+    ensures { IfOk result (λ answer. (answer ≡ answer_of swept.now)
+        × Appends (O.contents out.old) (O.contents out.new)
+        (written form (sentences notes.now) swept.now)) }
+{
+    let answer = swept.answer();
+    let Ok(text) = swept.written(alloc, form, notes) else {
+        return Err(Refusal::NoMemory);
+    };
+    match write_all(out, text.as_bytes()) {
+        Ok(()) => Ok(answer),
+        Err(_) => Err(Refusal::CannotWrite),
     }
 }

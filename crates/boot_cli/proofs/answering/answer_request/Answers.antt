@@ -6,15 +6,15 @@ use Rattle.boot_cli.proofs.answering.answer_request.Goals as goal
 -- The result of the sweep was written in the form that was asked for.
 pub returns-in-Sweep-clause-answers : goal.returns-in-Sweep-clause-answers
 returns-in-Sweep-clause-answers g c =
-    let device = c.of-named.result.device in
-    let script = c.of-named.result.script in
-    swept-answered c.args.request.now.is_json c.args.request.now.order c.run_sweep.result _ _ _ _ _
+    let device = c.of-order.result.device in
+    let script = c.of-order.result.script in
+    swept-answered c.args.request.now.is_json c.args.request.now.order c.answer_sweep.result _ _ _ _ _
     (rw c.in-Sweep.is
-    (IfOk-weaker c.run_sweep.result _ _
+    (IfOk-weaker c.answer_sweep.result _ _
     (λ answer answers. (
       device,
       script,
-      (c.of-named.ensures.device, c.of-named.ensures.script),
+      (c.of-order.ensures.device, c.of-order.ensures.script),
       rw c.form_of-form.ensures at answers,
       search rules,
-    )) c.run_sweep.ensures.answers))
+    )) c.answer_sweep.ensures.answers))
