@@ -74,8 +74,3 @@ def component(*without, **changes):
 def manifest(*without, components=(component(),), **changes):
     usual = {"manifest_version": 1, "sequence_number": 1, "vendor_id": VENDOR, "class_id": CLASS}
     return spelled({**usual, "components": list(components)}, changes, without)
-
-
-def at_random(numbers, size):
-    """N random bytes."""
-    return (numbers.getrandbits(8 * size) if size else 0).to_bytes(size, "little")

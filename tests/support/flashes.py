@@ -30,16 +30,6 @@ def placed(size, parts):
     return bytes(whole)
 
 
-def expect_flash(test, name, bytes):
-    """A case: the flash file holds these bytes."""
-    test.case(name, [] if flash_in(test) == bytes else ["it holds others"])
-
-
-def expect_unchanged(test, name, whole):
-    """A case: the flash file still holds these bytes."""
-    expect_flash(test, f"{name}: the flash is as it was", whole)
-
-
 def log_record(sequence, *floors):
     """The record of a device at rest, with its gate."""
     stored = b"".join(little(it, 4) for it in floors)

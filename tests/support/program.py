@@ -1,4 +1,4 @@
-"""Runs the built program, and counts each case of a test."""
+"""Runs the built program."""
 
 import ctypes
 import json
@@ -22,14 +22,8 @@ from commits import version_in
 LIMIT = 20
 
 
-class CaseTest(unittest.TestCase):
-    """A test whose cases are subtests, each of a name and its faults."""
-
-    def case(self, name, faults):
-        """Passes a case, unless there are faults."""
-        with self.subTest(name):
-            if faults:
-                self.fail("\n".join(map(str, faults)))
+# The base of tests that run no program.
+CaseTest = unittest.TestCase
 
 
 def error_line(err):
@@ -51,7 +45,7 @@ def obey_permissions():
     ctypes.CDLL(None, use_errno=True).prctl(drop_from_bound, override, 0, 0, 0)
 
 
-class ProgramTest(CaseTest):
+class ProgramTest(unittest.TestCase):
     """A test of the built program, in a folder of its own."""
 
     def setUp(self):
@@ -102,13 +96,6 @@ class ProgramTest(CaseTest):
             ran.communicate()
             return f"not ended after {LIMIT} seconds", b"", b""
         return ran.returncode, out or b"", err or b""
-
-    def expect(self, name, arguments, status, out=b"", err=b"", **how):
-        """A case: the run has this status, and prints exactly this."""
-        got = self.run_program(arguments, **how)
-        printed = zip(("status", "standard output", "standard error"), got, (status, out, err))
-        faults = [f"{what}: {short(one)}, and not {short(other)}" for what, one, other in printed if one != other]
-        self.case(name, faults)
 
 
 def short(value):

@@ -29,20 +29,3 @@ BOTH_RUN = decides("run 0 1.0.0+0", "run 1 1.0.0+0")
 
 # Images whose bodies are N letters.
 LETTERS = {count: image([], count * b"A", own=version(1)) for count in (214, 218, 952, 953)}
-
-# Changes of the running image: a place, the new byte, and the refusal that `slots` prints.
-DAMAGED_SLOTS = [
-    (0, b"\x00", "2 BadMagic"),
-    (8, b"\x1f\x00", "3 BadHeaderSize"),
-    (8, b"\xff\xff", "5 Truncated"),
-    (10, b"\x03\x00", "6 BadTlvMagic"),
-    (12, b"\xff\xff\xff\xff", "5 Truncated"),
-    (16, b"\x20\x00\x00\x00", "4 UnsupportedFlags"),
-    (32, b"\x40", "10 BadDigest"),
-    (38, b"\x03\x00", "7 BadTlvSize"),
-    (38, b"\x27\x00", "7 BadTlvSize"),
-    # In a file this area passes the end. In a slot it doesn't, but its entry doesn't fill it.
-    (38, b"\x29\x00", "7 BadTlvSize"),
-    (42, b"\xff\xff", "7 BadTlvSize"),
-    (40, b"\x11\x00", "8 NoDigest"),
-]
