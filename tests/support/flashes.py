@@ -4,7 +4,7 @@ import json
 
 from support.builders import little
 from support.files import ONE, PAIR, read
-from support.stories import IMAGES, flash_in
+from support.stories import IMAGES
 
 
 # A status unit that is set, and the gate of a record.

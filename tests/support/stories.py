@@ -25,7 +25,6 @@ TEXTS.update({"short.img": IMAGES["one.img"][:-1], "empty.img": b""})
 DEVICES = {
     "pair.json": read(PAIR),
     "three.json": read(THREE),
-    "narrow.json": device(sectors=8 * [1]),
     "uneven.json": device(sectors=[2, 1]),
     "small.json": device(sector=64, sectors=[2]),
     "other.json": b"{}",
@@ -45,9 +44,7 @@ MANIFESTS = {
     "stale.json": [2, "0 test stale.img"],
     "two-of-three.json": [1, "0 test newer.img", "2 test newer.img"],
     "text.json": [1, "0 test abc"],
-    "patched-for-a-test.json": [1, "0 test patched.img"],
     "newer.json": [1, "0 test newer.img"],
-    "both-newer.json": [1, "0 test newer.img", "1 test newer.img"],
     "absent-image.json": [1, "2 test abc"],
     "too-long.json": [1, "1 test long.img"],
 }
