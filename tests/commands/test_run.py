@@ -8,7 +8,7 @@ import time
 from support.files import EXAMPLES, PAIR, names_in, read
 from support.flashes import flash_of
 from support.program import LIMIT, ProgramTest
-from support.stories import UPLOADED, flash_in, new_device, run_of, script_of
+from support.stories import flash_in, new_device, run_of, script_of
 from support.worked import NEEDS, NO_SESSION, NOT_UP, PLAIN, numbered
 
 # How many boots a long script has. Their replies are far longer than a pipe's buffer.
@@ -30,20 +30,6 @@ LAST_REPLIES = [
     (HALF_AN_UPLOAD, [PLAIN, *3 * ["done"], NEEDS], 0, 1),
     (f"{HALF_AN_UPLOAD}, withdraw 1, boot", [PLAIN, *3 * ["done"], NEEDS, "done", PLAIN], 0, 1),
     (f"cut 6 keep, {HALF_AN_UPLOAD}, accept second.json", [PLAIN, *3 * ["done"], NEEDS, "cut"], 3, 3),
-]
-
-# Events on a new device, and the last reply.
-REPLIES = [
-    ("boot, reset, finish 0", NOT_UP),
-    (f"{UPLOADED}, boot, accept old.json", "refused boot 2 OnTrial"),
-    ("boot, accept abc", "refused manifest 1 NotJson"),
-    ("boot, accept other-vendor.json", "refused manifest 4 WrongVendor"),
-    ("boot, accept absent-image.json", "refused manifest 6 NoComponent"),
-    ("boot, accept second.json, reset, boot, accept second.json", "done"),
-    ("boot, accept text.json, reset, boot, finish 0", NO_SESSION),
-    ("boot, accept text.json, piece 0 abc, finish 0, finish 0", NO_SESSION),
-    ("boot, accept first.json, piece 0 needing.img, boot, finish 0", NO_SESSION),
-    ("boot, accept first.json, piece 0 needing.img, finish 0, withdraw 0", "done"),
 ]
 
 def status_after(output):
@@ -98,16 +84,3 @@ class RunTest(ProgramTest):
                 with self.subTest(f"{events} {options}"):
                     new_device(self)
                     self.assertEqual((status, numbered(replies), b""), run_of(self, events, options=options))
-
-    def test_replies(self):
-        for events, reply in REPLIES:
-            with self.subTest(events):
-                new_device(self)
-                status, out, err = run_of(self, events)
-                self.assertEqual((int(reply != "done"), b""), (status, err))
-                self.assertEqual(f"{events.count(',') + 1} {reply}", out.decode().splitlines()[-1])
-
-    def test_damaged_image_is_not_booted(self):
-        whole = new_device(self)
-        self.file("flash", whole[:32] + b"Z" + whole[33:])
-        self.assertEqual((1, b"1 refused boot 5 RunningDamaged 0\n", b""), run_of(self, "boot"))

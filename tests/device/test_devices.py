@@ -3,13 +3,12 @@
 Each row is a new device and its steps. The examples' scripts have more trials.
 """
 
-from support.builders import component, little, manifest
+from support.builders import component, image, little, manifest, version
 from support.files import PAIR
 from support.flashes import FLAG
 from support.images import OF_ONE
 from support.power_cuts import UPGRADE
 from support.program import ProgramTest
-from support.slots import LETTERS
 from support.stories import (
     IMAGES, PATIENT, STAYED, THREE, UPLOAD_REPLIES, UPLOADED, WAITS, digest_of, flash_in, new_device, run_of, state
 )
@@ -45,6 +44,7 @@ FILES = {
     "right.json": of_file(NEEDING, precursor_digest=OF_ONE),
     "wrong.json": of_file(NEEDING, precursor_digest=f"{OF_ONE[:-1]}d"),
 }
+LETTERS = {count: image([], count * b"A", own=version(1)) for count in (214, 218, 952, 953)}
 FINISHED = {
     "a counter": (IMAGES["counted.img"], "done"),
     "two images": (IMAGES["one.img"] + IMAGES["counted.img"], "refused upload 7 NotAnImage 13"),

@@ -17,8 +17,8 @@ def area(magic, entries):
 COUNTER = (0x50, little(7, 4))
 DEPENDENCY = (0x40, bytes([1, 0, 0, 0, 2, 3, 4, 0, 5, 0, 0, 0]))
 
-# The bytes that ask for images 1 and 2 in 2.0.0+0, in a dependency or as an alternative.
-ON_FIRST, ON_SECOND = (bytes([number, 0, 0, 0, 2, 0, 0, 0, 0, 0, 0, 0]) for number in (1, 2))
+# The bytes that ask for image 1 in 2.0.0+0, in a dependency or as an alternative.
+ON_FIRST = bytes([1, 0, 0, 0, 2, 0, 0, 0, 0, 0, 0, 0])
 
 
 def group(alternatives, last=b""):
