@@ -7,19 +7,6 @@ import stat
 from support.files import EXAMPLES, ONE, files_in, read
 from support.program import ProgramTest
 
-# The 32 bytes of an accepted header, and files that are no intact image. A flash begins with one.
-HEADER = bytes.fromhex("3db8f396" "00000000" "2000" "0000" "04000000" "00000000" "0100000000000000" "00000000")
-
-NO_IMAGES = {
-    "text": b"old",
-    "a header but for its last byte": HEADER[:-1],
-    "another magic number": b"\x3c" + HEADER[1:],
-    "a header alone": HEADER,
-    "an image but for its last byte": read(ONE)[:-1],
-    "an image and an erased slot": read(ONE) + 1000 * b"\xff",
-    "a damaged image": read(ONE)[:-1] + bytes([read(ONE)[-1] ^ 1]),
-}
-
 COUNTED = read(f"{EXAMPLES}/images/counted.img")
 IS_AN_INPUT, IN_USE = (1, b"", b"error: image is an input\n"), (1, b"", b"error: image in use\n")
 DONE = (0, b"done\n", b"")
@@ -86,26 +73,10 @@ class ImageFileTest(ProgramTest):
                     fcntl.flock(held, how)
                     self.expect_files(IN_USE, set(), made, "body", "--version=1")
 
-    def test_an_image_stands_if_its_reply_cannot_be_written(self):
-        with open("/dev/full", "wb") as full:
-            self.expect_files((1, b"", b""), {"own"}, "own", "body", "--version=1.0.0", stdout=full)
-        self.assertEqual(read(ONE), read(self.path("own")))
-
-    def test_another_file_is_replaced_only_by_force(self):
-        for name, old in NO_IMAGES.items():
-            with self.subTest(f"image in the place of {name}"):
-                self.file("other", old)
-                arguments = "other", "body", "--version=1.0.0"
-                self.expect_files((1, b"", b"error: other is no image\n"), set(), *arguments)
-                self.expect_files(DONE, {"other"}, *arguments, "--force")
-                self.assertEqual(read(ONE), read(self.path("other")))
-
     def test_a_body_that_comes_first_stays(self):
+        """Only `--force` replaces it."""
         message = b"error: body is no image\n"
         self.expect_files((1, b"", message), set(), "body", "own", "--version=1")
         message += b"note: OUT comes first, then BODY: `--force` replaces body by an image of own\n"
         self.expect_files((1, b"", message), set(), "body", "own", "--version=1", "--explain")
-
-    def test_refused_values_leave_the_file(self):
-        refused = (1, b"refused 2 UnsupportedFlags\n", b"")
-        self.expect_files(refused, set(), "own", "body", "--version=1", "--flags=2")
+        self.expect_files(DONE, {"body"}, "body", "own", "--version=1", "--force")
