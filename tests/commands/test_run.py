@@ -22,14 +22,9 @@ LAST_REPLIES = [
     ("boot, piece 2 abc", [PLAIN, NO_SESSION], 1, 1),
     ("finish 0, boot, reset", [NOT_UP, PLAIN, "done"], 0, 1),
     ("cut 1 keep, finish 0, boot, accept trial.json", [NOT_UP, PLAIN, "cut"], 3, 3),
-    ("cut 1 keep, finish 0, boot, accept trial.json, boot", [NOT_UP, PLAIN, "cut", PLAIN], 0, 1),
     ("cut 1 keep, boot, accept trial.json, boot", [PLAIN, "cut", PLAIN], 0, 0),
-    ("cut 1 keep, boot, accept trial.json, finish 0", [PLAIN, "cut", NOT_UP], 1, 1),
-    ("reset, reset", ["done", "done"], 0, 0),
     # A boot whose report refuses a request: the device runs on, and only `--strict` ends with 1.
     (HALF_AN_UPLOAD, [PLAIN, *3 * ["done"], NEEDS], 0, 1),
-    (f"{HALF_AN_UPLOAD}, withdraw 1, boot", [PLAIN, *3 * ["done"], NEEDS, "done", PLAIN], 0, 1),
-    (f"cut 6 keep, {HALF_AN_UPLOAD}, accept second.json", [PLAIN, *3 * ["done"], NEEDS, "cut"], 3, 3),
 ]
 
 def status_after(output):
