@@ -40,25 +40,6 @@ ONE = b"image 0 1.0.0+0 0 0\n"
 MADE = {"older": 0.2, "damaged": 0.1, "partnerless": 0.15, "bad": 0.05}
 SHARES = [f"--{name}={share}" for name, share in MADE.items()]
 
-# Tables, and what MCUboot's rules `code` and `design` take of them.
-PAIR_TABLE = "image 0 1.0 0 0, request 2.0 0, needs 1 2.0, image 1 1.0 0 0, request 2.0 0, needs 0 2.0"
-RULES = [
-    ("two that need each other", PAIR_TABLE, {0, 1}, {0, 1}),
-    ("one whose partner isn't requested", "image 0 1.0 0 0, request 2.0 0, image 1 1.0 0 0, request 2.0 0, "
-        "needs 2 2.0, image 2 1.0 0 0", set(), {0}),
-    ("a chain whose end is damaged", "image 0 1.0 0 0, request 2.0 0, needs 1 2.0, image 1 1.0 0 0, request 2.0 0, "
-        "needs 2 2.0, image 2 1.0 0 0, damaged, image 3 1.0 0 0, request 2.0 0", set(), {3}),
-    ("a damaged one that nothing needs", "image 0 1.0 0 0, request 2.0 0, image 1 1.0 0 0, damaged", {0}, {0}),
-    ("an older one, and a counter below the floor", "image 0 1.0 0 0, request 0.9 0, image 1 1.0 3 3, request 2.0 2, "
-        "image 2 1.0 0 0, request 1.0 0", {2}, {2}),
-    ("an image that isn't there", "image 0 1.0 0 0, request 2.0 0, needs 1 0.0, image 1 1.0 0 0, request 2.0 0, "
-        "needs 7 1.0", set(), {0}),
-    ("an alternative that runs", "image 0 1.0 0 0, request 2.0 0, needs-one 1 2.0 2 1.0, image 1 1.0 0 0, "
-        "image 2 1.0 0 0", {0}, {0}),
-    ("alternatives that don't", "image 0 1.0 0 0, request 2.0 0, needs-one 1 2.0 7 1.0, image 1 1.0 0 0, request 1.5 0",
-        set(), {1}),
-]
-
 # Plays devices by web/mcuboot.js: reads their images from standard input, and prints what runs after a boot.
 PLAY = """
 import { PerImage } from "./mcuboot.js";
@@ -98,12 +79,6 @@ class RuleTest(ProgramTest):
     """MCUboot's rules in mcuboot_rule.py and web/mcuboot.js."""
 
     runs_once = True
-
-    def test_worked_tables(self):
-        for name, lines, *wanted in RULES:
-            with self.subTest(name):
-                images = fleet_tables.read_table(text_of(lines))
-                self.assertEqual(wanted, [mcuboot_rule.taken_by_code(images), mcuboot_rule.taken_by_design(images)])
 
     def test_design_takes_the_greatest_set(self):
         """The rule `code` takes it only if no request has an unmet dependency, else nothing."""
@@ -355,14 +330,6 @@ class PartsTest(DaskTest):
         self.assertEqual(wanted, self.parted(self.fleet, "--bytes=20000", *RELEASE))
         self.file("empty", b"")
         self.assertEqual((0, b"", b""), self.parted(f"{self.folder}/empty"))
-
-    def test_tables_that_are_too_long(self):
-        tables = [ONE, 300_000 * b"device a b\n", ONE + (8 << 20) * b"x" + b"device c\n", ONE, (1 << 20) * b"x"]
-        self.file("fleet", b"".join(b"device %d\n%s" % it for it in enumerate(tables)))
-        wanted = self.run_program(["plan", "fleet", "--summary"])
-        self.assertIn(b"\n5 0 device\n", wanted[1])
-        for size in (1 << 20, 70_000):
-            self.assertEqual(wanted, self.parted(self.fleet, f"--bytes={size}"))
 
     def test_faults(self):
         """A program that fails ends with its error and no summary. A part has a byte or more."""

@@ -224,19 +224,6 @@ class SweepPartsTest(ProgramTest):
             names.append(self.file(f"part-{number}", out))
         return names
 
-    def test_parts_add_up_in_any_order(self):
-        old, new = (self.file(f"image-{major}", image((), own=version(major))) for major in (1, 2))
-        script = script_file(self, ["boot\n", *upload_events(self, 1, "permanent", [new]), "boot\n"])
-        files = [self.file("small.json", device(sectors=[1])), script, old]
-        for options in ([], ["--twice"], ["--sample=30", "--seed=7"]):
-            whole = self.run_program(["sweep", *options, *files])
-            for count in (3,) if options == ["--twice"] else (1, 8):
-                with self.subTest(f"{count} parts {options}"):
-                    *names, last = self.parts_of(count, *options, *files)
-                    self.assertEqual(whole, self.run_program(["sweep", "--merge", last, *names]))
-                    given = read(f"{self.folder}/{last}")
-                    self.assertEqual(whole, self.run_program(["sweep", "--merge", *names, "-"], given=given))
-
     def test_parts_of_the_worked_run(self):
         """They have a third of its runs each. The merged picture and JSON are those of one process."""
         names = self.parts_of(3, *FILES)
@@ -262,18 +249,6 @@ class SweepPartsTest(ProgramTest):
         self.assertEqual(error("cannot read nothing"), self.run_program(["sweep", "--merge", "right", "nothing"]))
         self.assertEqual(error("picture is an input"), self.run_program(["sweep", "--merge", "--svg=./right", "right"]))
         self.assertEqual(OUTPUT, read(f"{self.folder}/right"))
-
-    def test_merged_tallies(self):
-        """Merging adds the numbers of runs, joins the characters, and keeps the first cuts."""
-        one = b"1 boot from 1 _.t*_x\nruns 5\nend 3 uncut\nrun 0 1.0.0+0\nend 2 cut 3 done\ndamaged\n"
-        two = b"1 boot from 1 _.r.tx\nruns 4\nend 3 cut 3 keep\ndamaged\nend 1 cut 3 done cut 5 half\nrun 0 2.0.0+0\n"
-        one += b"other 2 cut 2 hex:ff cut 5 keep\n"
-        two += b"other 1 cut 2 hex:ff\nrefused 1 cut 6 half\n"
-        wanted = b"1 boot from 1 _.**tx\nruns 9\nend 3 uncut\nrun 0 1.0.0+0\nend 5 cut 3 keep\ndamaged\n"
-        wanted += b"end 1 cut 3 done cut 5 half\nrun 0 2.0.0+0\nother 3 cut 2 hex:ff\nrefused 1 cut 6 half\n"
-        names = self.file("one", one), self.file("two", two)
-        for several in (names, names[::-1]):
-            self.assertEqual((1, wanted, b""), self.run_program(["sweep", "--merge", *several]))
 
 
 SVG = "{http://www.w3.org/2000/svg}"

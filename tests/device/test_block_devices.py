@@ -47,7 +47,7 @@ USED = [
 
 
 class PretendedTest(ProgramTest):
-    """A test with support/c/pretended.c, on a new flash."""
+    """A test with support/c/calls.c, on a new flash."""
 
     def setUp(self):
         super().setUp()
@@ -55,7 +55,7 @@ class PretendedTest(ProgramTest):
 
     def pretending(self, **what):
         """The environment of a run in which the library pretends this."""
-        return {**preloaded(self, "pretended"), **{name: str(it) for name, it in what.items()}}
+        return {**preloaded(self, "calls"), **{name: str(it) for name, it in what.items()}}
 
     def as_block_device(self, name, bytes):
         """Writes these bytes to a file, and returns the environment in which it is a block device."""
@@ -131,7 +131,7 @@ class BlockDeviceTest(PretendedTest):
     def test_a_block_device_whose_write_failed_is_written_again(self):
         """It holds a part of the new flash."""
         env, wanted = self.as_block_device("flash", bytes(8192)), placed(8192, new_parts())
-        failing = {**env, "FAILING_WRITE": "1", "LEFT": "half"}
+        failing = {**env, "FAILING_WRITE": "1"}
         self.assertEqual((4, b"", CANNOT_MAKE), self.run_program(MAKE, env=failing))
         self.holds(wanted[:4096] + bytes(4096))
         self.assertEqual(DONE, self.run_program(MAKE, env=env))
@@ -197,7 +197,7 @@ class FailingWriteTest(PretendedTest):
         upgrade, last = ", ".join(WORKED_EVENTS.split(", ")[:7]), sum(WRITES[:7])
         for number in range(1, last + 1):
             self.file("flash", self.new)
-            env = self.pretending(FAILING_WRITE=number, LEFT="half", WRITE_COUNT=f"{self.folder}/count")
+            env = self.pretending(FAILING_WRITE=number, WRITE_COUNT=f"{self.folder}/count")
             status, _, err = self.run_program(["run", PAIR, "flash", "-"], given=script_of(upgrade), env=env)
             self.assertEqual((4, CANNOT_MAKE, number), (status, err, self.counted()[0]), f"write {number}")
             if number > sum(WRITES[:6]):

@@ -15,7 +15,7 @@ from support.worked import (
     numbered
 )
 
-# The files to which support/c/faults.c writes its counts.
+# The files to which support/c/calls.c writes its counts.
 COUNTS = ("count", "taken", "wrong")
 
 # The faults after which a call has failed, and those that change each call that reads or writes, and not the result of
@@ -34,7 +34,7 @@ class FaultTest(ProgramTest):
         `wrong` what the call with the fault was to do.
         """
         count, taken, wrong = (f"{self.folder}/{name}" for name in COUNTS)
-        env = {**preloaded(self, "faults"), "FAULT": fault, "FAULT_AT": str(at)}
+        env = {**preloaded(self, "calls"), "FAULT": fault, "FAULT_AT": str(at)}
         return {**env, "FAULT_COUNT": count, "FAULT_READ": taken, "FAULT_WRONG": wrong}
 
     def number_in(self, name):
@@ -201,7 +201,7 @@ class MakingFaultTest(FaultTest):
             flash_of(self)
             self.run_program(arguments)
             whole = read(path)
-            others = {*os.listdir(self.folder), *COUNTS, "faults.so"} - {file}
+            others = {*os.listdir(self.folder), *COUNTS, "calls.so"} - {file}
             for old in (None, replaced_by(arguments, whole)):
                 kept, made = {} if old is None else {file: old}, {file: whole}
 
