@@ -13,6 +13,7 @@ from support.flashes import flash_of
 from support.printed import error, refused
 from support.program import ProgramTest, obey_permissions
 from support.stories import IMAGES, flash_in, new_device, script_of
+from support.tables import text_of
 from support.worked import PLAIN, numbered
 
 VERSIONS = [
@@ -35,32 +36,16 @@ TABLES = [
     (b"image 0 1 0 0\nrequest 2 0\ndamaged\n", "damaged", NEEDS + GROUPS + NEXT),
     (b"image 0 1 0 0\ndamaged\nneeds 0 1\n", "needs 0 1", NEXT),
     (b"image 0 1 0 0\n\xff\n", "\\xff", NEEDS + GROUPS + REQUESTS + NEXT),
-    (
-        b"".join(b"image %d 1 0 0\n" % it for it in range(9)),
-        "image 8 1 0 0",
-        NEEDS + GROUPS + REQUESTS + " no further image: a table has 8 at most",
-    ),
+    (b"".join(b"image %d 1 0 0\n" % it for it in range(9)), "image 8 1 0 0",
+        NEEDS + GROUPS + REQUESTS + " no further image: a table has 8 at most"),
 ]
 
 # A table whose first six requests are refused, each for another reason, and the notes.
-REFUSED = b"""image 0 2.0.0+0 0 0
-damaged
-image 1 2.0.0+0 0 0
-request 1.9.0+0 0
-image 2 1.0.0+0 5 5
-request 2.0.0+0 4
-image 3 1.0.0+0 0 0
-request 2.0.0+0 0
-needs 9 1.0.0+0
-image 4 1.0.0+0 0 0
-request 2.0.0+0 0
-needs 2 2.0.0+0
-image 5 1.0.0+0 0 0
-request 2.0.0+0 0
-needs-one 0 3.0.0+0 9 1.0.0+0
-image 6 1.0.0+0 0 0
-request 2.0.0+0 0
-"""
+REFUSED = text_of(
+    "image 0 2.0.0+0 0 0, damaged, image 1 2.0.0+0 0 0, request 1.9.0+0 0, image 2 1.0.0+0 5 5, request 2.0.0+0 4, "
+    "image 3 1.0.0+0 0 0, request 2.0.0+0 0, needs 9 1.0.0+0, image 4 1.0.0+0 0 0, request 2.0.0+0 0, needs 2 2.0.0+0, "
+    "image 5 1.0.0+0 0 0, request 2.0.0+0 0, needs-one 0 3.0.0+0 9 1.0.0+0, image 6 1.0.0+0 0 0, request 2.0.0+0 0"
+)
 WHY_REFUSED = [
     "image 0: the bytes that are requested are no intact image",
     "image 1: 1.9.0+0 is requested, and 2.0.0+0 runs, which is newer",
@@ -72,8 +57,8 @@ WHY_REFUSED = [
 ]
 
 # Wrong reports for a table, and why they are wrong.
-OF_REPORTS = b"image 0 1.0.0+0 0 0\nrequest 2.0.0+0 0\nneeds 1 2.0.0+0\nimage 1 1.0.0+0 0 5\nrequest 2.0.0+0 5\n"
-OF_OLDER = b"image 0 2 0 0\nrequest 1 0\nimage 1 2 0 0\ndamaged\nimage 2 1 9 9\nrequest 2 8\n"
+OF_REPORTS = text_of("image 0 1 0 0, request 2 0, needs 1 2, image 1 1 0 5, request 2 5")
+OF_OLDER = text_of("image 0 2 0 0, request 1 0, image 1 2 0 0, damaged, image 2 1 9 9, request 2 8")
 REPORTS = [
     (OF_REPORTS, "take 0 2", ["the report tells of 1 images, and the table of 2"]),
     (OF_REPORTS, "take 0 2, take 1 2.0.1", ["report line 2: image 1 would run 2.0.0+0, and 2.0.1+0 is told"]),
@@ -315,7 +300,7 @@ class ExplainTextTest(ExplainTest):
     def test_first_reason_for_a_no(self):
         for given, report, notes in REPORTS:
             with self.subTest(report):
-                files = self.file("given", given), self.file("text", report.replace(", ", "\n").encode() + b"\n")
+                files = self.file("given", given), self.file("text", text_of(report))
                 self.assert_notes(notes, ["check", *files], (1, b"no\n", b""))
 
     def test_line_of_a_report(self):
@@ -514,11 +499,9 @@ REPLIES = [
     ("finish 0", "refused upload 5 SizeWrong", ["the manifest says 3 bytes for image 0, and 2 came"]),
     ("accept text.json", "done", []),
     ("piece 0 abd", "done", []),
-    (
-        "finish 0",
-        "refused upload 6 DigestWrong",
-        [f"the manifest says the SHA-256 {ABC} for image 0", f"that of the 3 bytes that came is {sha256(b'abd')}"],
-    ),
+    ("finish 0", "refused upload 6 DigestWrong", [
+        f"the manifest says the SHA-256 {ABC} for image 0", f"that of the 3 bytes that came is {sha256(b'abd')}"
+    ]),
     ("accept text.json", "done", []),
     ("piece 0 abc", "done", []),
     ("finish 0", "refused upload 7 NotAnImage 1", ["there are 3 bytes, and a header has 32"]),
@@ -531,11 +514,9 @@ REPLIES = [
     ("piece 1 older.img", "done", []),
     ("finish 0", "done", []),
     ("finish 1", "done", []),
-    (
-        "boot",
-        "trial|take 0 2.0.0+0|run 1 1.0.0+0|refuse 1 older",
-        ["image 1: 0.9.0+0 is requested, and 1.0.0+0 runs, which is newer"],
-    ),
+    ("boot", "trial|take 0 2.0.0+0|run 1 1.0.0+0|refuse 1 older", [
+        "image 1: 0.9.0+0 is requested, and 1.0.0+0 runs, which is newer"
+    ]),
     ("withdraw 0", "refused boot 2 OnTrial", [ON_TRIAL]),
     ("reset", "done", []),
 ]
@@ -545,17 +526,13 @@ TRIED = "image %d is requested permanently, and on trial: another image of the s
 TRIED += " and reverts as a whole"
 BACK = "image %d was requested permanently, and reverts: the set was on trial as a whole"
 
-# Runs of one device, one after the other, and the notes by the number of the reply.
+# Events on a new device, and the notes by the number of the reply.
 MIXED = [
-    [(f"boot, accept first-for-good.json, {UPLOAD}, boot, boot", {7: TRIED % 0, 8: BACK % 0})],
-    [
-        (f"boot, accept second-for-good.json, {UPLOAD}", {}),
-        ("cut 30 keep, boot", {}),
-        ("boot, boot", {1: TRIED % 1, 2: BACK % 1}),
-    ],
-    [(f"boot, accept trial.json, {UPLOAD}, boot, boot", {})],
-    [(f"boot, accept for-good.json, {UPLOAD}, boot, boot", {})],
-    [(f"boot, accept first-for-good.json, {UPLOAD}, boot, confirm 0, confirm 1, boot, boot", {7: TRIED % 0})],
+    (f"boot, accept first-for-good.json, {UPLOAD}, boot, boot", {7: TRIED % 0, 8: BACK % 0}),
+    (f"cut 38 keep, boot, accept second-for-good.json, {UPLOAD}, boot, boot, boot", {8: TRIED % 1, 9: BACK % 1}),
+    (f"boot, accept trial.json, {UPLOAD}, boot, boot", {}),
+    (f"boot, accept for-good.json, {UPLOAD}, boot, boot", {}),
+    (f"boot, accept first-for-good.json, {UPLOAD}, boot, confirm 0, confirm 1, boot, boot", {7: TRIED % 0}),
 ]
 
 
@@ -583,13 +560,12 @@ class ExplainDeviceTest(ExplainTest):
 
     def test_images_of_a_mixed_trial(self):
         """A trial and its end name each image that was requested permanently."""
-        for parts in MIXED:
-            new_device(self)
-            for events, notes in parts:
-                with self.subTest(events):
-                    wanted = "".join(f"note: of reply {at}:\nnote: {it}\n" for at, it in notes.items())
-                    got = self.run_program(["run", PAIR, "flash", "-", "--explain"], given=script_of(events))
-                    self.assertEqual(wanted, got[2].decode())
+        for events, notes in MIXED:
+            with self.subTest(events):
+                new_device(self)
+                wanted = "".join(f"note: of reply {at}:\nnote: {it}\n" for at, it in notes.items())
+                got = self.run_program(["run", PAIR, "flash", "-", "--explain"], given=script_of(events))
+                self.assertEqual(wanted, got[2].decode())
 
     def test_flash_without_a_state(self):
         self.file("erased", 8192 * b"\xff")
@@ -599,25 +575,19 @@ class ExplainDeviceTest(ExplainTest):
         self.assert_notes(["of reply 1:", NO_STATE], ["run", PAIR, "erased", "-"], end, given=b"boot\n")
 
     def test_slots(self):
-        """A slot that holds no image is described: this one and no other."""
-        whole = bytearray(flash_of(self))
-        arguments = make_manifest(f"--test=0={ONE}", f"--test=1={ONE}", "--precursor=flash")
-        for at in (0, 1536, 3072, 4608):
-            number, side = at // 1536 % 2, "primary" if at < 3072 else "secondary"
-            extract = ["extract", PAIR, "flash", f"{number}", side, "copy"]
-            with self.subTest(f"{side} {number}"):
-                self.file("flash", whole[:at] + 1024 * b"\xff" + whole[at + 1024 :])
-                erased = [f"the {side} slot of image {number} is erased: its 1024 bytes are 0xff"]
-                self.assert_notes(erased, extract, refused("2 BadMagic"))
-                if side == "primary":
-                    self.assert_notes(erased, arguments, refused(f"boot 5 RunningDamaged {number}"))
-                self.file("flash", whole[:at] + little(at, 4) + whole[at + 4 :])
-                damaged = [f"at byte 0 stands {at:#010x}, and an image begins with 0x96f3b83d"]
-                self.assert_notes(damaged, extract, refused("2 BadMagic"))
-                if side == "primary":
-                    self.assert_notes(damaged, arguments, refused(f"boot 5 RunningDamaged {number}"))
-                    out = self.run_program(["slots", PAIR, "flash"])[1]
-                    self.assert_notes(damaged, ["slots", PAIR, "flash"], (1, out, b""))
+        """A slot that holds no image is described. That this one is, and no other, is proved."""
+        whole = flash_of(self)
+        arguments = make_manifest(f"--test=1={ONE}", "--precursor=flash")
+        for front, note in [
+            (1024 * b"\xff", "the primary slot of image 1 is erased: its 1024 bytes are 0xff"),
+            (b"\1", "at byte 0 stands 0x96f3b801, and an image begins with 0x96f3b83d"),
+        ]:
+            with self.subTest(note):
+                self.file("flash", whole[:1536] + front + whole[1536 + len(front) :])
+                self.assert_notes([note], ["extract", PAIR, "flash", "1", "primary", "copy"], refused("2 BadMagic"))
+                self.assert_notes([note], arguments, refused("boot 5 RunningDamaged 1"))
+        out = self.run_program(["slots", PAIR, "flash"])[1]
+        self.assert_notes([note], ["slots", PAIR, "flash"], (1, out, b""))
 
     def test_requests_that_the_next_boot_refuses(self):
         new_device(self)
@@ -629,40 +599,30 @@ class ExplainDeviceTest(ExplainTest):
         self.assert_notes(notes, ["slots", PAIR, "flash"], (0, out, b""))
 
     def test_length_of_a_flash(self):
-        whole = flash_of(self)
-        self.file("script", b"boot\n")
-        for name, contents in [("short", b"abc"), ("long", whole + b"x")]:
-            notes = [f"{self.file(name, contents)} has {len(contents)} bytes, and the flash of the device has 8192"]
-            for arguments in (
-                ["show", PAIR, name],
-                ["run", PAIR, name, "script"],
-                ["extract", PAIR, name, "0", "primary", "copy"],
-                make_manifest(f"--test=0={ONE}", f"--precursor={name}"),
-            ):
-                with self.subTest(f"{arguments[0]} {name}"):
-                    self.assert_notes(notes, arguments, error("flash size"))
+        self.file("short", b"abc")
+        notes = ["short has 3 bytes, and the flash of the device has 8192"]
+        for arguments in (
+            ["show", PAIR, "short"], ["extract", PAIR, "short", "0", "primary", "copy"],
+            make_manifest(f"--test=0={ONE}", "--precursor=short"), ["run", PAIR, "short", self.file("boot", b"boot\n")],
+        ):
+            with self.subTest(arguments[0]):
+                self.assert_notes(notes, arguments, error("flash size"))
         notes = ["- has more bytes than the flash of the device, which has 8192"]
-        self.assert_notes(notes, ["show", PAIR, "-"], error("flash size"), given=whole + b"xyz")
+        self.assert_notes(notes, ["show", PAIR, "-"], error("flash size"), given=8195 * b"x")
 
     def test_held_files(self):
         flash_of(self)
         self.file("own", b"old")
-        self.file("boot", b"boot\n")
         held = "another program holds %s, or is replacing it: one that writes it holds it alone"
-        with open(f"{self.folder}/flash", "rb") as flash, open(f"{self.folder}/own", "rb") as own:
-            fcntl.flock(flash, fcntl.LOCK_EX)
-            fcntl.flock(own, fcntl.LOCK_EX)
-            for arguments in [
-                ["show", PAIR, "flash"],
-                ["slots", PAIR, "flash"],
-                ["run", PAIR, "flash", "boot"],
-                ["extract", PAIR, "flash", "0", "primary", "copy"],
-                ["provision", PAIR, "flash", ONE, ONE],
-                make_manifest(f"--test=0={ONE}", "--precursor=flash"),
-            ]:
-                with self.subTest(arguments[0]):
-                    self.assert_notes([held % "flash"], arguments, error("flash in use"))
-            self.assert_notes([held % "own"], ["make-image", "own", ONE, "--version=1"], error("image in use"))
+        for name, arguments in [
+            ("flash", ["show", PAIR, "flash"]), ("flash", ["run", PAIR, "flash", self.file("boot", b"boot\n")]),
+            ("flash", ["extract", PAIR, "flash", "0", "primary", "copy"]),
+            ("flash", ["provision", PAIR, "flash", ONE, ONE]), ("own", ["make-image", "own", ONE, "--version=1"]),
+            ("flash", make_manifest(f"--test=0={ONE}", "--precursor=flash")),
+        ]:
+            with self.subTest(arguments[0]), open(f"{self.folder}/{name}", "rb") as it:
+                fcntl.flock(it, fcntl.LOCK_EX)
+                self.assert_notes([held % name], arguments, error(f"{'image' if name == 'own' else name} in use"))
 
     def test_flash_that_cannot_be_written(self):
         flash_of(self)
