@@ -1,6 +1,5 @@
 """The notes of `--explain`."""
 
-import fcntl
 import hashlib
 import os
 import subprocess
@@ -620,8 +619,7 @@ class ExplainDeviceTest(ExplainTest):
             ("flash", ["provision", PAIR, "flash", ONE, ONE]), ("own", ["make-image", "own", ONE, "--version=1"]),
             ("flash", make_manifest(f"--test=0={ONE}", "--precursor=flash")),
         ]:
-            with self.subTest(arguments[0]), open(f"{self.folder}/{name}", "rb") as it:
-                fcntl.flock(it, fcntl.LOCK_EX)
+            with self.subTest(arguments[0]), self.held(name):
                 self.assert_notes([held % name], arguments, error(f"{'image' if name == 'own' else name} in use"))
 
     def test_flash_that_cannot_be_written(self):

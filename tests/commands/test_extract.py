@@ -1,10 +1,9 @@
 """The files to which `extract` copies an image, and what it refuses. What it copies is proved."""
 
-import fcntl
 import os
 
 from support.builders import image, version
-from support.files import EXAMPLES, PAIR, files_in, read
+from support.files import EXAMPLES, PAIR, read
 from support.flashes import flash_of, placed
 from support.printed import DONE, error, refused
 from support.program import ProgramTest
@@ -25,12 +24,6 @@ class ExtractTest(ProgramTest):
 
     def copy(self):
         return read(f"{self.folder}/copy")
-
-    def assert_refuses(self, end, arguments, **how):
-        """The run ends so, and no file is made or changed."""
-        before = [*files_in(self.folder)]
-        self.assertEqual(end, self.run_program(arguments, **how))
-        self.assertEqual(before, [*files_in(self.folder)])
 
     def test_image_that_fills_its_slot(self):
         """It is copied to its last byte. With one bit turned, it is refused."""
@@ -57,6 +50,5 @@ class ExtractTest(ProgramTest):
         self.file("short", self.whole[:-1])
         self.assert_refuses(error("flash size"), extract(flash="short"))
         for name, end in ("flash", error("flash in use")), ("copy", error("image in use")):
-            with open(f"{self.folder}/{name}", "rb") as held:
-                fcntl.flock(held, fcntl.LOCK_EX)
+            with self.held(name):
                 self.assert_refuses(end, extract())

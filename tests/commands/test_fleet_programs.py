@@ -9,7 +9,6 @@ import shutil
 import sqlite3
 import subprocess
 import sys
-import tempfile
 import unittest
 import xml.etree.ElementTree
 
@@ -17,7 +16,7 @@ from support.dask import DaskTest
 from support.files import EXAMPLES, ROOT, read
 from support.fleet import FLEET, tool, write_script
 from support.libraries import shared_library
-from support.program import CaseTest, ProgramTest
+from support.program import FolderTest, ProgramTest
 from support.tables import text_of
 
 sys.path.append(FLEET)
@@ -59,20 +58,6 @@ def of_page(entry):
     version = lambda it: dict(zip(("major", "minor", "revision", "build"), it))
     needs = [{"image": image, "minimum": version(minimum)} for image, minimum in entry.needs]
     return {"version": version(entry.version), "needs": needs}
-
-
-class FolderTest(CaseTest):
-    """A test in a folder of its own."""
-
-    def setUp(self):
-        folder = tempfile.TemporaryDirectory()
-        self.addCleanup(folder.cleanup)
-        self.folder = folder.name
-
-    def put(self, name, contents):
-        with open(f"{self.folder}/{name}", "wb") as it:
-            it.write(contents)
-        return f"{self.folder}/{name}"
 
 
 class RuleTest(ProgramTest):
@@ -134,7 +119,7 @@ class RuleTest(ProgramTest):
                 self.assertEqual(end, tool("mcuboot_rule.py", "-", given=fleet))
 
 
-class MakerTest(CaseTest):
+class MakerTest(unittest.TestCase):
     """make_fleet.py"""
 
     def made(self, *options):
@@ -177,26 +162,25 @@ class WorthTest(ProgramTest):
 
     def test_counts(self):
         """They are those of `plan` and of mcuboot_rule.py, whatever the number of processes is."""
-        with tempfile.TemporaryDirectory() as folder:
-            library = shared_library(folder)
-            lines = ["images,needs,faults,tables,requests,greatest,code,design,behind,by_one"]
-            for mix in worth.mixes():
-                devices = [*map(make_fleet.Fleet(mix, 30, "1", 3).device, range(30))]
-                fleet = "".join(f"device d\n{make_fleet.table_text(it.images)}" for it in devices).encode()
-                plan = self.run_program(["plan", "-"], given=fleet)[1].decode().split("device d\n")[1:]
-                seen = collections.Counter()
-                for device, lines_of in zip(devices, plan):
-                    greatest, code = lines_of.count("take "), len(mcuboot_rule.taken_by_code(device.images))
-                    is_behind = greatest > code == 0
-                    requests = sum(it.request is not None for it in device.images)
-                    seen.update(requests=requests, greatest=greatest, code=code)
-                    seen.update(behind=is_behind, by_one=is_behind and device.faults == 1)
-                counts = [seen[it] for it in ("requests", "greatest", "code", "greatest", "behind", "by_one")]
-                lines.append(",".join(map(str, [mix.images, mix.density, mix.damaged, 30, *counts])))
-            for processes in (1, 3):
-                arguments = "--tables=840", "--csv", f"--processes={processes}"
-                status, out, err = tool("worth.py", *arguments, BOOTSWAP_LIBRARY=library)
-                self.assertEqual((0, lines, b""), (status, out.decode().splitlines(), err))
+        library = shared_library(self.folder)
+        lines = ["images,needs,faults,tables,requests,greatest,code,design,behind,by_one"]
+        for mix in worth.mixes():
+            devices = [*map(make_fleet.Fleet(mix, 30, "1", 3).device, range(30))]
+            fleet = "".join(f"device d\n{make_fleet.table_text(it.images)}" for it in devices).encode()
+            plan = self.run_program(["plan", "-"], given=fleet)[1].decode().split("device d\n")[1:]
+            seen = collections.Counter()
+            for device, lines_of in zip(devices, plan):
+                greatest, code = lines_of.count("take "), len(mcuboot_rule.taken_by_code(device.images))
+                is_behind = greatest > code == 0
+                requests = sum(it.request is not None for it in device.images)
+                seen.update(requests=requests, greatest=greatest, code=code)
+                seen.update(behind=is_behind, by_one=is_behind and device.faults == 1)
+            counts = [seen[it] for it in ("requests", "greatest", "code", "greatest", "behind", "by_one")]
+            lines.append(",".join(map(str, [mix.images, mix.density, mix.damaged, 30, *counts])))
+        for processes in (1, 3):
+            arguments = "--tables=840", "--csv", f"--processes={processes}"
+            status, out, err = tool("worth.py", *arguments, BOOTSWAP_LIBRARY=library)
+            self.assertEqual((0, lines, b""), (status, out.decode().splitlines(), err))
 
 
 # A column of each table of devices.sql, and values that it may not have.

@@ -3,7 +3,7 @@
 import os
 
 from support.every_command import BY_NAME, EVERY, FILES, write_inputs
-from support.files import files_in, read
+from support.files import read
 from support.printed import DONE, error, refused
 from support.program import ProgramTest
 
@@ -54,13 +54,11 @@ class InputTest(ProgramTest):
                         self.assertEqual(usual, self.run_program(it.reading(at, "-"), given=given, pieces=3))
 
     def test_unreadable_input_is_named_in_one_line(self):
-        before = [*files_in(self.folder)]
         for it in EVERY:
             for at, name in it.inputs():
                 for other, shown in NAMES.items():
                     with self.subTest(f"{it.name}: {other!r} as {name}"):
-                        self.assertEqual(error(f"cannot read {shown}"), self.run_program(it.reading(at, other)))
-        self.assertEqual(before, [*files_in(self.folder)])
+                        self.assert_refuses(error(f"cannot read {shown}"), it.reading(at, other))
 
     def test_folder_as_standard_input_is_unreadable(self):
         for it in EVERY:
@@ -77,19 +75,16 @@ class InputTest(ProgramTest):
         self.assertEqual(refused("1 Short"), self.run_program(["image", "./-"]))
 
     def test_endless_input_is_refused(self):
-        before = [*files_in(self.folder)]
         for it in EVERY:
             for at, name in it.inputs():
                 if name in OF_ENDLESS:
                     with self.subTest(f"{it.name}: {name}"):
-                        self.assertEqual(error(OF_ENDLESS[name]), self.run_program(it.reading(at, ENDLESS)))
+                        self.assert_refuses(error(OF_ENDLESS[name]), it.reading(at, ENDLESS))
         for number in (0, 1):
-            end = error(f"image {number} too big")
-            self.assertEqual(end, self.run_program(BY_NAME["provision"].reading(3 + number, ENDLESS)))
+            self.assert_refuses(error(f"image {number} too big"), BY_NAME["provision"].reading(3 + number, ENDLESS))
         self.assertEqual(error(f"cannot read {ENDLESS}"), self.run_program(["show", "device", ENDLESS]))
         with open(ENDLESS, "rb") as zeros:
             self.assertEqual(error("flash size"), self.run_program(["show", "device", "-"], given=None, stdin=zeros))
-        self.assertEqual(before, [*files_in(self.folder)])
 
     def test_texts_of_the_longest_size_are_read(self):
         usual = self.run_program(["manifest", "device", "manifest"])
@@ -128,9 +123,7 @@ class InputTest(ProgramTest):
             ("sweep --svg=script device - image image", "script", "picture"),
             ("sweep --svg=link device script - image", "image", "picture"),
         ]:
-            before = [*files_in(self.folder)]
             with self.subTest(f"{arguments} < {name}"), open(f"{self.folder}/{name}", "rb") as given:
-                self.assertEqual(error(f"{kind} is an input"), self.run_program(arguments.split(), stdin=given))
-                self.assertEqual(before, [*files_in(self.folder)])
+                self.assert_refuses(error(f"{kind} is an input"), arguments.split(), stdin=given)
         with open(f"{self.folder}/body", "rb") as given:
             self.assertEqual(DONE, self.run_program(["make-image", "new", "-", "--version=1"], stdin=given))

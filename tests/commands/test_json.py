@@ -1,6 +1,5 @@
 """Answers and errors as JSON. Which object an answer has is proved, except for `codes`."""
 
-import fcntl
 import json
 import os
 import re
@@ -187,8 +186,7 @@ class JsonErrorTest(ProgramTest):
                 self.assert_error(arguments, wanted, given=given)
 
     def test_locked_flash(self):
-        with open(f"{self.folder}/flash", "rb") as held:
-            fcntl.flock(held, fcntl.LOCK_EX)
+        with self.held("flash"):
             self.assert_error(["show", PAIR, "flash"], {"kind": "flash_in_use"})
 
     def test_flash_that_cannot_be_written(self):

@@ -31,10 +31,7 @@ REFUSED = [
 
 class ProvisionTest(ProgramTest):
     def assert_unchanged(self, end, arguments, **how):
-        """The run ends so, and no file is made, changed or removed."""
-        before = [*files_in(self.folder)]
-        self.assertEqual(end, self.run_program(["provision", *arguments], **how))
-        self.assertEqual(before, [*files_in(self.folder)])
+        self.assert_refuses(end, ["provision", *arguments], **how)
 
     def test_bytes_of_a_new_flash(self):
         """It holds the images, any bytes after them in their slots, and the first record of the log."""
@@ -87,17 +84,16 @@ class ProvisionTest(ProgramTest):
     def test_replaces_the_name_alone(self):
         """A second name keeps the old bytes. The new file has the permissions of the old one, and a link stays one."""
         whole = flash_of(self)
-        path = lambda name: f"{self.folder}/{name}"
-        os.chmod(path("flash"), 0o640)
+        os.chmod(self.path("flash"), 0o640)
         self.file("flash", 8192 * b"o")
-        os.link(path("flash"), path("second"))
-        os.symlink("flash", path("link"))
+        os.link(self.path("flash"), self.path("second"))
+        os.symlink("flash", self.path("link"))
         # New files have such names until they are complete.
         self.file(f".bootswap-{16 * '0'}", b"another's")
-        os.symlink("another", path(f".bootswap-{16 * 'f'}"))
+        os.symlink("another", self.path(f".bootswap-{16 * 'f'}"))
         before = {it for it in files_in(self.folder) if it[0] != "flash"}
         self.assertEqual(DONE, self.run_program(["provision", PAIR, "link", ONE, ONE]))
-        self.assertEqual((whole, 0o640), (flash_in(self), stat.S_IMODE(os.stat(path("flash")).st_mode)))
+        self.assertEqual((whole, 0o640), (flash_in(self), stat.S_IMODE(os.stat(self.path("flash")).st_mode)))
         self.assertEqual(before, {it for it in files_in(self.folder) if it[0] != "flash"})
 
     def test_flash_that_cannot_be_made(self):
@@ -115,7 +111,7 @@ class ProvisionTest(ProgramTest):
 
     def test_input_as_the_flash(self):
         """It is refused by any of its names, also if it is standard input."""
-        end, path = error("flash is an input"), lambda name: f"{self.folder}/{name}"
+        end, path = error("flash is an input"), self.path
         self.file("device", read(PAIR))
         self.file("image", read(ONE))
         self.file("other", read(f"{EXAMPLES}/images/needing.img"))

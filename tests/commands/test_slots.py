@@ -52,6 +52,5 @@ class SlotsTest(ProgramTest):
     def test_flash_that_another_program_holds(self):
         new_device(self)
         for how, end in [(fcntl.LOCK_EX, error("flash in use")), (fcntl.LOCK_SH, (0, LISTS["reset"], b""))]:
-            with open(f"{self.folder}/flash", "rb") as held:
-                fcntl.flock(held, how)
+            with self.held("flash", how):
                 self.assertEqual(end, self.run_program(["slots", PAIR, "flash"]))

@@ -1,7 +1,6 @@
 """What `sweep` prints and draws, and that `run` and `slots` print the same for each cut."""
 
 import contextlib
-import fcntl
 import hashlib
 import os
 import re
@@ -11,7 +10,7 @@ import time
 import xml.etree.ElementTree
 
 from support.builders import component, device, image, manifest, version
-from support.files import EXAMPLES, ONE, PAIR, ROOT, files_in, read
+from support.files import EXAMPLES, ONE, PAIR, ROOT, read
 from support.flashes import flash_of
 from support.printed import error, refused
 from support.program import ProgramTest, is_written_by_one
@@ -183,7 +182,6 @@ class SweepTest(ProgramTest):
             "accepts": b"boot\naccept nothing\n", "no-map.json": device(sector=0),
         }.items():
             self.file(name, contents)
-        before = [*files_in(self.folder)]
         for arguments, end in [
             ([PAIR, "cuts", ONE, ONE], error("script line 1")),
             ([PAIR, "frob", ONE, ONE], error("script line 2")),
@@ -195,8 +193,7 @@ class SweepTest(ProgramTest):
             ([PAIR, SCRIPT, ONE, "abc"], refused("boot 5 RunningDamaged 1")),
         ]:
             with self.subTest(" ".join(arguments[:2])):
-                self.assertEqual(end, self.run_program(["sweep", "--svg=picture", *arguments]))
-        self.assertEqual(before, [*files_in(self.folder)])
+                self.assert_refuses(end, ["sweep", "--svg=picture", *arguments])
 
 
 # An output of one run of two events, and texts that can't be merged with it: the part of it that is replaced, the new
@@ -322,7 +319,7 @@ class PictureTest(ProgramTest):
 
     def test_name_is_looked_up_once(self):
         """What takes the name of the picture while a sweep runs stays."""
-        path = lambda name: f"{self.folder}/{name}"
+        path = self.path
         self.file("device", read(PAIR))
         for first in ("link", "new"):
             with self.subTest(first):
@@ -356,16 +353,14 @@ class PictureTest(ProgramTest):
         for name, contents in files.items():
             self.file(name, contents)
         os.link(f"{self.folder}/abc", f"{self.folder}/abc-second")
-        before = [*files_in(self.folder)]
         for script, name in [
             ("script", "script"), ("script", "./image"), ("names", "abc"), ("names", "abc-second"),
             ("pieces", f"{self.folder}/abc"), ("pieces", "script"),
         ]:
             for given, way in [(script, b""), ("-", files[script])][: 1 + (script in ("names", "pieces"))]:
                 with self.subTest(f"{name} {given}"):
-                    got = self.run_program(["sweep", f"--svg={name}", PAIR, given, ONE, "image"], given=way)
-                    self.assertEqual(error("picture is an input"), got)
-        self.assertEqual(before, [*files_in(self.folder)])
+                    arguments = ["sweep", f"--svg={name}", PAIR, given, ONE, "image"]
+                    self.assert_refuses(error("picture is an input"), arguments, given=way)
 
     def test_picture_that_cannot_be_made(self):
         """It is refused before the runs, which would take longer than a test may."""
@@ -373,8 +368,7 @@ class PictureTest(ProgramTest):
         self.file("long", 4000 * b"boot\n")
         self.file("held", b"old")
         os.mkfifo(f"{self.folder}/pipe")
-        with open(f"{self.folder}/held", "rb") as held:
-            fcntl.flock(held, fcntl.LOCK_EX)
+        with self.held("held"):
             for name in (".", "pipe", "/dev/null", "held", "no/folder"):
                 with self.subTest(name):
                     got = self.run_program(["sweep", f"--svg={name}", "big.json", "long", big])

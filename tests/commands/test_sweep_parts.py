@@ -108,7 +108,7 @@ class SweepPartsTest(DaskTest):
 
     def test_name_of_a_picture_is_looked_up_once(self):
         """It is before the first part. What another program makes there stays."""
-        path = lambda name: f"{self.folder}/{name}"
+        path = self.path
         self.file("picture", PICTURE)
         os.chmod(path("picture"), 0o640)
         self.file("device.json", read(PAIR))

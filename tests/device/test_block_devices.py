@@ -105,8 +105,7 @@ class BlockDeviceTest(PretendedTest):
         env = self.as_block_device("flash", bytes(8192))
         too_big = [*MAKE[:-1], "long.img"]
         self.assertEqual((1, b"", b"error: image 1 too big\n"), self.run_program(too_big, env=env))
-        with open(self.flash, "rb") as held:
-            fcntl.flock(held, fcntl.LOCK_SH)
+        with self.held("flash", fcntl.LOCK_SH):
             self.assertEqual(REFUSED, self.run_program(MAKE, env=env))
         self.holds(bytes(8192))
 
@@ -192,7 +191,7 @@ class BlockDeviceTest(PretendedTest):
 @needs_compiler
 class FailingWriteTest(PretendedTest):
     def test_a_device_tries_no_write_after_one_that_wrote_its_first_half(self):
-        """The next boot completes an upgrade whose write failed. The first half of its last gate makes the record count:
+        """The next boot completes an upgrade whose write failed. With the first half of its last gate the record counts:
         the other bytes are those of an erased unit."""
         upgrade, last = ", ".join(WORKED_EVENTS.split(", ")[:7]), sum(WRITES[:7])
         for number in range(1, last + 1):

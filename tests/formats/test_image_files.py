@@ -20,9 +20,6 @@ class ImageFileTest(ProgramTest):
         os.symlink("own", self.path("own-link"))
         os.link(self.path("own"), self.path("own-second"))
 
-    def path(self, name):
-        return f"{self.folder}/{name}"
-
     def expect_files(self, ended, changed, *arguments, **how):
         """`make-image` ends so, and only these files are made, changed or removed."""
         before = {*files_in(self.folder)}
@@ -69,8 +66,7 @@ class ImageFileTest(ProgramTest):
     def test_an_image_that_is_held_stays(self):
         for how in (fcntl.LOCK_EX, fcntl.LOCK_SH):
             for made in ("own", "own-link"):
-                with self.subTest(f"{made} with lock {how}"), open(self.path("own"), "rb") as held:
-                    fcntl.flock(held, how)
+                with self.subTest(f"{made} with lock {how}"), self.held("own", how):
                     self.expect_files(IN_USE, set(), made, "body", "--version=1")
 
     def test_a_body_that_comes_first_stays(self):

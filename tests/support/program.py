@@ -1,6 +1,8 @@
 """Runs the built program."""
 
+import contextlib
 import ctypes
+import fcntl
 import json
 import os
 import resource
@@ -12,7 +14,7 @@ import threading
 import time
 import unittest
 
-from support.files import EXAMPLES, ROOT, read
+from support.files import EXAMPLES, ROOT, files_in, read
 
 sys.path.insert(0, f"{ROOT}/tools")
 
@@ -45,31 +47,49 @@ def obey_permissions():
     ctypes.CDLL(None, use_errno=True).prctl(drop_from_bound, override, 0, 0, 0)
 
 
-class ProgramTest(unittest.TestCase):
-    """A test of the built program, in a folder of its own."""
+class FolderTest(unittest.TestCase):
+    """A test in a folder of its own."""
 
     def setUp(self):
+        self.folder = tempfile.mkdtemp(prefix="bootswap-test-")
+        self.addCleanup(shutil.rmtree, self.folder, ignore_errors=True)
+
+    def path(self, name):
+        """Returns the path of a file in the folder."""
+        return f"{self.folder}/{name}"
+
+    def file(self, name, contents):
+        """Writes a file in the folder, and returns its name."""
+        with open(self.path(name), "wb") as it:
+            it.write(contents)
+        return name
+
+    def put(self, name, contents):
+        """Writes a file in the folder, and returns its path."""
+        return self.path(self.file(name, contents))
+
+    @contextlib.contextmanager
+    def held(self, name, how=fcntl.LOCK_EX):
+        """Holds a file meanwhile, as another program does."""
+        with open(self.path(name), "rb") as it:
+            fcntl.flock(it, how)
+            yield
+
+
+class ProgramTest(FolderTest):
+    """A test of the built program, which runs in the folder."""
+
+    def setUp(self):
+        super().setUp()
         self.program = os.environ.get("BOOTSWAP_PROGRAM") or f"{ROOT}/out/bootswap"
         if not os.access(self.program, os.X_OK):
             self.fail(f"there is no {self.program}: run `./bootswap codes`, or name a program in BOOTSWAP_PROGRAM")
-        self.new_folder()
-
-    def new_folder(self):
-        """Makes an empty folder, in which the program runs from now on."""
-        self.folder = tempfile.mkdtemp(prefix="bootswap-test-")
-        self.addCleanup(shutil.rmtree, self.folder, ignore_errors=True)
         # Scripts name files relative to the root of the repository.
-        os.symlink(EXAMPLES, f"{self.folder}/examples")
+        os.symlink(EXAMPLES, self.path("examples"))
 
     def version(self):
         """Returns the version and the commit that the program has."""
         return version_in(self.program)
-
-    def file(self, name, contents):
-        """Writes a file where the program runs, and returns its name."""
-        with open(f"{self.folder}/{name}", "wb") as it:
-            it.write(contents)
-        return name
 
     def run_program(self, arguments, given=b"", pieces=0, closed=None, most=None, **streams):
         """Returns the status, standard output and standard error of a run.
@@ -96,6 +116,12 @@ class ProgramTest(unittest.TestCase):
             ran.communicate()
             return f"not ended after {LIMIT} seconds", b"", b""
         return ran.returncode, out or b"", err or b""
+
+    def assert_refuses(self, end, arguments, **how):
+        """The run ends so, and no file is made, changed or removed."""
+        before = [*files_in(self.folder)]
+        self.assertEqual(end, self.run_program(arguments, **how))
+        self.assertEqual(before, [*files_in(self.folder)])
 
 
 def short(value):
