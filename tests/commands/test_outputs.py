@@ -86,16 +86,6 @@ class OutputTest(ProgramTest):
         # The boot leaves the flash as it was, and each event after it follows one that doesn't.
         self.assertEqual([False, *4 * [True]], changes)
 
-    def test_run_reports_that_the_flash_is_not_written(self):
-        """The error of the flash ends a run with status 4, also if its reply can't be written."""
-        new, output = new_device(self), numbered([PLAIN, "cut"])
-        self.write_script("boot, accept text.json")
-        for room in range(len(output)):
-            self.file("flash", new)
-            end = (4, b"error: flash file\n") if room >= len(numbered([PLAIN])) else (1, b"")
-            status, out, err = self.within(RUN, room, 0)
-            self.assertEqual((end, output[:room]), ((status, err), out), f"{room} bytes")
-
     def test_parts_of_a_device_are_written_after_it(self):
         arguments = ["make-device", "--sector=512", "--slots=2,2", "--vendor=python.org", "--class=sensor"]
         for room in (0, 1, 100, len(PARTS) - 1):

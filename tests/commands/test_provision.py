@@ -1,9 +1,8 @@
 """What `provision` writes to a flash file, and what it refuses."""
 
 import os
-import stat
 
-from support.files import EXAMPLES, ONE, PAIR, files_in, read
+from support.files import EXAMPLES, ONE, PAIR, read
 from support.flashes import FLAG, ONE_IMAGE, flash_of, log_record, new_parts, placed
 from support.printed import DONE, error, refused
 from support.program import ProgramTest
@@ -52,49 +51,22 @@ class ProvisionTest(ProgramTest):
                 with self.subTest(f"{arguments}, {'over a file' if old else 'of a new file'}"):
                     self.assert_unchanged(end, arguments.split())
 
-    def test_replaces_what_may_be_a_flash(self):
+    def test_replaces_what_may_be_a_flash_and_another_file_only_by_force(self):
         whole = flash_of(self)
-        for name, old in {
-            "an empty file": b"",
-            "erased bytes": 9000 * b"\xff",
-            "a file of the length of the flash": 8192 * b"x",
-            "a flash": whole,
-        }.items():
+        for name, old, may_be in [
+            ("an empty file", b"", True), ("erased bytes", 9000 * b"\xff", True), ("a flash", whole, True),
+            ("a file of the length of the flash", 8192 * b"x", True), ("text", b"notes of a meeting\n", False),
+            ("an image", read(ONE), False), ("a byte too many", whole + b"\xff", False),
+            ("erased but for its last byte", 9000 * b"\xff" + b"\0", False),
+            ("erased but for its first byte", b"\0" + 9000 * b"\xff", False),
+        ]:
             with self.subTest(name):
                 self.file("flash", old)
-                self.assertEqual(DONE, self.run_program(["provision", PAIR, "flash", ONE, ONE]))
+                if not may_be:
+                    self.assert_unchanged(error("flash size"), [PAIR, "flash", ONE, ONE])
+                force = [] if may_be else ["--force"]
+                self.assertEqual(DONE, self.run_program(["provision", *force, PAIR, "flash", ONE, ONE]))
                 self.assertEqual(whole, flash_in(self))
-
-    def test_replaces_another_file_only_by_force(self):
-        whole = flash_of(self)
-        for name, old in {
-            "text": b"notes of a meeting\n",
-            "an image": read(ONE),
-            "a byte too many": whole + b"\xff",
-            "a byte too few": whole[:-1],
-            "erased but for its last byte": 9000 * b"\xff" + b"\0",
-            "erased but for its first byte": b"\0" + 9000 * b"\xff",
-        }.items():
-            with self.subTest(name):
-                self.file("flash", old)
-                self.assert_unchanged(error("flash size"), [PAIR, "flash", ONE, ONE])
-                self.assertEqual(DONE, self.run_program(["provision", "--force", PAIR, "flash", ONE, ONE]))
-                self.assertEqual(whole, flash_in(self))
-
-    def test_replaces_the_name_alone(self):
-        """A second name keeps the old bytes. The new file has the permissions of the old one, and a link stays one."""
-        whole = flash_of(self)
-        os.chmod(self.path("flash"), 0o640)
-        self.file("flash", 8192 * b"o")
-        os.link(self.path("flash"), self.path("second"))
-        os.symlink("flash", self.path("link"))
-        # New files have such names until they are complete.
-        self.file(f".bootswap-{16 * '0'}", b"another's")
-        os.symlink("another", self.path(f".bootswap-{16 * 'f'}"))
-        before = {it for it in files_in(self.folder) if it[0] != "flash"}
-        self.assertEqual(DONE, self.run_program(["provision", PAIR, "link", ONE, ONE]))
-        self.assertEqual((whole, 0o640), (flash_in(self), stat.S_IMODE(os.stat(self.path("flash")).st_mode)))
-        self.assertEqual(before, {it for it in files_in(self.folder) if it[0] != "flash"})
 
     def test_flash_that_cannot_be_made(self):
         """It stays as it was, and can be made afterwards."""

@@ -13,7 +13,7 @@ from support.builders import component, device, image, manifest, version
 from support.files import EXAMPLES, ONE, PAIR, ROOT, read
 from support.flashes import flash_of
 from support.printed import error, refused
-from support.program import ProgramTest, is_written_by_one
+from support.program import ProgramTest
 from support.worked import SUM_OF_WRITES, TORN, WORKED, WRITES
 
 SCRIPT = f"{EXAMPLES}/scripts/{WORKED}.txt"
@@ -316,35 +316,6 @@ class PictureTest(ProgramTest):
             self.file("made", old)
             self.assertEqual((0, b""), self.run_program(sweep)[::2])
             self.assertNotIn(read(f"{self.folder}/made"), (b"", PICTURE))
-
-    def test_name_is_looked_up_once(self):
-        """What takes the name of the picture while a sweep runs stays."""
-        path = self.path
-        self.file("device", read(PAIR))
-        for first in ("link", "new"):
-            with self.subTest(first):
-                for it in ("link", "new"):
-                    with contextlib.suppress(FileNotFoundError):
-                        os.remove(path(it))
-                self.file("picture", PICTURE)
-                os.symlink("picture", path("link"))
-                command = [self.program, "sweep", "--twice", f"--svg={first}", "device", SCRIPT, ONE, ONE]
-                ran = subprocess.Popen(command, cwd=self.folder, stdout=subprocess.DEVNULL, stderr=subprocess.DEVNULL)
-                tries = iter(range(200))
-                while not is_written_by_one(path("picture")) and next(tries, None) is not None and ran.poll() is None:
-                    time.sleep(0.05 if first == "link" else 0.001)
-                self.assertIsNone(ran.poll())
-                if first == "link":
-                    os.remove(path("link"))
-                    os.symlink("device", path("link"))
-                else:
-                    self.file("new", b"another program's")
-                self.assertEqual(int(first == "new"), ran.wait())
-                self.assertEqual(read(PAIR), read(path("device")))
-                if first == "link":
-                    self.assertNotEqual(PICTURE, read(path("picture")))
-                else:
-                    self.assertEqual(b"another program's", read(path("new")))
 
     def test_input_as_the_picture(self):
         """An input, the script, and a file that the script names are refused, by any name."""

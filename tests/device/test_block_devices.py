@@ -191,8 +191,8 @@ class BlockDeviceTest(PretendedTest):
 @needs_compiler
 class FailingWriteTest(PretendedTest):
     def test_a_device_tries_no_write_after_one_that_wrote_its_first_half(self):
-        """The next boot completes an upgrade whose write failed. With the first half of its last gate the record counts:
-        the other bytes are those of an erased unit."""
+        """The next boot completes an upgrade whose write failed. With half of its last gate the record counts: the rest
+        of it has the bytes of an erased unit."""
         upgrade, last = ", ".join(WORKED_EVENTS.split(", ")[:7]), sum(WRITES[:7])
         for number in range(1, last + 1):
             self.file("flash", self.new)
