@@ -1,14 +1,10 @@
 """What `plan` prints for fleets, and how much memory it takes. A plan, its summary and sums of them are proved."""
 
-import os
 import resource
-import shutil
 import subprocess
 
 from support.files import names_in, read, report, table
 from support.program import ProgramTest
-
-from tutorial import commands_of
 
 ONE = b"image 0 1.0.0+0 0 0\n"
 
@@ -31,23 +27,3 @@ class PlanTest(ProgramTest):
                 streams = {"stdout": subprocess.DEVNULL, "stderr": subprocess.DEVNULL}
                 ran = subprocess.run([self.program, "plan", "fleet", *options], cwd=self.folder, **streams, **limited)
                 self.assertEqual(0, ran.returncode)
-
-
-class DocumentTest(ProgramTest):
-    runs_once = True
-
-    def test_commands_of_the_document(self):
-        """Each command of docs/FLEETS.md prints what the page shows."""
-        os.mkdir(f"{self.folder}/out")
-        for name in ("bootswap", "out/bootswap"):
-            os.symlink(self.program, f"{self.folder}/{name}")
-        how = {"stdout": subprocess.PIPE, "stderr": subprocess.STDOUT, "timeout": 120, "cwd": self.folder}
-        environment = {**os.environ, "PATH": f"{self.folder}:{os.environ['PATH']}", "LC_ALL": "C"}
-        commands = [*commands_of("docs/FLEETS.md", self.version())]
-        self.assertGreater(len(commands), 5)
-        for number, (command, wanted) in enumerate(commands, 1):
-            with self.subTest(f"docs/FLEETS.md, command {number}"):
-                if "out/parts" in command and not shutil.which("parallel"):
-                    self.skipTest("there is no GNU parallel")
-                ran = subprocess.run(["bash", "-c", command], env=environment, **how)
-                self.assertEqual(wanted, ran.stdout.decode(), command)
