@@ -377,22 +377,13 @@ class PictureTest(FolderTest):
         self.assertEqual((1, b"", fault), tool("reach.py", "-", given=b"1 a bad\n"))
 
     def test_input_as_the_picture(self):
-        """It is refused under any name, and so is any other file without --force."""
-        summary, notes = self.put("summary", SUMMARY), self.put("notes", b"notes\n")
-        os.symlink("summary", f"{self.folder}/link")
-        os.link(summary, f"{self.folder}/second")
-        for name, message in [
-            ("summary", "picture is an input"), ("link", "picture is an input"), ("second", "picture is an input"),
-            ("notes", f"{notes} is no picture"), ("none/svg", f"cannot write {self.folder}/none/svg"),
-        ]:
-            with self.subTest(name):
-                end = (1, b"", f"error: {message}\n".encode())
-                self.assertEqual(end, tool("reach.py", summary, "--svg", f"{self.folder}/{name}"))
+        """It is refused, also if it is standard input."""
+        summary, end = self.put("summary", SUMMARY), (1, b"", b"error: picture is an input\n")
+        self.assertEqual(end, tool("reach.py", summary, "--svg", summary))
         with open(summary, "rb") as stream:
             words = [sys.executable, "-B", f"{FLEET}/reach.py", "-", "--svg", summary]
             done = subprocess.run(words, stdin=stream, capture_output=True)
-        self.assertEqual((1, b"error: picture is an input\n"), (done.returncode, done.stderr))
-        self.assertEqual((SUMMARY, b"notes\n"), (read(summary), read(notes)))
+        self.assertEqual((end, SUMMARY), ((done.returncode, done.stdout, done.stderr), read(summary)))
 
     def test_replaces_a_picture_or_by_force(self):
         summary = self.put("summary", SUMMARY)

@@ -178,17 +178,12 @@ class SweepTest(ProgramTest):
     def test_refusals(self):
         """They come before the runs, and no picture is made or changed."""
         for name, contents in {
-            "abc": b"abc", "picture": PICTURE, "cuts": b"cut 3 keep\nboot\n", "frob": b"boot\nfrob\n",
-            "accepts": b"boot\naccept nothing\n", "no-map.json": device(sector=0),
+            "abc": b"abc", "picture": PICTURE, "cuts": b"cut 3 keep\nboot\n", "no-map.json": device(sector=0),
         }.items():
             self.file(name, contents)
         for arguments, end in [
             ([PAIR, "cuts", ONE, ONE], error("script line 1")),
-            ([PAIR, "frob", ONE, ONE], error("script line 2")),
-            ([PAIR, "accepts", ONE, ONE], error("cannot read nothing")),
-            (["abc", SCRIPT, ONE, ONE], error("device file")),
             (["no-map.json", SCRIPT, ONE, ONE], refused("map 1 BadSector")),
-            ([PAIR, SCRIPT, ONE], error("image count")),
             ([PAIR, SCRIPT, ONE, "nothing"], error("cannot read nothing")),
             ([PAIR, SCRIPT, ONE, "abc"], refused("boot 5 RunningDamaged 1")),
         ]:
