@@ -1,6 +1,5 @@
 """The files to which `extract` copies an image, and what it refuses. What it copies is proved."""
 
-import os
 
 from support.builders import image, version
 from support.files import EXAMPLES, PAIR, read
@@ -32,16 +31,6 @@ class ExtractTest(ProgramTest):
         self.assertEqual((DONE, full), (self.run_program(extract()), self.copy()))
         self.file("flash", placed(8192, {0: full, 1023: bytes([full[-1] ^ 1])}))
         self.assert_refuses(refused("10 BadDigest"), extract())
-
-    def test_input_as_the_file(self):
-        os.symlink("flash", f"{self.folder}/by-link")
-        self.file("device", read(PAIR))
-        end = error("image is an input")
-        for arguments in [
-            extract(out="flash"), extract(out="by-link"), ["extract", "device", "flash", "0", "primary", "./device"]
-        ]:
-            with self.subTest(" ".join(arguments)):
-                self.assert_refuses(end, arguments)
 
     def test_copy_that_cannot_be_made(self):
         self.assert_refuses(error("no image 2"), extract(2))

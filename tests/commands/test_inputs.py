@@ -23,6 +23,9 @@ NAMES = {
 # The longest texts, from docs/FORMATS.md.
 MOST_TABLE, MOST_JSON, MOST_SCRIPT = 65_536, 1_048_576, 268_435_456
 
+# What commands make, as they call it if it is an input.
+KINDS = {"make-image": "image", "extract": "image", "provision": "flash", "sweep": "picture"}
+
 ENDLESS = "/dev/zero"
 
 # The error lines for inputs without an end. The first lines of most have a fault.
@@ -108,22 +111,19 @@ class InputTest(ProgramTest):
             end = error(f"script line {given[:MOST_SCRIPT].count(line[-1:]) + 1}")
             self.assertEqual(end, self.run_program(["run", "device", "flash", "-"], given=given))
 
-    def test_standard_input_is_no_output(self):
-        """No command makes the file that is its standard input, by any name."""
-        os.symlink("image", f"{self.folder}/link")
-        for arguments, name, kind in [
-            ("make-image image - --version=1 --force", "image", "image"),
-            ("make-image link - --version=1", "image", "image"),
-            ("make-image image - --version=1", "link", "image"),
-            ("extract device - 0 primary ./flash --force", "flash", "image"),
-            ("extract - flash 0 primary device", "device", "image"),
-            ("provision - device image image", "device", "flash"),
-            ("provision device image image -", "image", "flash"),
-            ("sweep --svg=device - script image image", "device", "picture"),
-            ("sweep --svg=script device - image image", "script", "picture"),
-            ("sweep --svg=link device script - image", "image", "picture"),
-        ]:
-            with self.subTest(f"{arguments} < {name}"), open(f"{self.folder}/{name}", "rb") as given:
-                self.assert_refuses(error(f"{kind} is an input"), arguments.split(), stdin=given)
-        with open(f"{self.folder}/body", "rb") as given:
+    def test_input_as_the_output(self):
+        """It is refused by any of its names, also if it is standard input."""
+        for it in [BY_NAME[name] for name in KINDS]:
+            for at, name in it.inputs():
+                os.symlink(name, self.path("link"))
+                os.link(self.path(name), self.path("second"))
+                for other in (name, f"./{name}", self.path(name), "link", "second"):
+                    for given in (name, "-"):
+                        words = [other if word == it.makes else word for word in it.reading(at, given)]
+                        words += [f"--svg={other}"] * (it.name == "sweep")
+                        with self.subTest(" ".join(words)), open(self.path(name), "rb") as stream:
+                            self.assert_refuses(error(f"{KINDS[it.name]} is an input"), words, given=None, stdin=stream)
+                for link in ("link", "second"):
+                    os.remove(self.path(link))
+        with open(self.path("body"), "rb") as given:
             self.assertEqual(DONE, self.run_program(["make-image", "new", "-", "--version=1"], stdin=given))

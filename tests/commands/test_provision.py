@@ -2,7 +2,7 @@
 
 import os
 
-from support.files import EXAMPLES, ONE, PAIR, read
+from support.files import ONE, PAIR, read
 from support.flashes import FLAG, ONE_IMAGE, flash_of, log_record, new_parts, placed
 from support.printed import DONE, error, refused
 from support.program import ProgramTest
@@ -81,28 +81,10 @@ class ProvisionTest(ProgramTest):
         self.assertEqual(DONE, self.run_program(["provision", PAIR, "made", ONE, ONE]))
         self.assertEqual(whole, read(f"{self.folder}/made"))
 
-    def test_input_as_the_flash(self):
-        """It is refused by any of its names, also if it is standard input."""
-        end, path = error("flash is an input"), self.path
-        self.file("device", read(PAIR))
+    def test_input_that_cannot_be_read_comes_before_one_as_the_flash(self):
         self.file("image", read(ONE))
-        self.file("other", read(f"{EXAMPLES}/images/needing.img"))
-        for name in ("device", "image"):
-            os.symlink(name, path(f"{name}-link"))
-            os.link(path(name), path(f"{name}-second"))
-            names = [name, f"./{name}", path(name), f"{name}-link", f"{name}-second"]
-            for first, second in [*((name, it) for it in names), *((it, name) for it in names), (names[3], names[4])]:
-                given = {"device": [[first, second, ONE, ONE]]}.get(name)
-                for arguments in given or [[PAIR, second, first, ONE], [PAIR, second, ONE, first]]:
-                    with self.subTest(" ".join(arguments)):
-                        self.assert_unchanged(end, arguments)
-            for flash in (name, f"{name}-link", f"{name}-second", "/dev/stdin"):
-                arguments = ["-", flash, ONE, ONE] if name == "device" else [PAIR, flash, ONE, "-"]
-                with self.subTest(" ".join(arguments)), open(path(name), "rb") as given:
-                    self.assert_unchanged(end, arguments, stdin=given)
         self.assert_unchanged(error("cannot read absent"), [PAIR, "image", "image", "absent"])
-        self.assert_unchanged(end, [PAIR, "image", "image", "other"])
-        os.symlink("made", path("to-made"))
+        os.symlink("made", self.path("to-made"))
         self.assert_unchanged(error("cannot read to-made"), [PAIR, "made", "to-made", ONE])
 
     def test_pipe_as_standard_input_and_the_flash(self):

@@ -8,7 +8,6 @@ from support.files import EXAMPLES, ONE, files_in, read
 from support.program import ProgramTest
 
 COUNTED = read(f"{EXAMPLES}/images/counted.img")
-IS_AN_INPUT, IN_USE = (1, b"", b"error: image is an input\n"), (1, b"", b"error: image in use\n")
 DONE = (0, b"done\n", b"")
 
 
@@ -25,16 +24,6 @@ class ImageFileTest(ProgramTest):
         before = {*files_in(self.folder)}
         got = self.run_program(["make-image", *arguments], **how)
         self.assertEqual((ended, changed), (got, {it[0] for it in before ^ {*files_in(self.folder)}}))
-
-    def test_an_image_never_replaces_its_body(self):
-        names = {"own": "its name", self.path("own"): "its path", "own-link": "a link", "own-second": "its second name"}
-        pairs = [*(("own", it) for it in names), *((it, "own") for it in names), ("own-link", "own-second")]
-        for made, body in pairs:
-            with self.subTest(f"image by {names[made]}, body by {names[body]}"):
-                self.expect_files(IS_AN_INPUT, set(), made, body, "--version=1")
-        for made in ("own", "own-link", "own-second"):
-            with self.subTest(f"image by {names[made]}, body on standard input"), open(self.path("own"), "rb") as given:
-                self.expect_files(IS_AN_INPUT, set(), made, "-", "--version=1", stdin=given)
 
     def test_only_a_plain_file_is_made(self):
         os.symlink("nowhere", self.path("astray"))
@@ -67,7 +56,7 @@ class ImageFileTest(ProgramTest):
         for how in (fcntl.LOCK_EX, fcntl.LOCK_SH):
             for made in ("own", "own-link"):
                 with self.subTest(f"{made} with lock {how}"), self.held("own", how):
-                    self.expect_files(IN_USE, set(), made, "body", "--version=1")
+                    self.expect_files((1, b"", b"error: image in use\n"), set(), made, "body", "--version=1")
 
     def test_a_body_that_comes_first_stays(self):
         """Only `--force` replaces it."""
