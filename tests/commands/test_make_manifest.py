@@ -165,15 +165,3 @@ class NoteTest(ProgramTest):
         for kinds, note in [("permanent test", BOTH_KINDS), ("permanent permanent", b""), ("test test", b"")]:
             files = [f"--{kind}={at}=new{at}" for at, kind in enumerate(kinds.split())]
             self.assertEqual(note, self.notes(*files), kinds)
-
-    def test_strict(self):
-        """With `--strict`, the status is 1 if there is a note. Nothing else changes."""
-        new_device(self)
-        both = ["--test=0=needing.img", "--permanent=1=partner.img"]
-        for options, status in [
-            (["--test=0=abc"], 1), (["--test=0=long.img"], 1), (["--test=0=needing.img", "--precursor=flash"], 1),
-            (both, 1), ([*both, "--precursor=flash"], 1), (["--test=0=one.img"], 0),
-        ]:
-            with self.subTest(" ".join(options)):
-                usual = self.run_program(make_manifest(*options))
-                self.assertEqual((status, *usual[1:]), self.run_program(make_manifest(*options, "--strict")))

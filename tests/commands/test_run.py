@@ -8,24 +8,11 @@ import time
 from support.files import EXAMPLES, PAIR, names_in, read
 from support.flashes import flash_of
 from support.program import LIMIT, ProgramTest
-from support.stories import flash_in, new_device, run_of, script_of
-from support.worked import NEEDS, NO_SESSION, NOT_UP, PLAIN, numbered
+from support.stories import flash_in, new_device, script_of
+from support.worked import PLAIN, numbered
 
 # How many boots a long script has. Their replies are far longer than a pipe's buffer.
 MANY = 20_000
-
-# One of two images that need each other is requested.
-HALF_AN_UPLOAD = "boot, accept trial.json, piece 1 partner.img, finish 1, boot"
-
-# Events on a new device, their replies, the status, and that with `--strict`.
-LAST_REPLIES = [
-    ("boot, piece 2 abc", [PLAIN, NO_SESSION], 1, 1),
-    ("finish 0, boot, reset", [NOT_UP, PLAIN, "done"], 0, 1),
-    ("cut 1 keep, finish 0, boot, accept trial.json", [NOT_UP, PLAIN, "cut"], 3, 3),
-    ("cut 1 keep, boot, accept trial.json, boot", [PLAIN, "cut", PLAIN], 0, 0),
-    # A boot whose report refuses a request: the device runs on, and only `--strict` ends with 1.
-    (HALF_AN_UPLOAD, [PLAIN, *3 * ["done"], NEEDS], 0, 1),
-]
 
 def status_after(output):
     """The status of a run with this output, by its last reply."""
@@ -72,10 +59,3 @@ class RunTest(ProgramTest):
         command = [self.program, "run", PAIR, "flash", "script", "--json", "--explain"]
         ran = subprocess.run(command, cwd=self.folder, capture_output=True, **limited)
         self.assertEqual((0, MANY), (ran.returncode, ran.stdout.count(b"\n")))
-
-    def test_last_reply_decides_the_status(self):
-        for events, replies, *statuses in LAST_REPLIES:
-            for options, status in zip(([], ["--strict"]), statuses):
-                with self.subTest(f"{events} {options}"):
-                    new_device(self)
-                    self.assertEqual((status, numbered(replies), b""), run_of(self, events, options=options))
