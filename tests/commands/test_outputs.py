@@ -1,9 +1,12 @@
 """Outputs that can't be written, or only up to some byte."""
 
+import fcntl
+import os
 
-from support.every_command import EVERY, write_inputs
+
+from support.every_command import BY_NAME, EVERY, write_inputs
 from support.files import read, report
-from support.printed import OF_SENSOR, PARTS
+from support.printed import OF_SENSOR, PARTS, error
 from support.program import ProgramTest, shown
 from support.stories import flash_in
 
@@ -57,3 +60,22 @@ class OutputTest(ProgramTest):
                 got = self.run_program(arguments, stderr=parts, most=room)
             self.assertEqual((1, OF_SENSOR, b""), got, f"{room} bytes")
             self.assertEqual(PARTS[:room], read(f"{self.folder}/parts"))
+
+    def test_file_that_cannot_be_made(self):
+        """Its name leads to no plain file, or another program holds what is there. Nothing is changed."""
+        write_inputs(self)
+        os.symlink("nowhere", self.path("astray"))
+        os.symlink("image", self.path("by-link"))
+        os.mkfifo(self.path("pipe"))
+        makers = ("make-image", "image"), ("make-image", "by-link"), ("extract", "image"), ("provision", "flash")
+        for command, held in makers:
+            it, message = BY_NAME[command], "flash in use" if command == "provision" else "image in use"
+            into = lambda name: [name if word == it.makes else word for word in it.arguments()]
+            for name in (".", "pipe", "/dev/null", "astray", "no\n/made\x1b"):
+                with self.subTest(f"{command} {name!r}"):
+                    shown = name.replace("\n", "\\n").replace("\x1b", "\\u{1b}")
+                    end = error("flash file", 4) if command == "provision" else error(f"cannot write {shown}")
+                    self.assert_refuses(end, into(name))
+            for how in (fcntl.LOCK_EX, fcntl.LOCK_SH):
+                with self.subTest(f"{command} of a file with lock {how}"), self.held(held, how):
+                    self.assert_refuses(error(message), into(held))

@@ -68,19 +68,6 @@ class ProvisionTest(ProgramTest):
                 self.assertEqual(DONE, self.run_program(["provision", *force, PAIR, "flash", ONE, ONE]))
                 self.assertEqual(whole, flash_in(self))
 
-    def test_flash_that_cannot_be_made(self):
-        """It stays as it was, and can be made afterwards."""
-        whole = new_device(self)
-        os.symlink("nowhere", f"{self.folder}/astray")
-        os.mkfifo(f"{self.folder}/pipe")
-        for name in ("astray", "pipe", "/dev/null"):
-            self.assert_unchanged(error("flash file", 4), [PAIR, name, ONE, ONE])
-        for most in (0, 4096, 8191):
-            for name in ("made", "flash"):
-                self.assert_unchanged(error("flash file", 4), [PAIR, name, ONE, ONE], most=most)
-        self.assertEqual(DONE, self.run_program(["provision", PAIR, "made", ONE, ONE]))
-        self.assertEqual(whole, read(f"{self.folder}/made"))
-
     def test_input_that_cannot_be_read_comes_before_one_as_the_flash(self):
         self.file("image", read(ONE))
         self.assert_unchanged(error("cannot read absent"), [PAIR, "image", "image", "absent"])

@@ -8,12 +8,12 @@ import subprocess
 from support.compiled import needs_compiler, preloaded
 from support.files import EXAMPLES, PAIR, read
 from support.flashes import new_parts, placed
-from support.printed import CANNOT_MAKE, IN_USE
+from support.printed import CANNOT_MAKE, DONE, IN_USE
 from support.program import LIMIT, ProgramTest
 from support.stories import flash_in, new_device, run_of, script_of
 from support.worked import BACK, PLAIN, SUM_OF_WRITES, TRIED, USUAL, WORKED_EVENTS, WRITES, ended
 
-REFUSED, DONE = (1, b"", IN_USE), (0, b"done\n", b"")
+REFUSED = (1, b"", IN_USE)
 MAKE = ["provision", PAIR, "flash", "one.img", "patched.img"]
 
 

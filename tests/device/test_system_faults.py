@@ -7,7 +7,7 @@ from support.commands import MAKING, replaced_by
 from support.compiled import needs_compiler, preloaded
 from support.files import EXAMPLES, ONE, PAIR, read, report, table
 from support.flashes import flash_of
-from support.printed import CANNOT_MAKE
+from support.printed import CANNOT_MAKE, DONE
 from support.program import ProgramTest, error_line, shown
 from support.stories import flash_in
 from support.worked import (
@@ -22,7 +22,7 @@ COUNTS = ("count", "taken", "wrong")
 # a run.
 FAILING, HARMLESS = ("fail", "nothing"), ("interrupt", "trickle")
 
-NO_MEMORY, DONE = (1, b"", b"error: memory\n"), (0, b"done\n", b"")
+NO_MEMORY = (1, b"", b"error: memory\n")
 
 
 @needs_compiler

@@ -1,14 +1,13 @@
 """Files that `make-image` makes: under which names, over which files, and who may hold them."""
 
-import fcntl
 import os
 import stat
 
 from support.files import EXAMPLES, ONE, files_in, read
+from support.printed import DONE
 from support.program import ProgramTest
 
 COUNTED = read(f"{EXAMPLES}/images/counted.img")
-DONE = (0, b"done\n", b"")
 
 
 class ImageFileTest(ProgramTest):
@@ -25,17 +24,6 @@ class ImageFileTest(ProgramTest):
         got = self.run_program(["make-image", *arguments], **how)
         self.assertEqual((ended, changed), (got, {it[0] for it in before ^ {*files_in(self.folder)}}))
 
-    def test_only_a_plain_file_is_made(self):
-        os.symlink("nowhere", self.path("astray"))
-        os.mkfifo(self.path("pipe"))
-        for made, shown in [
-            ("no/a.img", "no/a.img"), ("no\n/a\x1b", "no\\n/a\\u{1b}"), (".", "."), ("/dev/null", "/dev/null"),
-            ("pipe", "pipe"), ("astray", "astray"),
-        ]:
-            with self.subTest(f"image in the place of {shown}"):
-                message = f"error: cannot write {shown}\n".encode()
-                self.expect_files((1, b"", message), set(), made, "body", "--version=1")
-
     def test_an_image_file_is_replaced_whole(self):
         for old in (None, b"", COUNTED):
             with self.subTest(f"image in the place of {'nothing' if old is None else f'{len(old)} bytes'}"):
@@ -51,12 +39,6 @@ class ImageFileTest(ProgramTest):
         self.expect_files(DONE, {"own"}, "own-link", "body", "--version=1.0.0+0")
         self.assertEqual((read(ONE), COUNTED), (read(self.path("own")), read(self.path("own-second"))))
         self.assertEqual(0o640, stat.S_IMODE(os.stat(self.path("own")).st_mode))
-
-    def test_an_image_that_is_held_stays(self):
-        for how in (fcntl.LOCK_EX, fcntl.LOCK_SH):
-            for made in ("own", "own-link"):
-                with self.subTest(f"{made} with lock {how}"), self.held("own", how):
-                    self.expect_files((1, b"", b"error: image in use\n"), set(), made, "body", "--version=1")
 
     def test_a_body_that_comes_first_stays(self):
         """Only `--force` replaces it."""
