@@ -1,6 +1,5 @@
 """The notes of `--explain`."""
 
-import fcntl
 import hashlib
 import os
 import subprocess
@@ -13,6 +12,7 @@ from support.flashes import flash_of
 from support.printed import error, refused
 from support.program import ProgramTest, obey_permissions
 from support.stories import IMAGES, flash_in, new_device, script_of
+from support.tables import text_of
 from support.worked import PLAIN, numbered
 
 VERSIONS = [
@@ -35,32 +35,16 @@ TABLES = [
     (b"image 0 1 0 0\nrequest 2 0\ndamaged\n", "damaged", NEEDS + GROUPS + NEXT),
     (b"image 0 1 0 0\ndamaged\nneeds 0 1\n", "needs 0 1", NEXT),
     (b"image 0 1 0 0\n\xff\n", "\\xff", NEEDS + GROUPS + REQUESTS + NEXT),
-    (
-        b"".join(b"image %d 1 0 0\n" % it for it in range(9)),
-        "image 8 1 0 0",
-        NEEDS + GROUPS + REQUESTS + " no further image: a table has 8 at most",
-    ),
+    (b"".join(b"image %d 1 0 0\n" % it for it in range(9)), "image 8 1 0 0",
+        NEEDS + GROUPS + REQUESTS + " no further image: a table has 8 at most"),
 ]
 
 # A table whose first six requests are refused, each for another reason, and the notes.
-REFUSED = b"""image 0 2.0.0+0 0 0
-damaged
-image 1 2.0.0+0 0 0
-request 1.9.0+0 0
-image 2 1.0.0+0 5 5
-request 2.0.0+0 4
-image 3 1.0.0+0 0 0
-request 2.0.0+0 0
-needs 9 1.0.0+0
-image 4 1.0.0+0 0 0
-request 2.0.0+0 0
-needs 2 2.0.0+0
-image 5 1.0.0+0 0 0
-request 2.0.0+0 0
-needs-one 0 3.0.0+0 9 1.0.0+0
-image 6 1.0.0+0 0 0
-request 2.0.0+0 0
-"""
+REFUSED = text_of(
+    "image 0 2.0.0+0 0 0, damaged, image 1 2.0.0+0 0 0, request 1.9.0+0 0, image 2 1.0.0+0 5 5, request 2.0.0+0 4, "
+    "image 3 1.0.0+0 0 0, request 2.0.0+0 0, needs 9 1.0.0+0, image 4 1.0.0+0 0 0, request 2.0.0+0 0, needs 2 2.0.0+0, "
+    "image 5 1.0.0+0 0 0, request 2.0.0+0 0, needs-one 0 3.0.0+0 9 1.0.0+0, image 6 1.0.0+0 0 0, request 2.0.0+0 0"
+)
 WHY_REFUSED = [
     "image 0: the bytes that are requested are no intact image",
     "image 1: 1.9.0+0 is requested, and 2.0.0+0 runs, which is newer",
@@ -71,27 +55,27 @@ WHY_REFUSED = [
     " 1.0.0+0 on, which isn't there",
 ]
 
-# Wrong reports for a table, and why they are wrong.
-OF_REPORTS = b"image 0 1.0.0+0 0 0\nrequest 2.0.0+0 0\nneeds 1 2.0.0+0\nimage 1 1.0.0+0 0 5\nrequest 2.0.0+0 5\n"
-OF_OLDER = b"image 0 2 0 0\nrequest 1 0\nimage 1 2 0 0\ndamaged\nimage 2 1 9 9\nrequest 2 8\n"
+# Wrong reports for a file with a table, and why they are wrong.
+OF_REPORTS = text_of("image 0 1 0 0, request 2 0, needs 1 2, image 1 1 0 5, request 2 5")
+OF_OLDER = text_of("image 0 2 0 0, request 1 0, image 1 2 0 0, damaged, image 2 1 9 9, request 2 8")
 REPORTS = [
-    (OF_REPORTS, "take 0 2", ["the report tells of 1 images, and the table of 2"]),
-    (OF_REPORTS, "take 0 2, take 1 2.0.1", ["report line 2: image 1 would run 2.0.0+0, and 2.0.1+0 is told"]),
-    (OF_REPORTS, "take 0 2, run 1 1", ["image 1: the report neither takes nor refuses its request"]),
-    (OF_REPORTS, "take 0 2, take 1 2, refuse 1 older", ["image 1: the report decides its request 2 times"]),
-    (OF_REPORTS, "take 0 2, take 1 2, refuse 7 older", [
+    ("reports", "take 0 2", ["the report tells of 1 images, and the table of 2"]),
+    ("reports", "take 0 2, take 1 2.0.1", ["report line 2: image 1 would run 2.0.0+0, and 2.0.1+0 is told"]),
+    ("reports", "take 0 2, run 1 1", ["image 1: the report neither takes nor refuses its request"]),
+    ("reports", "take 0 2, take 1 2, refuse 1 older", ["image 1: the report decides its request 2 times"]),
+    ("reports", "take 0 2, take 1 2, refuse 7 older", [
         "report line 3: there is no image 7; the table has images 0 and 1"
     ]),
-    (OF_REPORTS, "take 0 2, run 1 1, refuse 1 older", [
+    ("reports", "take 0 2, run 1 1, refuse 1 older", [
         "image 0: 2.0.0+0 needs image 1 from 2.0.0+0 on, which is 1.0.0+0"
     ]),
-    (OF_REPORTS, "run 0 1, run 1 1, refuse 1 counter, refuse 0 needs 1 2", [
+    ("reports", "run 0 1, run 1 1, refuse 1 counter, refuse 0 needs 1 2", [
         "report line 3: `counter` is no reason to refuse image 1 after the lines before"
     ]),
-    (OF_REPORTS, "run 0 1, take 1 2, refuse 0 needs 1 2", [
+    ("reports", "run 0 1, take 1 2, refuse 0 needs 1 2", [
         "report line 3: `needs 1 2.0.0+0` is no reason to refuse image 0 after the lines before"
     ]),
-    (OF_OLDER, "take 0 1, take 1 2, take 2 2", [
+    ("older", "take 0 1, take 1 2, take 2 2", [
         "report line 1 takes 1.0.0+0, and 2.0.0+0 runs, which is newer",
         "report line 2 takes a request that is no intact image",
         "report line 3 takes the security counter 8, below the floor 9",
@@ -267,6 +251,122 @@ OTHER_ROWS = {
 }
 
 
+NO_STATE = "the log of the flash holds no state: run `provision` first, with the same device file"
+GONE = "nothing: No such file or directory (os error 2)"
+RETURN = "a carriage return ends it; a line ends with a line feed alone"
+IS_NO_IMAGE = "at byte 0 stands 0x96f3b801, and an image begins with 0x96f3b83d"
+NO_SIZE = "short has 3 bytes, and the flash of the device has 8192"
+
+# The files that the runs below name, beside `flash`.
+FILES = {
+    "reports": OF_REPORTS, "older": OF_OLDER, "short": b"abc", "one": b"abc", "body": b"ABCD", "boot": b"boot\n",
+    "part": b"boot\npiece 0 - 4 1\n", "sum": b"18446744073709551615 a device\n", "other": b"notes of a meeting\n",
+    "erased": 8192 * b"\xff", "damaged": b"\1" + image()[1:], "needing": image(protected=(DEPENDENCY,), own=version(1)),
+}
+
+CHOOSE, RUN = ["choose", "-"], ["run", PAIR, "flash", "-"]
+
+
+def faults_of_texts():
+    """Yields runs with a fault in a text: the arguments, standard input, how they end, and the notes."""
+    for text, line, choices in TABLES:
+        number = text.removesuffix(b"\n").count(b"\n") + 1
+        notes = [f"table line {number} is `{line}`", f"here may stand{choices}", *VERSIONS]
+        yield CHOOSE, text, error(f"table line {number}"), notes
+    begins = "`image 0 VERSION COUNTER FLOOR`"
+    yield CHOOSE, b"", error("table line 1"), [f"the table is empty; it begins with {begins}"]
+    notes = ["table line 1 is `image 0 1 0 0\\r`", RETURN, f"here may stand {begins}", *VERSIONS]
+    yield CHOOSE, b"image 0 1 0 0\r\n", error("table line 1"), notes
+    given = text_of("image 0 1 0 0, needs 1 2, image 1 1.5 0 0, needs-one 0 3 4 1")
+    yield CHOOSE, given, error("running set not valid"), [
+        "image 0: 1.0.0+0 needs image 1 from 2.0.0+0 on, which is 1.5.0+0",
+        "image 1: 1.5.0+0 needs one of these: image 0 from 3.0.0+0 on, which is 1.0.0+0; image 4 from 1.0.0+0 on, which"
+        " isn't there",
+    ]
+    for name, report, notes in REPORTS:
+        yield ["check", name, "-"], text_of(report), (1, b"no\n", b""), notes
+    notes = ["report line 2 is `fly 1 1`", "here may stand `run 1 VERSION`, `take 1 VERSION`, `refuse I REASON`"]
+    yield ["check", table("pair"), "-"], b"run 0 1\nfly 1 1\n", error("report line 2"), notes + REASONS + VERSIONS
+    for line, why in LINES.items():
+        yield RUN, f"boot\n{line}\n".encode(), error("script line 2"), [f"script line 2 is `{line}`", why]
+    notes = ["script line 2 is `cut 3 done`", "the numbers of cuts rise, and write 3 can't follow write 3"]
+    yield RUN, b"cut 3 keep\ncut 3 done\nboot\n", error("script line 2"), notes
+    notes = ["script line 1 is `boot\\r`", RETURN, LINES["fly"].replace("fly", "boot\\r")]
+    yield RUN, b"boot\r\n", error("script line 1"), notes
+    notes = ["script line 2 is `piece 0 - 4 1`", "- has 4 bytes, and not 1 from byte 4 on, the first being byte 0"]
+    yield ["run", PAIR, "flash", "part"], b"abcd", error("script line 2"), notes
+    notes = ["script line 1 is `cut 3 keep`", "a sweep cuts each write itself, and its script cuts none"]
+    yield ["sweep", PAIR, "-", ONE, ONE], b"cut 3 keep\nboot\n", error("script line 1"), notes
+    notes = ["a fleet begins with a line `device NAME`; a NAME is 1 to 255 visible characters of ASCII"]
+    yield ["plan", table("pair")], b"", error("fleet line 1"), notes
+    yield ["plan", "--merge", "sum", "sum"], b"", error("cannot merge sum line 1"), [
+        "line 1 is `18446744073709551615 a device`", "a summary has lines `COUNT FIRST KEY` as `plan --summary` prints"
+        " them, sorted by the bytes of KEY; the counts of a KEY add up to less than 2^64",
+    ]
+
+
+def faults_of_files():
+    """Yields runs with a fault in another file, or in the values of a new one."""
+    yield ["choose", "nothing"], b"", error("cannot read nothing"), [GONE]
+    notes = [GONE, "script line 2 names it: `accept nothing`"]
+    yield RUN, b"boot\naccept nothing\n", error("cannot read nothing"), notes
+    for name, why in [(".", "is a directory"), ("/dev/null", "neither a plain file nor a block device")]:
+        for arguments in ["show", PAIR, name], ["run", PAIR, name, "-"]:
+            yield arguments, b"", error(f"cannot read {name}"), [f"{name}: {why}"]
+    for refusal, whole, notes in damaged_images():
+        yield ["image", "-"], whole, refused(refusal), notes
+    for text, note in DEVICES:
+        yield ["show", "-", "absent"], text, error("device file"), ["- is no device file:", note]
+    for sector, slots, refusal, note in MAPS:
+        end, given = refused(f"map {refusal}"), device(sector=sector, sectors=slots)
+        yield ["show", "-", "absent"], given, end, [note.replace("NAME", "sector")]
+        option, listed = note.replace("NAMEs", "--slots").replace("NAME", "--sector"), ",".join(map(str, slots))
+        arguments = ["make-device", f"--sector={sector}", f"--slots={listed}", "--vendor=v", "--class=c"]
+        yield arguments, b"", end, [option]
+    for text, refusal, notes in MANIFESTS:
+        yield ["manifest", PAIR, "-"], text, refused(refusal), notes
+    for options, refusal, note in [
+        (["--header-size=31"], "1 BadHeaderSize", "`--header-size` is 31, and a header has 32 bytes at least"),
+        (["--flags=530"], "2 UnsupportedFlags", "`--flags` is 530, which is 0x212; 0x202 of them aren't"
+            " accepted, and 0x111 are"),
+        (17 * ["--needs=1 2"], "3 TooManyDependencies", "there are 17 dependencies, and an image has 16 at most"),
+        (5 * ["--needs-one=1 1"], "6 BadGroups", "there are 5 `--needs-one`, and an image has 4 at most"),
+        (["--needs-one=1 1", "--needs-one=1 1 2 1 3 1 4 1 5 1"], "6 BadGroups", "`--needs-one` number 2 names 5"
+            " images, and may name 1 to 4"),
+    ]:
+        yield ["make-image", "made", "body", "--version=1", *options], b"", refused(refusal), [note]
+    not_there, twice = "%s is for image %d, and the device has images 0 and 1", "b is for image 0, as a is"
+    for options, refusal, notes in [
+        (["--test=2=a"], "6 NoComponent", [not_there % ("a", 2)]),
+        (["--test=0=a", "--permanent=0=b"], "7 RepeatedComponent", [twice]),
+        (["--test=0=a", "--test=0=b", "--test=255=c"], "6 NoComponent", [twice, not_there % ("c", 255)]),
+    ]:
+        yield make_manifest(*options), b"", refused(refusal), notes
+
+
+def faults_of_flashes():
+    """Yields runs with a fault in a flash, or in an image or a file for a new one."""
+    notes = ["image 0: 1.0.0+0 needs image 1 from 2.3.4+5 on, which is 1.0.0+0"]
+    yield ["provision", PAIR, "unmade", "needing", ONE], b"", refused("boot 6 InvalidSet"), notes
+    notes = ["damaged is no intact image:", IS_NO_IMAGE]
+    yield ["provision", PAIR, "unmade", "damaged", ONE], b"", refused("boot 5 RunningDamaged 0"), notes
+    notes = ["other has 19 bytes, and the flash of the device has 8192"]
+    yield ["provision", PAIR, "other", ONE, ONE], b"", error("flash size"), notes
+    notes = ["`--force` replaces other by the image"]
+    yield ["extract", PAIR, "flash", "0", "primary", "other"], b"", error("other is no image"), notes
+    for command in ("show", "slots"):
+        yield [command, PAIR, "erased"], b"", refused("boot 4 NotProvisioned"), [NO_STATE]
+    end = (1, b"1 refused boot 4 NotProvisioned\n", b"")
+    yield ["run", PAIR, "erased", "-"], b"boot\n", end, ["of reply 1:", NO_STATE]
+    for arguments in (
+        ["show", PAIR, "short"], ["extract", PAIR, "short", "0", "primary", "copy"], ["run", PAIR, "short", "boot"],
+        make_manifest(f"--test=0={ONE}", "--precursor=short"),
+    ):
+        yield arguments, b"", error("flash size"), [NO_SIZE]
+    notes = ["- has more bytes than the flash of the device, which has 8192"]
+    yield ["show", PAIR, "-"], 8195 * b"x", error("flash size"), notes
+
+
 class ExplainTest(ProgramTest):
     def assert_notes(self, notes, arguments, end, **how):
         """With `--explain` the run ends so with these notes, and without it so without them."""
@@ -276,8 +376,23 @@ class ExplainTest(ProgramTest):
         self.assertEqual(end, self.run_program(arguments, **how))
 
 
-class ExplainTextTest(ExplainTest):
-    """Tables, reports, scripts, and files that can't be read."""
+class ExplainFaultTest(ExplainTest):
+    def assert_each(self, faults):
+        flash_of(self)
+        for name, contents in FILES.items():
+            self.file(name, contents)
+        for arguments, given, end, notes in faults:
+            with self.subTest(f"{arguments[0]}: {notes[0]}"):
+                self.assert_notes(notes, arguments, end, given=given)
+
+    def test_faults_of_texts(self):
+        self.assert_each(faults_of_texts())
+
+    def test_faults_of_files(self):
+        self.assert_each(faults_of_files())
+
+    def test_faults_of_flashes(self):
+        self.assert_each(faults_of_flashes())
 
     def test_run_without_a_fault_has_no_notes(self):
         write_inputs(self)
@@ -286,119 +401,12 @@ class ExplainTextTest(ExplainTest):
                 usual = self.run_program(it.arguments()), flash_in(self)
                 self.assertEqual(usual, (self.run_program([*it.arguments(), "--explain"]), flash_in(self)))
 
-    def test_line_of_a_table_and_what_may_stand_there(self):
-        for text, line, choices in TABLES:
-            with self.subTest(f"{text[-30:]!r}"):
-                number = text.removesuffix(b"\n").count(b"\n") + 1
-                notes = [f"table line {number} is `{line}`", f"here may stand{choices}", *VERSIONS]
-                self.assert_notes(notes, ["choose", self.file("text", text)], error(f"table line {number}"))
-        notes = ["the table is empty; it begins with `image 0 VERSION COUNTER FLOOR`"]
-        self.assert_notes(notes, ["choose", "-"], error("table line 1"))
-        notes = ["table line 1 is `image 0 1 0 0\\r`", "a carriage return ends it; a line ends with a line feed alone"]
-        notes += ["here may stand `image 0 VERSION COUNTER FLOOR`", *VERSIONS]
-        self.assert_notes(notes, ["choose", "-"], error("table line 1"), given=b"image 0 1 0 0\r\n")
-
-    def test_running_images_that_do_not_fit(self):
-        notes = ["image 0: 1.0.0+0 needs image 1 from 2.0.0+0 on, which is 1.5.0+0"]
-        notes += ["image 1: 1.5.0+0 needs one of these: image 0 from 3.0.0+0 on, which is 1.0.0+0; image 4 from 1.0.0+0"
-                  " on, which isn't there"]
-        given = b"image 0 1 0 0\nneeds 1 2\nimage 1 1.5 0 0\nneeds-one 0 3 4 1\n"
-        self.assert_notes(notes, ["choose", "-"], error("running set not valid"), given=given)
-
     def test_reason_for_each_refused_request(self):
         status, out, err = self.run_program(["choose", "--explain", "-"], given=REFUSED)
         self.assertEqual((0, sorted(WHY_REFUSED)), (status, sorted(it[6:] for it in err.decode().splitlines())))
         for name in names_in("tables"):
             _, out, err = self.run_program(["choose", table(name), "--explain"])
             self.assertEqual(out.count(b"refuse "), err.count(b"note: image "), name)
-
-    def test_first_reason_for_a_no(self):
-        for given, report, notes in REPORTS:
-            with self.subTest(report):
-                files = self.file("given", given), self.file("text", report.replace(", ", "\n").encode() + b"\n")
-                self.assert_notes(notes, ["check", *files], (1, b"no\n", b""))
-
-    def test_line_of_a_report(self):
-        notes = ["report line 2 is `fly 1 1`", "here may stand `run 1 VERSION`, `take 1 VERSION`, `refuse I REASON`"]
-        arguments, given = ["check", table("pair"), "-"], b"run 0 1\nfly 1 1\n"
-        self.assert_notes(notes + REASONS + VERSIONS, arguments, error("report line 2"), given=given)
-
-    def test_line_of_a_script(self):
-        flash_of(self)
-        self.file("one", b"abc")
-        run = ["run", PAIR, "flash", "-"]
-        for line, why in LINES.items():
-            with self.subTest(line):
-                given = f"boot\n{line}\n".encode()
-                self.assert_notes([f"script line 2 is `{line}`", why], run, error("script line 2"), given=given)
-        notes = ["script line 2 is `cut 3 done`", "the numbers of cuts rise, and write 3 can't follow write 3"]
-        self.assert_notes(notes, run, error("script line 2"), given=b"cut 3 keep\ncut 3 done\nboot\n")
-        notes = ["script line 1 is `cut 3 keep`", "a sweep cuts each write itself, and its script cuts none"]
-        self.assert_notes(notes, ["sweep", PAIR, "-", ONE, ONE], error("script line 1"), given=b"cut 3 keep\nboot\n")
-        notes = ["script line 2 is `piece 0 - 4 1`", "- has 4 bytes, and not 1 from byte 4 on, the first being byte 0"]
-        script = self.file("script", b"boot\npiece 0 - 4 1\n")
-        self.assert_notes(notes, ["run", PAIR, "flash", script], error("script line 2"), given=b"abcd")
-        _, _, err = self.run_program([*run, "--explain"], given=b"boot\r\n")
-        self.assertIn(b"`boot\\r`\nnote: a carriage return ends it; a line ends with a line feed alone\n", err)
-
-    def test_file_that_cannot_be_read(self):
-        gone = "nothing: No such file or directory (os error 2)"
-        self.assert_notes([gone], ["choose", "nothing"], error("cannot read nothing"))
-        flash_of(self)
-        arguments, given = ["run", PAIR, "flash", "-"], b"boot\naccept nothing\n"
-        notes = [gone, "script line 2 names it: `accept nothing`"]
-        self.assert_notes(notes, arguments, error("cannot read nothing"), given=given)
-        for name, why in [(".", "is a directory"), ("/dev/null", "neither a plain file nor a block device")]:
-            for command in ("run", "show"):
-                arguments = [command, PAIR, name, *["-"] * (command == "run")]
-                self.assert_notes([f"{name}: {why}"], arguments, error(f"cannot read {name}"))
-
-
-class ExplainFileTest(ExplainTest):
-    """Images, device files, manifests, and files that are made."""
-
-    def test_byte_at_which_an_image_is_damaged(self):
-        for refusal, one, notes in damaged_images():
-            with self.subTest(notes[0]):
-                self.assert_notes(notes, ["image", self.file("one", one)], refused(refusal))
-
-    def test_key_of_a_device_file(self):
-        for text, note in DEVICES:
-            with self.subTest(note):
-                arguments = ["show", self.file("device", text), "absent"]
-                self.assert_notes(["device is no device file:", note], arguments, error("device file"))
-
-    def test_sizes_that_make_no_map(self):
-        for sector, slots, refusal, note in MAPS:
-            with self.subTest(note):
-                arguments = ["show", self.file("device", device(sector=sector, sectors=slots)), "absent"]
-                self.assert_notes([note.replace("NAME", "sector")], arguments, refused(f"map {refusal}"))
-                option = note.replace("NAMEs", "--slots").replace("NAME", "--sector")
-                listed = ",".join(map(str, slots))
-                arguments = ["make-device", f"--sector={sector}", f"--slots={listed}", "--vendor=v", "--class=c"]
-                self.assert_notes([option], arguments, refused(f"map {refusal}"))
-
-    def test_key_of_a_manifest(self):
-        for text, refusal, notes in MANIFESTS:
-            with self.subTest(notes[0]):
-                self.assert_notes(notes, ["manifest", PAIR, self.file("text", text)], refused(refusal))
-        text = manifest().replace(b'"sequence-number": 1', b'"sequence-number": 1e999')
-        _, _, err = self.run_program(["manifest", PAIR, self.file("text", text), "--explain"])
-        self.assertEqual(b"note: number out of range at line 1 ", err[:36])
-
-    def test_value_that_no_image_can_have(self):
-        body = self.file("body", b"ABCD")
-        for options, refusal, note in [
-            (["--header-size=31"], "1 BadHeaderSize", "`--header-size` is 31, and a header has 32 bytes at least"),
-            (["--flags=530"], "2 UnsupportedFlags", "`--flags` is 530, which is 0x212; 0x202 of them aren't"
-                " accepted, and 0x111 are"),
-            (17 * ["--needs=1 2"], "3 TooManyDependencies", "there are 17 dependencies, and an image has 16 at most"),
-            (5 * ["--needs-one=1 1"], "6 BadGroups", "there are 5 `--needs-one`, and an image has 4 at most"),
-            (["--needs-one=1 1", "--needs-one=1 1 2 1 3 1 4 1 5 1"], "6 BadGroups", "`--needs-one` number 2 names 5"
-                " images, and may name 1 to 4"),
-        ]:
-            with self.subTest(note):
-                self.assert_notes([note], ["make-image", "made", body, "--version=1", *options], refused(refusal))
 
     def test_body_that_may_be_another_file(self):
         for body, notes in [
@@ -425,33 +433,6 @@ class ExplainFileTest(ExplainTest):
                     given = [*arguments, *(f"{it}.img" for it in images)]
                     self.assert_notes(notes, given, self.run_program(given))
 
-    def test_manifest_that_cannot_be_made(self):
-        self.file("a", b"abc")
-        not_there, twice = "%s is for image %d, and the device has images 0 and 1", "b is for image 0, as a is"
-        for options, refusal, notes in [
-            (["--test=2=a"], "6 NoComponent", [not_there % ("a", 2)]),
-            (["--test=0=a", "--permanent=0=b"], "7 RepeatedComponent", [twice]),
-            (["--test=0=a", "--test=0=b", "--test=255=c"], "6 NoComponent", [twice, not_there % ("c", 255)]),
-        ]:
-            with self.subTest(refusal):
-                self.assert_notes(notes, make_manifest(*options), refused(refusal))
-
-    def test_image_of_a_new_flash(self):
-        self.file("needing", image(protected=(DEPENDENCY,), own=version(1)))
-        notes = ["image 0: 1.0.0+0 needs image 1 from 2.3.4+5 on, which is 1.0.0+0"]
-        self.assert_notes(notes, ["provision", PAIR, "unmade", "needing", ONE], refused("boot 6 InvalidSet"))
-        self.file("damaged", b"\1" + image()[1:])
-        notes = ["damaged is no intact image:", "at byte 0 stands 0x96f3b801, and an image begins with 0x96f3b83d"]
-        self.assert_notes(notes, ["provision", PAIR, "unmade", "damaged", ONE], refused("boot 5 RunningDamaged 0"))
-
-    def test_file_that_is_not_replaced(self):
-        flash_of(self)
-        self.file("other", b"notes of a meeting\n")
-        notes = ["`--force` replaces other by the image"]
-        self.assert_notes(notes, ["extract", PAIR, "flash", "0", "primary", "other"], error("other is no image"))
-        notes = ["other has 19 bytes, and the flash of the device has 8192"]
-        self.assert_notes(notes, ["provision", PAIR, "other", ONE, ONE], error("flash size"))
-
 
 class ExplainPlanTest(ExplainTest):
     """Fleets and summaries."""
@@ -471,14 +452,6 @@ class ExplainPlanTest(ExplainTest):
         notes = [it for it in OTHER_ROWS.values() if it]
         self.assert_notes(notes, ["plan", "--merge", "rows"], (1, read(f"{self.folder}/rows"), b""))
 
-    def test_text_that_is_no_fleet_or_summary(self):
-        notes = ["a fleet begins with a line `device NAME`; a NAME is 1 to 255 visible characters of ASCII"]
-        self.assert_notes(notes, ["plan", table("pair")], error("fleet line 1"))
-        self.file("one", b"18446744073709551615 a device\n")
-        notes = ["line 1 is `18446744073709551615 a device`", "a summary has lines `COUNT FIRST KEY` as `plan"
-                 " --summary` prints them, sorted by the bytes of KEY; the counts of a KEY add up to less than 2^64"]
-        self.assert_notes(notes, ["plan", "--merge", "one", "one"], error("cannot merge one line 1"))
-
     def test_notes_that_cannot_be_written(self):
         self.file("fleet", FLEET)
         with open("/dev/full", "wb") as full:
@@ -493,7 +466,6 @@ NO_REQUEST = "image %d: no request is pending: `finish` of its upload requests i
 NO_TRIAL = "image %d: it isn't on trial: a boot that says `trial` begins one, and a later boot ends it"
 NO_BOOT = "the device isn't booted: it needs a `boot` first, also after a `reset` and after a power cut"
 ON_TRIAL = "a set of images is on trial: the device takes no uploads and withdrawals until a boot ends the trial"
-NO_STATE = "the log of the flash holds no state: run `provision` first, with the same device file"
 
 # Events, the reply to each, and the notes on the reply.
 REPLIES = [
@@ -514,11 +486,9 @@ REPLIES = [
     ("finish 0", "refused upload 5 SizeWrong", ["the manifest says 3 bytes for image 0, and 2 came"]),
     ("accept text.json", "done", []),
     ("piece 0 abd", "done", []),
-    (
-        "finish 0",
-        "refused upload 6 DigestWrong",
-        [f"the manifest says the SHA-256 {ABC} for image 0", f"that of the 3 bytes that came is {sha256(b'abd')}"],
-    ),
+    ("finish 0", "refused upload 6 DigestWrong", [
+        f"the manifest says the SHA-256 {ABC} for image 0", f"that of the 3 bytes that came is {sha256(b'abd')}"
+    ]),
     ("accept text.json", "done", []),
     ("piece 0 abc", "done", []),
     ("finish 0", "refused upload 7 NotAnImage 1", ["there are 3 bytes, and a header has 32"]),
@@ -531,11 +501,9 @@ REPLIES = [
     ("piece 1 older.img", "done", []),
     ("finish 0", "done", []),
     ("finish 1", "done", []),
-    (
-        "boot",
-        "trial|take 0 2.0.0+0|run 1 1.0.0+0|refuse 1 older",
-        ["image 1: 0.9.0+0 is requested, and 1.0.0+0 runs, which is newer"],
-    ),
+    ("boot", "trial|take 0 2.0.0+0|run 1 1.0.0+0|refuse 1 older", [
+        "image 1: 0.9.0+0 is requested, and 1.0.0+0 runs, which is newer"
+    ]),
     ("withdraw 0", "refused boot 2 OnTrial", [ON_TRIAL]),
     ("reset", "done", []),
 ]
@@ -545,17 +513,13 @@ TRIED = "image %d is requested permanently, and on trial: another image of the s
 TRIED += " and reverts as a whole"
 BACK = "image %d was requested permanently, and reverts: the set was on trial as a whole"
 
-# Runs of one device, one after the other, and the notes by the number of the reply.
+# Events on a new device, and the notes by the number of the reply.
 MIXED = [
-    [(f"boot, accept first-for-good.json, {UPLOAD}, boot, boot", {7: TRIED % 0, 8: BACK % 0})],
-    [
-        (f"boot, accept second-for-good.json, {UPLOAD}", {}),
-        ("cut 30 keep, boot", {}),
-        ("boot, boot", {1: TRIED % 1, 2: BACK % 1}),
-    ],
-    [(f"boot, accept trial.json, {UPLOAD}, boot, boot", {})],
-    [(f"boot, accept for-good.json, {UPLOAD}, boot, boot", {})],
-    [(f"boot, accept first-for-good.json, {UPLOAD}, boot, confirm 0, confirm 1, boot, boot", {7: TRIED % 0})],
+    (f"boot, accept first-for-good.json, {UPLOAD}, boot, boot", {7: TRIED % 0, 8: BACK % 0}),
+    (f"cut 38 keep, boot, accept second-for-good.json, {UPLOAD}, boot, boot, boot", {8: TRIED % 1, 9: BACK % 1}),
+    (f"boot, accept trial.json, {UPLOAD}, boot, boot", {}),
+    (f"boot, accept for-good.json, {UPLOAD}, boot, boot", {}),
+    (f"boot, accept first-for-good.json, {UPLOAD}, boot, confirm 0, confirm 1, boot, boot", {7: TRIED % 0}),
 ]
 
 
@@ -583,41 +547,27 @@ class ExplainDeviceTest(ExplainTest):
 
     def test_images_of_a_mixed_trial(self):
         """A trial and its end name each image that was requested permanently."""
-        for parts in MIXED:
-            new_device(self)
-            for events, notes in parts:
-                with self.subTest(events):
-                    wanted = "".join(f"note: of reply {at}:\nnote: {it}\n" for at, it in notes.items())
-                    got = self.run_program(["run", PAIR, "flash", "-", "--explain"], given=script_of(events))
-                    self.assertEqual(wanted, got[2].decode())
-
-    def test_flash_without_a_state(self):
-        self.file("erased", 8192 * b"\xff")
-        for command in ("show", "slots"):
-            self.assert_notes([NO_STATE], [command, PAIR, "erased"], refused("boot 4 NotProvisioned"))
-        end = (1, b"1 refused boot 4 NotProvisioned\n", b"")
-        self.assert_notes(["of reply 1:", NO_STATE], ["run", PAIR, "erased", "-"], end, given=b"boot\n")
+        for events, notes in MIXED:
+            with self.subTest(events):
+                new_device(self)
+                wanted = "".join(f"note: of reply {at}:\nnote: {it}\n" for at, it in notes.items())
+                got = self.run_program(["run", PAIR, "flash", "-", "--explain"], given=script_of(events))
+                self.assertEqual(wanted, got[2].decode())
 
     def test_slots(self):
-        """A slot that holds no image is described: this one and no other."""
-        whole = bytearray(flash_of(self))
-        arguments = make_manifest(f"--test=0={ONE}", f"--test=1={ONE}", "--precursor=flash")
-        for at in (0, 1536, 3072, 4608):
-            number, side = at // 1536 % 2, "primary" if at < 3072 else "secondary"
-            extract = ["extract", PAIR, "flash", f"{number}", side, "copy"]
-            with self.subTest(f"{side} {number}"):
-                self.file("flash", whole[:at] + 1024 * b"\xff" + whole[at + 1024 :])
-                erased = [f"the {side} slot of image {number} is erased: its 1024 bytes are 0xff"]
-                self.assert_notes(erased, extract, refused("2 BadMagic"))
-                if side == "primary":
-                    self.assert_notes(erased, arguments, refused(f"boot 5 RunningDamaged {number}"))
-                self.file("flash", whole[:at] + little(at, 4) + whole[at + 4 :])
-                damaged = [f"at byte 0 stands {at:#010x}, and an image begins with 0x96f3b83d"]
-                self.assert_notes(damaged, extract, refused("2 BadMagic"))
-                if side == "primary":
-                    self.assert_notes(damaged, arguments, refused(f"boot 5 RunningDamaged {number}"))
-                    out = self.run_program(["slots", PAIR, "flash"])[1]
-                    self.assert_notes(damaged, ["slots", PAIR, "flash"], (1, out, b""))
+        """A slot that holds no image is described. That this one is, and no other, is proved."""
+        whole = flash_of(self)
+        arguments = make_manifest(f"--test=1={ONE}", "--precursor=flash")
+        for front, note in [
+            (1024 * b"\xff", "the primary slot of image 1 is erased: its 1024 bytes are 0xff"),
+            (b"\1", "at byte 0 stands 0x96f3b801, and an image begins with 0x96f3b83d"),
+        ]:
+            with self.subTest(note):
+                self.file("flash", whole[:1536] + front + whole[1536 + len(front) :])
+                self.assert_notes([note], ["extract", PAIR, "flash", "1", "primary", "copy"], refused("2 BadMagic"))
+                self.assert_notes([note], arguments, refused("boot 5 RunningDamaged 1"))
+        out = self.run_program(["slots", PAIR, "flash"])[1]
+        self.assert_notes([note], ["slots", PAIR, "flash"], (1, out, b""))
 
     def test_requests_that_the_next_boot_refuses(self):
         new_device(self)
@@ -628,41 +578,18 @@ class ExplainDeviceTest(ExplainTest):
         notes = ["image 0: 2.0.0+0 needs image 1 from 2.0.0+0 on, which can have 1.0.0+0 at best"]
         self.assert_notes(notes, ["slots", PAIR, "flash"], (0, out, b""))
 
-    def test_length_of_a_flash(self):
-        whole = flash_of(self)
-        self.file("script", b"boot\n")
-        for name, contents in [("short", b"abc"), ("long", whole + b"x")]:
-            notes = [f"{self.file(name, contents)} has {len(contents)} bytes, and the flash of the device has 8192"]
-            for arguments in (
-                ["show", PAIR, name],
-                ["run", PAIR, name, "script"],
-                ["extract", PAIR, name, "0", "primary", "copy"],
-                make_manifest(f"--test=0={ONE}", f"--precursor={name}"),
-            ):
-                with self.subTest(f"{arguments[0]} {name}"):
-                    self.assert_notes(notes, arguments, error("flash size"))
-        notes = ["- has more bytes than the flash of the device, which has 8192"]
-        self.assert_notes(notes, ["show", PAIR, "-"], error("flash size"), given=whole + b"xyz")
-
     def test_held_files(self):
         flash_of(self)
         self.file("own", b"old")
-        self.file("boot", b"boot\n")
         held = "another program holds %s, or is replacing it: one that writes it holds it alone"
-        with open(f"{self.folder}/flash", "rb") as flash, open(f"{self.folder}/own", "rb") as own:
-            fcntl.flock(flash, fcntl.LOCK_EX)
-            fcntl.flock(own, fcntl.LOCK_EX)
-            for arguments in [
-                ["show", PAIR, "flash"],
-                ["slots", PAIR, "flash"],
-                ["run", PAIR, "flash", "boot"],
-                ["extract", PAIR, "flash", "0", "primary", "copy"],
-                ["provision", PAIR, "flash", ONE, ONE],
-                make_manifest(f"--test=0={ONE}", "--precursor=flash"),
-            ]:
-                with self.subTest(arguments[0]):
-                    self.assert_notes([held % "flash"], arguments, error("flash in use"))
-            self.assert_notes([held % "own"], ["make-image", "own", ONE, "--version=1"], error("image in use"))
+        for name, arguments in [
+            ("flash", ["show", PAIR, "flash"]), ("flash", ["run", PAIR, "flash", self.file("boot", b"boot\n")]),
+            ("flash", ["extract", PAIR, "flash", "0", "primary", "copy"]),
+            ("flash", ["provision", PAIR, "flash", ONE, ONE]), ("own", ["make-image", "own", ONE, "--version=1"]),
+            ("flash", make_manifest(f"--test=0={ONE}", "--precursor=flash")),
+        ]:
+            with self.subTest(arguments[0]), self.held(name):
+                self.assert_notes([held % name], arguments, error(f"{'image' if name == 'own' else name} in use"))
 
     def test_flash_that_cannot_be_written(self):
         flash_of(self)

@@ -9,7 +9,6 @@ import shutil
 import sqlite3
 import subprocess
 import sys
-import tempfile
 import unittest
 import xml.etree.ElementTree
 
@@ -17,7 +16,7 @@ from support.dask import DaskTest
 from support.files import EXAMPLES, ROOT, read
 from support.fleet import FLEET, tool, write_script
 from support.libraries import shared_library
-from support.program import CaseTest, ProgramTest
+from support.program import FolderTest, ProgramTest
 from support.tables import text_of
 
 sys.path.append(FLEET)
@@ -40,25 +39,6 @@ ONE = b"image 0 1.0.0+0 0 0\n"
 MADE = {"older": 0.2, "damaged": 0.1, "partnerless": 0.15, "bad": 0.05}
 SHARES = [f"--{name}={share}" for name, share in MADE.items()]
 
-# Tables, and what MCUboot's rules `code` and `design` take of them.
-PAIR_TABLE = "image 0 1.0 0 0, request 2.0 0, needs 1 2.0, image 1 1.0 0 0, request 2.0 0, needs 0 2.0"
-RULES = [
-    ("two that need each other", PAIR_TABLE, {0, 1}, {0, 1}),
-    ("one whose partner isn't requested", "image 0 1.0 0 0, request 2.0 0, image 1 1.0 0 0, request 2.0 0, "
-        "needs 2 2.0, image 2 1.0 0 0", set(), {0}),
-    ("a chain whose end is damaged", "image 0 1.0 0 0, request 2.0 0, needs 1 2.0, image 1 1.0 0 0, request 2.0 0, "
-        "needs 2 2.0, image 2 1.0 0 0, damaged, image 3 1.0 0 0, request 2.0 0", set(), {3}),
-    ("a damaged one that nothing needs", "image 0 1.0 0 0, request 2.0 0, image 1 1.0 0 0, damaged", {0}, {0}),
-    ("an older one, and a counter below the floor", "image 0 1.0 0 0, request 0.9 0, image 1 1.0 3 3, request 2.0 2, "
-        "image 2 1.0 0 0, request 1.0 0", {2}, {2}),
-    ("an image that isn't there", "image 0 1.0 0 0, request 2.0 0, needs 1 0.0, image 1 1.0 0 0, request 2.0 0, "
-        "needs 7 1.0", set(), {0}),
-    ("an alternative that runs", "image 0 1.0 0 0, request 2.0 0, needs-one 1 2.0 2 1.0, image 1 1.0 0 0, "
-        "image 2 1.0 0 0", {0}, {0}),
-    ("alternatives that don't", "image 0 1.0 0 0, request 2.0 0, needs-one 1 2.0 7 1.0, image 1 1.0 0 0, request 1.5 0",
-        set(), {1}),
-]
-
 # Plays devices by web/mcuboot.js: reads their images from standard input, and prints what runs after a boot.
 PLAY = """
 import { PerImage } from "./mcuboot.js";
@@ -80,30 +60,10 @@ def of_page(entry):
     return {"version": version(entry.version), "needs": needs}
 
 
-class FolderTest(CaseTest):
-    """A test in a folder of its own."""
-
-    def setUp(self):
-        folder = tempfile.TemporaryDirectory()
-        self.addCleanup(folder.cleanup)
-        self.folder = folder.name
-
-    def put(self, name, contents):
-        with open(f"{self.folder}/{name}", "wb") as it:
-            it.write(contents)
-        return f"{self.folder}/{name}"
-
-
 class RuleTest(ProgramTest):
     """MCUboot's rules in mcuboot_rule.py and web/mcuboot.js."""
 
     runs_once = True
-
-    def test_worked_tables(self):
-        for name, lines, *wanted in RULES:
-            with self.subTest(name):
-                images = fleet_tables.read_table(text_of(lines))
-                self.assertEqual(wanted, [mcuboot_rule.taken_by_code(images), mcuboot_rule.taken_by_design(images)])
 
     def test_design_takes_the_greatest_set(self):
         """The rule `code` takes it only if no request has an unmet dependency, else nothing."""
@@ -159,7 +119,7 @@ class RuleTest(ProgramTest):
                 self.assertEqual(end, tool("mcuboot_rule.py", "-", given=fleet))
 
 
-class MakerTest(CaseTest):
+class MakerTest(unittest.TestCase):
     """make_fleet.py"""
 
     def made(self, *options):
@@ -202,26 +162,25 @@ class WorthTest(ProgramTest):
 
     def test_counts(self):
         """They are those of `plan` and of mcuboot_rule.py, whatever the number of processes is."""
-        with tempfile.TemporaryDirectory() as folder:
-            library = shared_library(folder)
-            lines = ["images,needs,faults,tables,requests,greatest,code,design,behind,by_one"]
-            for mix in worth.mixes():
-                devices = [*map(make_fleet.Fleet(mix, 30, "1", 3).device, range(30))]
-                fleet = "".join(f"device d\n{make_fleet.table_text(it.images)}" for it in devices).encode()
-                plan = self.run_program(["plan", "-"], given=fleet)[1].decode().split("device d\n")[1:]
-                seen = collections.Counter()
-                for device, lines_of in zip(devices, plan):
-                    greatest, code = lines_of.count("take "), len(mcuboot_rule.taken_by_code(device.images))
-                    is_behind = greatest > code == 0
-                    requests = sum(it.request is not None for it in device.images)
-                    seen.update(requests=requests, greatest=greatest, code=code)
-                    seen.update(behind=is_behind, by_one=is_behind and device.faults == 1)
-                counts = [seen[it] for it in ("requests", "greatest", "code", "greatest", "behind", "by_one")]
-                lines.append(",".join(map(str, [mix.images, mix.density, mix.damaged, 30, *counts])))
-            for processes in (1, 3):
-                arguments = "--tables=840", "--csv", f"--processes={processes}"
-                status, out, err = tool("worth.py", *arguments, BOOTSWAP_LIBRARY=library)
-                self.assertEqual((0, lines, b""), (status, out.decode().splitlines(), err))
+        library = shared_library(self.folder)
+        lines = ["images,needs,faults,tables,requests,greatest,code,design,behind,by_one"]
+        for mix in worth.mixes():
+            devices = [*map(make_fleet.Fleet(mix, 30, "1", 3).device, range(30))]
+            fleet = "".join(f"device d\n{make_fleet.table_text(it.images)}" for it in devices).encode()
+            plan = self.run_program(["plan", "-"], given=fleet)[1].decode().split("device d\n")[1:]
+            seen = collections.Counter()
+            for device, lines_of in zip(devices, plan):
+                greatest, code = lines_of.count("take "), len(mcuboot_rule.taken_by_code(device.images))
+                is_behind = greatest > code == 0
+                requests = sum(it.request is not None for it in device.images)
+                seen.update(requests=requests, greatest=greatest, code=code)
+                seen.update(behind=is_behind, by_one=is_behind and device.faults == 1)
+            counts = [seen[it] for it in ("requests", "greatest", "code", "greatest", "behind", "by_one")]
+            lines.append(",".join(map(str, [mix.images, mix.density, mix.damaged, 30, *counts])))
+        for processes in (1, 3):
+            arguments = "--tables=840", "--csv", f"--processes={processes}"
+            status, out, err = tool("worth.py", *arguments, BOOTSWAP_LIBRARY=library)
+            self.assertEqual((0, lines, b""), (status, out.decode().splitlines(), err))
 
 
 # A column of each table of devices.sql, and values that it may not have.
@@ -356,14 +315,6 @@ class PartsTest(DaskTest):
         self.file("empty", b"")
         self.assertEqual((0, b"", b""), self.parted(f"{self.folder}/empty"))
 
-    def test_tables_that_are_too_long(self):
-        tables = [ONE, 300_000 * b"device a b\n", ONE + (8 << 20) * b"x" + b"device c\n", ONE, (1 << 20) * b"x"]
-        self.file("fleet", b"".join(b"device %d\n%s" % it for it in enumerate(tables)))
-        wanted = self.run_program(["plan", "fleet", "--summary"])
-        self.assertIn(b"\n5 0 device\n", wanted[1])
-        for size in (1 << 20, 70_000):
-            self.assertEqual(wanted, self.parted(self.fleet, f"--bytes={size}"))
-
     def test_faults(self):
         """A program that fails ends with its error and no summary. A part has a byte or more."""
         status, out, err = tool("parts.py", self.fleet, "--program=false")
@@ -426,22 +377,13 @@ class PictureTest(FolderTest):
         self.assertEqual((1, b"", fault), tool("reach.py", "-", given=b"1 a bad\n"))
 
     def test_input_as_the_picture(self):
-        """It is refused under any name, and so is any other file without --force."""
-        summary, notes = self.put("summary", SUMMARY), self.put("notes", b"notes\n")
-        os.symlink("summary", f"{self.folder}/link")
-        os.link(summary, f"{self.folder}/second")
-        for name, message in [
-            ("summary", "picture is an input"), ("link", "picture is an input"), ("second", "picture is an input"),
-            ("notes", f"{notes} is no picture"), ("none/svg", f"cannot write {self.folder}/none/svg"),
-        ]:
-            with self.subTest(name):
-                end = (1, b"", f"error: {message}\n".encode())
-                self.assertEqual(end, tool("reach.py", summary, "--svg", f"{self.folder}/{name}"))
+        """It is refused, also if it is standard input."""
+        summary, end = self.put("summary", SUMMARY), (1, b"", b"error: picture is an input\n")
+        self.assertEqual(end, tool("reach.py", summary, "--svg", summary))
         with open(summary, "rb") as stream:
             words = [sys.executable, "-B", f"{FLEET}/reach.py", "-", "--svg", summary]
             done = subprocess.run(words, stdin=stream, capture_output=True)
-        self.assertEqual((1, b"error: picture is an input\n"), (done.returncode, done.stderr))
-        self.assertEqual((SUMMARY, b"notes\n"), (read(summary), read(notes)))
+        self.assertEqual((end, SUMMARY), ((done.returncode, done.stdout, done.stderr), read(summary)))
 
     def test_replaces_a_picture_or_by_force(self):
         summary = self.put("summary", SUMMARY)

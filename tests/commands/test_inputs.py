@@ -3,7 +3,7 @@
 import os
 
 from support.every_command import BY_NAME, EVERY, FILES, write_inputs
-from support.files import files_in, read
+from support.files import read
 from support.printed import DONE, error, refused
 from support.program import ProgramTest
 
@@ -22,6 +22,9 @@ NAMES = {
 
 # The longest texts, from docs/FORMATS.md.
 MOST_TABLE, MOST_JSON, MOST_SCRIPT = 65_536, 1_048_576, 268_435_456
+
+# What commands make, as they call it if it is an input.
+KINDS = {"make-image": "image", "extract": "image", "provision": "flash", "sweep": "picture"}
 
 ENDLESS = "/dev/zero"
 
@@ -54,13 +57,11 @@ class InputTest(ProgramTest):
                         self.assertEqual(usual, self.run_program(it.reading(at, "-"), given=given, pieces=3))
 
     def test_unreadable_input_is_named_in_one_line(self):
-        before = [*files_in(self.folder)]
         for it in EVERY:
             for at, name in it.inputs():
                 for other, shown in NAMES.items():
                     with self.subTest(f"{it.name}: {other!r} as {name}"):
-                        self.assertEqual(error(f"cannot read {shown}"), self.run_program(it.reading(at, other)))
-        self.assertEqual(before, [*files_in(self.folder)])
+                        self.assert_refuses(error(f"cannot read {shown}"), it.reading(at, other))
 
     def test_folder_as_standard_input_is_unreadable(self):
         for it in EVERY:
@@ -77,19 +78,16 @@ class InputTest(ProgramTest):
         self.assertEqual(refused("1 Short"), self.run_program(["image", "./-"]))
 
     def test_endless_input_is_refused(self):
-        before = [*files_in(self.folder)]
         for it in EVERY:
             for at, name in it.inputs():
                 if name in OF_ENDLESS:
                     with self.subTest(f"{it.name}: {name}"):
-                        self.assertEqual(error(OF_ENDLESS[name]), self.run_program(it.reading(at, ENDLESS)))
+                        self.assert_refuses(error(OF_ENDLESS[name]), it.reading(at, ENDLESS))
         for number in (0, 1):
-            end = error(f"image {number} too big")
-            self.assertEqual(end, self.run_program(BY_NAME["provision"].reading(3 + number, ENDLESS)))
+            self.assert_refuses(error(f"image {number} too big"), BY_NAME["provision"].reading(3 + number, ENDLESS))
         self.assertEqual(error(f"cannot read {ENDLESS}"), self.run_program(["show", "device", ENDLESS]))
         with open(ENDLESS, "rb") as zeros:
             self.assertEqual(error("flash size"), self.run_program(["show", "device", "-"], given=None, stdin=zeros))
-        self.assertEqual(before, [*files_in(self.folder)])
 
     def test_texts_of_the_longest_size_are_read(self):
         usual = self.run_program(["manifest", "device", "manifest"])
@@ -113,24 +111,19 @@ class InputTest(ProgramTest):
             end = error(f"script line {given[:MOST_SCRIPT].count(line[-1:]) + 1}")
             self.assertEqual(end, self.run_program(["run", "device", "flash", "-"], given=given))
 
-    def test_standard_input_is_no_output(self):
-        """No command makes the file that is its standard input, by any name."""
-        os.symlink("image", f"{self.folder}/link")
-        for arguments, name, kind in [
-            ("make-image image - --version=1 --force", "image", "image"),
-            ("make-image link - --version=1", "image", "image"),
-            ("make-image image - --version=1", "link", "image"),
-            ("extract device - 0 primary ./flash --force", "flash", "image"),
-            ("extract - flash 0 primary device", "device", "image"),
-            ("provision - device image image", "device", "flash"),
-            ("provision device image image -", "image", "flash"),
-            ("sweep --svg=device - script image image", "device", "picture"),
-            ("sweep --svg=script device - image image", "script", "picture"),
-            ("sweep --svg=link device script - image", "image", "picture"),
-        ]:
-            before = [*files_in(self.folder)]
-            with self.subTest(f"{arguments} < {name}"), open(f"{self.folder}/{name}", "rb") as given:
-                self.assertEqual(error(f"{kind} is an input"), self.run_program(arguments.split(), stdin=given))
-                self.assertEqual(before, [*files_in(self.folder)])
-        with open(f"{self.folder}/body", "rb") as given:
+    def test_input_as_the_output(self):
+        """It is refused by any of its names, also if it is standard input."""
+        for it in [BY_NAME[name] for name in KINDS]:
+            for at, name in it.inputs():
+                os.symlink(name, self.path("link"))
+                os.link(self.path(name), self.path("second"))
+                for other in (name, f"./{name}", self.path(name), "link", "second"):
+                    for given in (name, "-"):
+                        words = [other if word == it.makes else word for word in it.reading(at, given)]
+                        words += [f"--svg={other}"] * (it.name == "sweep")
+                        with self.subTest(" ".join(words)), open(self.path(name), "rb") as stream:
+                            self.assert_refuses(error(f"{KINDS[it.name]} is an input"), words, given=None, stdin=stream)
+                for link in ("link", "second"):
+                    os.remove(self.path(link))
+        with open(self.path("body"), "rb") as given:
             self.assertEqual(DONE, self.run_program(["make-image", "new", "-", "--version=1"], stdin=given))

@@ -5,7 +5,7 @@ import os
 import uuid
 
 from support.builders import ABC, image, manifest
-from support.printed import DONE, OF_SENSOR, PARTS, note_lines, refused
+from support.printed import DONE, OF_SENSOR, PARTS, note_lines
 from support.program import ProgramTest
 
 # The note before the parts if the vendor's name is empty.
@@ -69,20 +69,3 @@ class MakeDeviceTest(ProgramTest):
                     self.assertEqual(DONE, self.run_program(["provision", made, "new", *images]))
                     self.assertEqual(int(err.split()[-1]), os.path.getsize(f"{self.folder}/new"))
                     os.remove(f"{self.folder}/new")
-
-    def test_first_wrong_size_is_refused(self):
-        for sector, slots, refusal in [
-            (500, 9 * [0], "1 BadSector"), (512, [20, 0], "2 BadCount"), (131072, [5460], "3 TrailerFull"),
-            # Each byte needs an address: 32768 sectors of 131072 bytes are one byte too many.
-            (131072, [5459, 5459, 5459, 1], "4 TooLarge"),
-        ]:
-            with self.subTest(refusal):
-                self.assertEqual(refused(f"map {refusal}"), self.run_program(make_device(sector, slots)))
-
-    def test_sector_in_hexadecimal_or_with_a_unit(self):
-        for sector, spelled in (2560, "0xa00"), (2560, "0xA00"), (4096, "4k"), (131072, "128K"):
-            with self.subTest(spelled):
-                self.assertEqual(*(self.run_program(make_device(it, [1])) for it in (sector, spelled)))
-        for spelled in ("0x0", "1M", "0xffffffff"):
-            with self.subTest(spelled):
-                self.assertEqual(refused("map 1 BadSector"), self.run_program(make_device(spelled, [1])))

@@ -1,14 +1,12 @@
-"""Which manifests `make-manifest` prints, and what it notes and refuses."""
+"""The text of a manifest that `make-manifest` prints, and its notes. What it prints and refuses is proved."""
 
-import fcntl
-import hashlib
 import json
 
-from support.builders import component, device, image, manifest, version
+from support.builders import image, version
 from support.commands import make_manifest
-from support.files import EXAMPLES, ONE, PAIR, read
+from support.files import EXAMPLES, ONE, read
 from support.flashes import flash_of
-from support.printed import OF_ABC, error, note_lines, refused
+from support.printed import OF_ABC, note_lines
 from support.program import ProgramTest
 from support.stories import IMAGES, UPLOADED, flash_in, new_device, run_of
 
@@ -17,82 +15,15 @@ NO_IMAGE = note_lines(b"abc is no intact image: 1 Short")
 BOTH_KINDS = note_lines(b"a boot tries these images as a set: those of --permanent revert too unless each is confirmed")
 
 
-def digest_of(whole):
-    return hashlib.sha256(whole).hexdigest()
-
-
 class MakeManifestTest(ProgramTest):
-    def assert_makes(self, value, notes, arguments, **how):
-        """The run prints a JSON text of this value, which is returned, and these notes."""
-        status, out, err = self.run_program(arguments, **how)
-        self.assertEqual((0, json.loads(value), notes), (status, json.loads(out), err))
-        return self.file("made.json", out)
-
     def test_text_of_a_manifest(self):
         self.file("abc", b"abc")
         self.assertEqual((0, OF_ABC, NO_IMAGE), self.run_program(make_manifest("--permanent=1=abc", sequence=7)))
-        end = (0, OF_ABC, NO_IMAGE.replace(b"abc", b"-"))
-        self.assertEqual(end, self.run_program(make_manifest("--permanent=1=-", sequence=7), given=b"abc"))
 
     def test_manifest_of_the_example(self):
-        arguments = make_manifest(f"--test=0={NEEDING}", f"--test=1={PARTNER}")
-        made = self.assert_makes(read(f"{EXAMPLES}/manifests/trial.json"), b"", arguments)
-        self.assertEqual((0, read(f"{EXAMPLES}/listings/trial.txt"), b""), self.run_program(["manifest", PAIR, made]))
-
-    def test_files_for_a_test_come_first(self):
-        self.file("abc", b"abc")
-        self.file("a=b", b"abc")
-        value = manifest(components=[component(component_id=1), component(kind="permanent")], sequence_number=2**32 - 1)
-        notes = NO_IMAGE + NO_IMAGE.replace(b"abc is", b"a=b is") + BOTH_KINDS
-        arguments = make_manifest("--permanent=0=a=b", "--test=1=abc", sequence=2**32 - 1)
-        self.assert_makes(value, notes, arguments)
-
-    def test_file_for_each_of_eight_images(self):
-        eight = self.file("eight.json", device(sectors=8 * [2]))
-        several = [component(component_id=it, payload_digest=digest_of(read(ONE)), size=76) for it in range(8)]
-        arguments = make_manifest(*(f"--test={it}={ONE}" for it in range(8)), of=eight)
-        self.assert_makes(manifest(components=several), b"", arguments)
-
-    def test_precursors(self):
-        """With a flash, a manifest names the running images, and only a device that runs them accepts it."""
-        whole = flash_of(self)
-        asked = {"size": 96, "precursor_digest": read(f"{EXAMPLES}/descriptions/one.txt").split()[7].decode()}
-        digests = map(digest_of, map(read, (NEEDING, PARTNER)))
-        wanted = [component(component_id=at, payload_digest=it, **asked) for at, it in enumerate(digests)]
-        files = f"--test=0={NEEDING}", f"--test=1={PARTNER}"
-        made = self.assert_makes(manifest(components=wanted), b"", make_manifest("--precursor=flash", *files))
-        self.assert_makes(manifest(components=wanted), b"", make_manifest("--precursor=-", *files), given=whole)
-        upload = f"boot, accept {made}, piece 0 {NEEDING}, piece 1 {PARTNER}, finish 0, finish 1, boot"
-        self.assertEqual(0, run_of(self, f"{upload}, confirm 0, confirm 1")[0])
-        out = run_of(self, f"boot, accept {made}")[1]
-        self.assertTrue(out.endswith(b"\n2 refused upload 8 WrongPrecursor\n"))
-
-    def test_flash_that_is_no_precursor(self):
-        whole = flash_of(self)
-        files = f"--test=0={NEEDING}", f"--test=1={PARTNER}"
-        self.file("damaged", whole[:1576] + b"x" + whole[1577:])
-        arguments = make_manifest("--precursor=damaged", *files)
-        self.assertEqual(refused("boot 5 RunningDamaged 1"), self.run_program(arguments))
-        # Image 0 is intact.
-        self.assertEqual(0, self.run_program(make_manifest("--precursor=damaged", files[0]))[0])
-        for name, contents in [("short", whole[:-1]), ("long", whole + b"x")]:
-            arguments = make_manifest(f"--precursor={self.file(name, contents)}", files[0])
-            self.assertEqual(error("flash size"), self.run_program(arguments))
-        with open(f"{self.folder}/flash", "rb") as held:
-            fcntl.flock(held, fcntl.LOCK_EX)
-            self.assertEqual(error("flash in use"), self.run_program(make_manifest("--precursor=flash", files[0])))
-
-    def test_images_that_no_manifest_may_have(self):
-        """They are refused before a file is read."""
-        again = ["--test=0=a", "--permanent=0=a"]
-        for options, end in [
-            (["--test=2=absent"], refused("6 NoComponent")),
-            ([*again, "--test=255=a"], refused("6 NoComponent")),
-            ([*again, "--precursor=absent"], refused("7 RepeatedComponent")),
-            ([f"--test=0={ONE}", "--test=1=absent"], error("cannot read absent")),
-        ]:
-            with self.subTest(" ".join(options)):
-                self.assertEqual(end, self.run_program(make_manifest(*options)))
+        status, out, err = self.run_program(make_manifest(f"--test=0={NEEDING}", f"--test=1={PARTNER}"))
+        value = json.loads(read(f"{EXAMPLES}/manifests/trial.json"))
+        self.assertEqual((0, value, b""), (status, json.loads(out), err))
 
 
 # The notes on the state of a device.
@@ -228,30 +159,9 @@ class NoteTest(ProgramTest):
                 self.assertEqual(f"2 {reply}", out.decode().splitlines()[-1])
 
     def test_both_kinds(self):
-        """If a test image and a permanent one come together, the device tries and reverts both, as the note says,
-        though neither needs the other. If both are permanent, it tries none."""
-        for number in (0, 1):
-            self.file(f"new{number}", image([], own=version(2, number)))
-        for kinds, note, replies in [
-            ("permanent test", BOTH_KINDS, ["trial", "reverted"]),
-            ("permanent permanent", b"", ["permanent", "plain"]),
-            ("test test", b"", ["trial", "reverted"]),
-        ]:
-            with self.subTest(kinds):
-                flash_of(self)
-                self.assertEqual(note, self.notes(*(f"--{kind}={at}=new{at}" for at, kind in enumerate(kinds.split()))))
-                upload = "boot, accept made.json, piece 0 new0, piece 1 new1, finish 0, finish 1, boot, boot"
-                out = run_of(self, upload)[1].decode()
-                self.assertEqual(replies, [it.split()[1] for it in out.splitlines() if it[0] in "78"])
-
-    def test_strict(self):
-        """With `--strict`, the status is 1 if there is a note. Nothing else changes."""
-        new_device(self)
-        both = ["--test=0=needing.img", "--permanent=1=partner.img"]
-        for options, status in [
-            (["--test=0=abc"], 1), (["--test=0=long.img"], 1), (["--test=0=needing.img", "--precursor=flash"], 1),
-            (both, 1), ([*both, "--precursor=flash"], 1), (["--test=0=one.img"], 0),
-        ]:
-            with self.subTest(" ".join(options)):
-                usual = self.run_program(make_manifest(*options))
-                self.assertEqual((status, *usual[1:]), self.run_program(make_manifest(*options, "--strict")))
+        """It is noted if a test image and a permanent one come together, though neither needs the other."""
+        for at in (0, 1):
+            self.file(f"new{at}", image([], own=version(2, at)))
+        for kinds, note in [("permanent test", BOTH_KINDS), ("permanent permanent", b""), ("test test", b"")]:
+            files = [f"--{kind}={at}=new{at}" for at, kind in enumerate(kinds.split())]
+            self.assertEqual(note, self.notes(*files), kinds)

@@ -1,39 +1,28 @@
 """Outputs that can't be written, or only up to some byte."""
 
-import itertools
+import fcntl
 import os
 
-from support.every_command import EVERY, write_inputs
-from support.files import PAIR, read, report
-from support.printed import OF_SENSOR, PARTS
-from support.program import ProgramTest, shown
-from support.stories import flash_in, new_device
-from support.worked import PLAIN, numbered
 
-# A run that ends with a refused upload, and its replies.
-EVENTS = "cut 999 hex:00ff, boot, accept text.json, piece 0 abcd 0 2, piece 0 abc 2 1, finish 0"
-REPLIES = [PLAIN, "done", "done", "done", "refused upload 7 NotAnImage 1"]
-RUN = ["run", PAIR, "flash", "script"]
+from support.every_command import BY_NAME, EVERY, write_inputs
+from support.files import read, report
+from support.printed import OF_SENSOR, PARTS, error
+from support.program import ProgramTest, shown
+from support.stories import flash_in
 
 # The offset of outputs in their files: beyond all bytes of a flash, so that the size limit doesn't apply to the flash.
 OFFSET = 8192
 
 
 class OutputTest(ProgramTest):
-    def within(self, arguments, room, start=OFFSET, **how):
-        """Runs the program with outputs that take N bytes each, and returns the status and the bytes taken.
-
-        The outputs are files that begin at this offset, and no file takes a byte past the limit.
-        """
-        names = [f"{self.folder}/taken-{it}" for it in ("out", "err")]
+    def within(self, arguments, room):
+        """Runs the program with outputs that take N bytes each, and returns the status and the bytes taken."""
+        names = self.path("taken-out"), self.path("taken-err")
         with open(names[0], "wb") as out, open(names[1], "wb") as err:
-            out.seek(start)
-            err.seek(start)
-            status, _, _ = self.run_program(arguments, most=start + room, stdout=out, stderr=err, **how)
-        taken = [read(name)[start:] for name in names]
-        for name in names:
-            os.remove(name)
-        return status, *taken
+            out.seek(OFFSET)
+            err.seek(OFFSET)
+            status, _, _ = self.run_program(arguments, most=OFFSET + room, stdout=out, stderr=err)
+        return status, *(read(it)[OFFSET:] for it in names)
 
     def test_output_that_takes_no_byte_ends_with_1(self):
         write_inputs(self)
@@ -64,38 +53,6 @@ class OutputTest(ProgramTest):
                     printed = out[:room], b"" if room < len(out) else err[:room]
                     self.assertEqual((1, *printed), self.within(arguments, room))
 
-    def write_script(self, events):
-        self.file("script", "".join(f"{event}\n" for event in events.split(", ")).encode())
-
-    def test_run_stops_after_a_reply_that_is_not_written(self):
-        """No event is run after a reply that wasn't written whole: the flash has only the events up to it."""
-        new, output = new_device(self), numbered(REPLIES)
-        rooms, changes = iter(range(len(output))), []
-        for count in range(1, len(REPLIES) + 1):
-            # The line of the cut, and the events up to the one whose reply can't be written.
-            self.write_script(", ".join(EVENTS.split(", ")[: count + 1]))
-            self.file("flash", new)
-            self.run_program(RUN)
-            left = flash_in(self)
-            changes.append(left != new)
-            self.write_script(EVENTS)
-            for room in itertools.islice(rooms, len(numbered(REPLIES[:count])) - len(numbered(REPLIES[: count - 1]))):
-                self.file("flash", new)
-                self.assertEqual((1, output[:room], b""), self.within(RUN, room), f"{room} bytes")
-                self.assertEqual(left, flash_in(self), f"{room} bytes")
-        # The boot leaves the flash as it was, and each event after it follows one that doesn't.
-        self.assertEqual([False, *4 * [True]], changes)
-
-    def test_run_reports_that_the_flash_is_not_written(self):
-        """The error of the flash ends a run with status 4, also if its reply can't be written."""
-        new, output = new_device(self), numbered([PLAIN, "cut"])
-        self.write_script("boot, accept text.json")
-        for room in range(len(output)):
-            self.file("flash", new)
-            end = (4, b"error: flash file\n") if room >= len(numbered([PLAIN])) else (1, b"")
-            status, out, err = self.within(RUN, room, 0)
-            self.assertEqual((end, output[:room]), ((status, err), out), f"{room} bytes")
-
     def test_parts_of_a_device_are_written_after_it(self):
         arguments = ["make-device", "--sector=512", "--slots=2,2", "--vendor=python.org", "--class=sensor"]
         for room in (0, 1, 100, len(PARTS) - 1):
@@ -103,3 +60,22 @@ class OutputTest(ProgramTest):
                 got = self.run_program(arguments, stderr=parts, most=room)
             self.assertEqual((1, OF_SENSOR, b""), got, f"{room} bytes")
             self.assertEqual(PARTS[:room], read(f"{self.folder}/parts"))
+
+    def test_file_that_cannot_be_made(self):
+        """Its name leads to no plain file, or another program holds what is there. Nothing is changed."""
+        write_inputs(self)
+        os.symlink("nowhere", self.path("astray"))
+        os.symlink("image", self.path("by-link"))
+        os.mkfifo(self.path("pipe"))
+        makers = ("make-image", "image"), ("make-image", "by-link"), ("extract", "image"), ("provision", "flash")
+        for command, held in makers:
+            it, message = BY_NAME[command], "flash in use" if command == "provision" else "image in use"
+            into = lambda name: [name if word == it.makes else word for word in it.arguments()]
+            for name in (".", "pipe", "/dev/null", "astray", "no\n/made\x1b"):
+                with self.subTest(f"{command} {name!r}"):
+                    shown = name.replace("\n", "\\n").replace("\x1b", "\\u{1b}")
+                    end = error("flash file", 4) if command == "provision" else error(f"cannot write {shown}")
+                    self.assert_refuses(end, into(name))
+            for how in (fcntl.LOCK_EX, fcntl.LOCK_SH):
+                with self.subTest(f"{command} of a file with lock {how}"), self.held(held, how):
+                    self.assert_refuses(error(message), into(held))

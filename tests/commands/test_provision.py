@@ -1,9 +1,8 @@
 """What `provision` writes to a flash file, and what it refuses."""
 
 import os
-import stat
 
-from support.files import EXAMPLES, ONE, PAIR, files_in, read
+from support.files import ONE, PAIR, read
 from support.flashes import FLAG, ONE_IMAGE, flash_of, log_record, new_parts, placed
 from support.printed import DONE, error, refused
 from support.program import ProgramTest
@@ -31,10 +30,7 @@ REFUSED = [
 
 class ProvisionTest(ProgramTest):
     def assert_unchanged(self, end, arguments, **how):
-        """The run ends so, and no file is made, changed or removed."""
-        before = [*files_in(self.folder)]
-        self.assertEqual(end, self.run_program(["provision", *arguments], **how))
-        self.assertEqual(before, [*files_in(self.folder)])
+        self.assert_refuses(end, ["provision", *arguments], **how)
 
     def test_bytes_of_a_new_flash(self):
         """It holds the images, any bytes after them in their slots, and the first record of the log."""
@@ -55,86 +51,27 @@ class ProvisionTest(ProgramTest):
                 with self.subTest(f"{arguments}, {'over a file' if old else 'of a new file'}"):
                     self.assert_unchanged(end, arguments.split())
 
-    def test_replaces_what_may_be_a_flash(self):
+    def test_replaces_what_may_be_a_flash_and_another_file_only_by_force(self):
         whole = flash_of(self)
-        for name, old in {
-            "an empty file": b"",
-            "erased bytes": 9000 * b"\xff",
-            "a file of the length of the flash": 8192 * b"x",
-            "a flash": whole,
-        }.items():
+        for name, old, may_be in [
+            ("an empty file", b"", True), ("erased bytes", 9000 * b"\xff", True), ("a flash", whole, True),
+            ("a file of the length of the flash", 8192 * b"x", True), ("text", b"notes of a meeting\n", False),
+            ("an image", read(ONE), False), ("a byte too many", whole + b"\xff", False),
+            ("erased but for its last byte", 9000 * b"\xff" + b"\0", False),
+            ("erased but for its first byte", b"\0" + 9000 * b"\xff", False),
+        ]:
             with self.subTest(name):
                 self.file("flash", old)
-                self.assertEqual(DONE, self.run_program(["provision", PAIR, "flash", ONE, ONE]))
+                if not may_be:
+                    self.assert_unchanged(error("flash size"), [PAIR, "flash", ONE, ONE])
+                force = [] if may_be else ["--force"]
+                self.assertEqual(DONE, self.run_program(["provision", *force, PAIR, "flash", ONE, ONE]))
                 self.assertEqual(whole, flash_in(self))
 
-    def test_replaces_another_file_only_by_force(self):
-        whole = flash_of(self)
-        for name, old in {
-            "text": b"notes of a meeting\n",
-            "an image": read(ONE),
-            "a byte too many": whole + b"\xff",
-            "a byte too few": whole[:-1],
-            "erased but for its last byte": 9000 * b"\xff" + b"\0",
-            "erased but for its first byte": b"\0" + 9000 * b"\xff",
-        }.items():
-            with self.subTest(name):
-                self.file("flash", old)
-                self.assert_unchanged(error("flash size"), [PAIR, "flash", ONE, ONE])
-                self.assertEqual(DONE, self.run_program(["provision", "--force", PAIR, "flash", ONE, ONE]))
-                self.assertEqual(whole, flash_in(self))
-
-    def test_replaces_the_name_alone(self):
-        """A second name keeps the old bytes. The new file has the permissions of the old one, and a link stays one."""
-        whole = flash_of(self)
-        path = lambda name: f"{self.folder}/{name}"
-        os.chmod(path("flash"), 0o640)
-        self.file("flash", 8192 * b"o")
-        os.link(path("flash"), path("second"))
-        os.symlink("flash", path("link"))
-        # New files have such names until they are complete.
-        self.file(f".bootswap-{16 * '0'}", b"another's")
-        os.symlink("another", path(f".bootswap-{16 * 'f'}"))
-        before = {it for it in files_in(self.folder) if it[0] != "flash"}
-        self.assertEqual(DONE, self.run_program(["provision", PAIR, "link", ONE, ONE]))
-        self.assertEqual((whole, 0o640), (flash_in(self), stat.S_IMODE(os.stat(path("flash")).st_mode)))
-        self.assertEqual(before, {it for it in files_in(self.folder) if it[0] != "flash"})
-
-    def test_flash_that_cannot_be_made(self):
-        """It stays as it was, and can be made afterwards."""
-        whole = new_device(self)
-        os.symlink("nowhere", f"{self.folder}/astray")
-        os.mkfifo(f"{self.folder}/pipe")
-        for name in ("astray", "pipe", "/dev/null"):
-            self.assert_unchanged(error("flash file", 4), [PAIR, name, ONE, ONE])
-        for most in (0, 4096, 8191):
-            for name in ("made", "flash"):
-                self.assert_unchanged(error("flash file", 4), [PAIR, name, ONE, ONE], most=most)
-        self.assertEqual(DONE, self.run_program(["provision", PAIR, "made", ONE, ONE]))
-        self.assertEqual(whole, read(f"{self.folder}/made"))
-
-    def test_input_as_the_flash(self):
-        """It is refused by any of its names, also if it is standard input."""
-        end, path = error("flash is an input"), lambda name: f"{self.folder}/{name}"
-        self.file("device", read(PAIR))
+    def test_input_that_cannot_be_read_comes_before_one_as_the_flash(self):
         self.file("image", read(ONE))
-        self.file("other", read(f"{EXAMPLES}/images/needing.img"))
-        for name in ("device", "image"):
-            os.symlink(name, path(f"{name}-link"))
-            os.link(path(name), path(f"{name}-second"))
-            names = [name, f"./{name}", path(name), f"{name}-link", f"{name}-second"]
-            for first, second in [*((name, it) for it in names), *((it, name) for it in names), (names[3], names[4])]:
-                given = {"device": [[first, second, ONE, ONE]]}.get(name)
-                for arguments in given or [[PAIR, second, first, ONE], [PAIR, second, ONE, first]]:
-                    with self.subTest(" ".join(arguments)):
-                        self.assert_unchanged(end, arguments)
-            for flash in (name, f"{name}-link", f"{name}-second", "/dev/stdin"):
-                arguments = ["-", flash, ONE, ONE] if name == "device" else [PAIR, flash, ONE, "-"]
-                with self.subTest(" ".join(arguments)), open(path(name), "rb") as given:
-                    self.assert_unchanged(end, arguments, stdin=given)
         self.assert_unchanged(error("cannot read absent"), [PAIR, "image", "image", "absent"])
-        self.assert_unchanged(end, [PAIR, "image", "image", "other"])
-        os.symlink("made", path("to-made"))
+        os.symlink("made", self.path("to-made"))
         self.assert_unchanged(error("cannot read to-made"), [PAIR, "made", "to-made", ONE])
 
     def test_pipe_as_standard_input_and_the_flash(self):

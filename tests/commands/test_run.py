@@ -8,43 +8,11 @@ import time
 from support.files import EXAMPLES, PAIR, names_in, read
 from support.flashes import flash_of
 from support.program import LIMIT, ProgramTest
-from support.stories import UPLOADED, flash_in, new_device, run_of, script_of
-from support.worked import NEEDS, NO_SESSION, NOT_UP, PLAIN, numbered
+from support.stories import flash_in, new_device, script_of
+from support.worked import PLAIN, numbered
 
 # How many boots a long script has. Their replies are far longer than a pipe's buffer.
 MANY = 20_000
-
-# One of two images that need each other is requested.
-HALF_AN_UPLOAD = "boot, accept trial.json, piece 1 partner.img, finish 1, boot"
-
-# Events on a new device, their replies, the status, and that with `--strict`.
-LAST_REPLIES = [
-    ("boot, piece 2 abc", [PLAIN, NO_SESSION], 1, 1),
-    ("finish 0, boot, reset", [NOT_UP, PLAIN, "done"], 0, 1),
-    ("cut 1 keep, finish 0, boot, accept trial.json", [NOT_UP, PLAIN, "cut"], 3, 3),
-    ("cut 1 keep, finish 0, boot, accept trial.json, boot", [NOT_UP, PLAIN, "cut", PLAIN], 0, 1),
-    ("cut 1 keep, boot, accept trial.json, boot", [PLAIN, "cut", PLAIN], 0, 0),
-    ("cut 1 keep, boot, accept trial.json, finish 0", [PLAIN, "cut", NOT_UP], 1, 1),
-    ("reset, reset", ["done", "done"], 0, 0),
-    # A boot whose report refuses a request: the device runs on, and only `--strict` ends with 1.
-    (HALF_AN_UPLOAD, [PLAIN, *3 * ["done"], NEEDS], 0, 1),
-    (f"{HALF_AN_UPLOAD}, withdraw 1, boot", [PLAIN, *3 * ["done"], NEEDS, "done", PLAIN], 0, 1),
-    (f"cut 6 keep, {HALF_AN_UPLOAD}, accept second.json", [PLAIN, *3 * ["done"], NEEDS, "cut"], 3, 3),
-]
-
-# Events on a new device, and the last reply.
-REPLIES = [
-    ("boot, reset, finish 0", NOT_UP),
-    (f"{UPLOADED}, boot, accept old.json", "refused boot 2 OnTrial"),
-    ("boot, accept abc", "refused manifest 1 NotJson"),
-    ("boot, accept other-vendor.json", "refused manifest 4 WrongVendor"),
-    ("boot, accept absent-image.json", "refused manifest 6 NoComponent"),
-    ("boot, accept second.json, reset, boot, accept second.json", "done"),
-    ("boot, accept text.json, reset, boot, finish 0", NO_SESSION),
-    ("boot, accept text.json, piece 0 abc, finish 0, finish 0", NO_SESSION),
-    ("boot, accept first.json, piece 0 needing.img, boot, finish 0", NO_SESSION),
-    ("boot, accept first.json, piece 0 needing.img, finish 0, withdraw 0", "done"),
-]
 
 def status_after(output):
     """The status of a run with this output, by its last reply."""
@@ -91,23 +59,3 @@ class RunTest(ProgramTest):
         command = [self.program, "run", PAIR, "flash", "script", "--json", "--explain"]
         ran = subprocess.run(command, cwd=self.folder, capture_output=True, **limited)
         self.assertEqual((0, MANY), (ran.returncode, ran.stdout.count(b"\n")))
-
-    def test_last_reply_decides_the_status(self):
-        for events, replies, *statuses in LAST_REPLIES:
-            for options, status in zip(([], ["--strict"]), statuses):
-                with self.subTest(f"{events} {options}"):
-                    new_device(self)
-                    self.assertEqual((status, numbered(replies), b""), run_of(self, events, options=options))
-
-    def test_replies(self):
-        for events, reply in REPLIES:
-            with self.subTest(events):
-                new_device(self)
-                status, out, err = run_of(self, events)
-                self.assertEqual((int(reply != "done"), b""), (status, err))
-                self.assertEqual(f"{events.count(',') + 1} {reply}", out.decode().splitlines()[-1])
-
-    def test_damaged_image_is_not_booted(self):
-        whole = new_device(self)
-        self.file("flash", whole[:32] + b"Z" + whole[33:])
-        self.assertEqual((1, b"1 refused boot 5 RunningDamaged 0\n", b""), run_of(self, "boot"))

@@ -1,7 +1,6 @@
 """What `sweep` prints and draws, and that `run` and `slots` print the same for each cut."""
 
 import contextlib
-import fcntl
 import hashlib
 import os
 import re
@@ -11,10 +10,10 @@ import time
 import xml.etree.ElementTree
 
 from support.builders import component, device, image, manifest, version
-from support.files import EXAMPLES, ONE, PAIR, ROOT, files_in, read
+from support.files import EXAMPLES, ONE, PAIR, ROOT, read
 from support.flashes import flash_of
 from support.printed import error, refused
-from support.program import ProgramTest, is_written_by_one
+from support.program import ProgramTest
 from support.worked import SUM_OF_WRITES, TORN, WORKED, WRITES
 
 SCRIPT = f"{EXAMPLES}/scripts/{WORKED}.txt"
@@ -179,24 +178,17 @@ class SweepTest(ProgramTest):
     def test_refusals(self):
         """They come before the runs, and no picture is made or changed."""
         for name, contents in {
-            "abc": b"abc", "picture": PICTURE, "cuts": b"cut 3 keep\nboot\n", "frob": b"boot\nfrob\n",
-            "accepts": b"boot\naccept nothing\n", "no-map.json": device(sector=0),
+            "abc": b"abc", "picture": PICTURE, "cuts": b"cut 3 keep\nboot\n", "no-map.json": device(sector=0),
         }.items():
             self.file(name, contents)
-        before = [*files_in(self.folder)]
         for arguments, end in [
             ([PAIR, "cuts", ONE, ONE], error("script line 1")),
-            ([PAIR, "frob", ONE, ONE], error("script line 2")),
-            ([PAIR, "accepts", ONE, ONE], error("cannot read nothing")),
-            (["abc", SCRIPT, ONE, ONE], error("device file")),
             (["no-map.json", SCRIPT, ONE, ONE], refused("map 1 BadSector")),
-            ([PAIR, SCRIPT, ONE], error("image count")),
             ([PAIR, SCRIPT, ONE, "nothing"], error("cannot read nothing")),
             ([PAIR, SCRIPT, ONE, "abc"], refused("boot 5 RunningDamaged 1")),
         ]:
             with self.subTest(" ".join(arguments[:2])):
-                self.assertEqual(end, self.run_program(["sweep", "--svg=picture", *arguments]))
-        self.assertEqual(before, [*files_in(self.folder)])
+                self.assert_refuses(end, ["sweep", "--svg=picture", *arguments])
 
 
 # An output of one run of two events, and texts that can't be merged with it: the part of it that is replaced, the new
@@ -224,19 +216,6 @@ class SweepPartsTest(ProgramTest):
             names.append(self.file(f"part-{number}", out))
         return names
 
-    def test_parts_add_up_in_any_order(self):
-        old, new = (self.file(f"image-{major}", image((), own=version(major))) for major in (1, 2))
-        script = script_file(self, ["boot\n", *upload_events(self, 1, "permanent", [new]), "boot\n"])
-        files = [self.file("small.json", device(sectors=[1])), script, old]
-        for options in ([], ["--twice"], ["--sample=30", "--seed=7"]):
-            whole = self.run_program(["sweep", *options, *files])
-            for count in (3,) if options == ["--twice"] else (1, 8):
-                with self.subTest(f"{count} parts {options}"):
-                    *names, last = self.parts_of(count, *options, *files)
-                    self.assertEqual(whole, self.run_program(["sweep", "--merge", last, *names]))
-                    given = read(f"{self.folder}/{last}")
-                    self.assertEqual(whole, self.run_program(["sweep", "--merge", *names, "-"], given=given))
-
     def test_parts_of_the_worked_run(self):
         """They have a third of its runs each. The merged picture and JSON are those of one process."""
         names = self.parts_of(3, *FILES)
@@ -262,18 +241,6 @@ class SweepPartsTest(ProgramTest):
         self.assertEqual(error("cannot read nothing"), self.run_program(["sweep", "--merge", "right", "nothing"]))
         self.assertEqual(error("picture is an input"), self.run_program(["sweep", "--merge", "--svg=./right", "right"]))
         self.assertEqual(OUTPUT, read(f"{self.folder}/right"))
-
-    def test_merged_tallies(self):
-        """Merging adds the numbers of runs, joins the characters, and keeps the first cuts."""
-        one = b"1 boot from 1 _.t*_x\nruns 5\nend 3 uncut\nrun 0 1.0.0+0\nend 2 cut 3 done\ndamaged\n"
-        two = b"1 boot from 1 _.r.tx\nruns 4\nend 3 cut 3 keep\ndamaged\nend 1 cut 3 done cut 5 half\nrun 0 2.0.0+0\n"
-        one += b"other 2 cut 2 hex:ff cut 5 keep\n"
-        two += b"other 1 cut 2 hex:ff\nrefused 1 cut 6 half\n"
-        wanted = b"1 boot from 1 _.**tx\nruns 9\nend 3 uncut\nrun 0 1.0.0+0\nend 5 cut 3 keep\ndamaged\n"
-        wanted += b"end 1 cut 3 done cut 5 half\nrun 0 2.0.0+0\nother 3 cut 2 hex:ff\nrefused 1 cut 6 half\n"
-        names = self.file("one", one), self.file("two", two)
-        for several in (names, names[::-1]):
-            self.assertEqual((1, wanted, b""), self.run_program(["sweep", "--merge", *several]))
 
 
 SVG = "{http://www.w3.org/2000/svg}"
@@ -345,35 +312,6 @@ class PictureTest(ProgramTest):
             self.assertEqual((0, b""), self.run_program(sweep)[::2])
             self.assertNotIn(read(f"{self.folder}/made"), (b"", PICTURE))
 
-    def test_name_is_looked_up_once(self):
-        """What takes the name of the picture while a sweep runs stays."""
-        path = lambda name: f"{self.folder}/{name}"
-        self.file("device", read(PAIR))
-        for first in ("link", "new"):
-            with self.subTest(first):
-                for it in ("link", "new"):
-                    with contextlib.suppress(FileNotFoundError):
-                        os.remove(path(it))
-                self.file("picture", PICTURE)
-                os.symlink("picture", path("link"))
-                command = [self.program, "sweep", "--twice", f"--svg={first}", "device", SCRIPT, ONE, ONE]
-                ran = subprocess.Popen(command, cwd=self.folder, stdout=subprocess.DEVNULL, stderr=subprocess.DEVNULL)
-                tries = iter(range(200))
-                while not is_written_by_one(path("picture")) and next(tries, None) is not None and ran.poll() is None:
-                    time.sleep(0.05 if first == "link" else 0.001)
-                self.assertIsNone(ran.poll())
-                if first == "link":
-                    os.remove(path("link"))
-                    os.symlink("device", path("link"))
-                else:
-                    self.file("new", b"another program's")
-                self.assertEqual(int(first == "new"), ran.wait())
-                self.assertEqual(read(PAIR), read(path("device")))
-                if first == "link":
-                    self.assertNotEqual(PICTURE, read(path("picture")))
-                else:
-                    self.assertEqual(b"another program's", read(path("new")))
-
     def test_input_as_the_picture(self):
         """An input, the script, and a file that the script names are refused, by any name."""
         files = {"abc": b"abc", "script": read(SCRIPT), "image": read(ONE), "names": b"boot\naccept abc\n"}
@@ -381,16 +319,14 @@ class PictureTest(ProgramTest):
         for name, contents in files.items():
             self.file(name, contents)
         os.link(f"{self.folder}/abc", f"{self.folder}/abc-second")
-        before = [*files_in(self.folder)]
         for script, name in [
             ("script", "script"), ("script", "./image"), ("names", "abc"), ("names", "abc-second"),
             ("pieces", f"{self.folder}/abc"), ("pieces", "script"),
         ]:
             for given, way in [(script, b""), ("-", files[script])][: 1 + (script in ("names", "pieces"))]:
                 with self.subTest(f"{name} {given}"):
-                    got = self.run_program(["sweep", f"--svg={name}", PAIR, given, ONE, "image"], given=way)
-                    self.assertEqual(error("picture is an input"), got)
-        self.assertEqual(before, [*files_in(self.folder)])
+                    arguments = ["sweep", f"--svg={name}", PAIR, given, ONE, "image"]
+                    self.assert_refuses(error("picture is an input"), arguments, given=way)
 
     def test_picture_that_cannot_be_made(self):
         """It is refused before the runs, which would take longer than a test may."""
@@ -398,8 +334,7 @@ class PictureTest(ProgramTest):
         self.file("long", 4000 * b"boot\n")
         self.file("held", b"old")
         os.mkfifo(f"{self.folder}/pipe")
-        with open(f"{self.folder}/held", "rb") as held:
-            fcntl.flock(held, fcntl.LOCK_EX)
+        with self.held("held"):
             for name in (".", "pipe", "/dev/null", "held", "no/folder"):
                 with self.subTest(name):
                     got = self.run_program(["sweep", f"--svg={name}", "big.json", "long", big])

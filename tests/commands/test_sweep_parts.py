@@ -108,7 +108,7 @@ class SweepPartsTest(DaskTest):
 
     def test_name_of_a_picture_is_looked_up_once(self):
         """It is before the first part. What another program makes there stays."""
-        path = lambda name: f"{self.folder}/{name}"
+        path = self.path
         self.file("picture", PICTURE)
         os.chmod(path("picture"), 0o640)
         self.file("device.json", read(PAIR))
@@ -160,12 +160,6 @@ class SweepPartsTest(DaskTest):
             for number in filter(is_running, numbers()):
                 os.kill(number, signal.SIGKILL)
 
-    def test_stopped_worker(self):
-        """A part whose process is stopped is done once more, if there is a limit."""
-        program = write_script(self, "stops", f'mkdir stopped 2>/dev/null && kill -STOP $$; exec {self.program} "$@"')
-        wanted = self.run_program(["sweep", *self.files])
-        self.assertEqual(wanted, self.swept(*self.files, "--parts=2", "--limit=5", program))
-
     def test_progress_within_a_part(self):
         """A terminal shows the share of the cuts that are done, also within a part, and the time that is left."""
         shows = "printf '\\rsweep: cuts 3 of 4, 19 runs, 2 s left\\033[K' >&2; sleep 1; printf '\\r\\033[K' >&2"
@@ -178,8 +172,3 @@ class SweepPartsTest(DaskTest):
         shown = os.read(ours, 1 << 16)
         self.assertRegex(shown, line % (0, rb"37\.5") + b".*" + line % (1, rb"87\.5"))
         self.assertTrue(shown.endswith(b"\r\x1b[K"))
-
-    def test_dask(self):
-        """A worker of dask dies in the middle, and the output is that of one process."""
-        wanted = self.run_program(["sweep", *FILES])[:2]
-        self.expect_of_dask("a worker of dask dies in a sweep", [SWEEP_PARTS[-1], *FILES, "--parts=20"], wanted)

@@ -1,6 +1,5 @@
 """What a terminal shows besides the output: hints, a note that a table is read, and colors."""
 
-import fcntl
 import os
 import pty
 import termios
@@ -86,8 +85,7 @@ class TerminalTest(ProgramTest):
                 self.assertEqual(bool(hint), got[2] != line)
 
     def test_file_in_use_has_a_hint(self):
-        with open(f"{self.folder}/flash", "rb") as held:
-            fcntl.flock(held, fcntl.LOCK_EX)
+        with self.held("flash"):
             for arguments, line in [
                 (["show", PAIR, "flash"], b"error: flash in use\n"),
                 (["make-image", "flash", ONE, "--version=1"], b"error: image in use\n"),

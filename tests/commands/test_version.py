@@ -5,13 +5,12 @@ import re
 import shutil
 import subprocess
 import sys
-import tempfile
 import time
 import unittest
 import unittest.mock
 
 from support.files import ROOT, read
-from support.program import ProgramTest
+from support.program import FolderTest, ProgramTest
 
 sys.path.insert(0, f"{ROOT}/tools")
 
@@ -78,19 +77,12 @@ class PrintedVersionTest(ProgramTest):
         self.assertIn(f' "bootswap {version()}"\n'.encode(), self.run_program(["help", "man"])[1])
 
 
-class WrittenCommitTest(unittest.TestCase):
+class WrittenCommitTest(FolderTest):
     """A commit that is written into a program."""
-
-    def setUp(self):
-        folder = tempfile.TemporaryDirectory()
-        self.addCleanup(folder.cleanup)
-        self.folder = folder.name
 
     def program(self, text):
         """Makes a file with a text between other bytes."""
-        with open(f"{self.folder}/program", "wb") as it:
-            it.write(b"\x7fELF\x00(" + text + b"\x00\xff")
-        return it.name
+        return self.put("program", b"\x7fELF\x00(" + text + b"\x00\xff")
 
     def test_commit_replaces_zeros_or_another(self):
         """Nothing else is changed."""
@@ -141,13 +133,12 @@ class WrittenCommitTest(unittest.TestCase):
         return status, read(f"{self.folder}/a_program")
 
 
-class CommitTest(unittest.TestCase):
+class CommitTest(FolderTest):
     """What the tools know of the commit of a clone."""
 
     def setUp(self):
-        folder = tempfile.TemporaryDirectory()
-        self.addCleanup(folder.cleanup)
-        self.clone = f"{folder.name}/clone"
+        super().setUp()
+        self.clone = self.path("clone")
         for name in ("tools/commits.py", "docs/page", "crates/one/src/lib.rt", "crates.txt", ".gitignore"):
             self.write(name, text_of(name) if name.startswith("tools/") else "out/\n")
 

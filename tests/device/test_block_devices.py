@@ -8,15 +8,12 @@ import subprocess
 from support.compiled import needs_compiler, preloaded
 from support.files import EXAMPLES, PAIR, read
 from support.flashes import new_parts, placed
-from support.printed import CANNOT_MAKE, IN_USE
+from support.printed import CANNOT_MAKE, DONE, IN_USE
 from support.program import LIMIT, ProgramTest
 from support.stories import flash_in, new_device, run_of, script_of
-from support.worked import (
-    ACCEPT_FAILS, BACK, BACK_FAILS, NEEDS, NO_TRIAL, NOT_UP, PLAIN, SUM_OF_WRITES, TRIED, UPGRADE_FAILS, USUAL,
-    WORKED_EVENTS, WRITES, ended, event_of
-)
+from support.worked import BACK, PLAIN, SUM_OF_WRITES, TRIED, USUAL, WORKED_EVENTS, WRITES, ended
 
-REFUSED, DONE = (1, b"", IN_USE), (0, b"done\n", b"")
+REFUSED = (1, b"", IN_USE)
 MAKE = ["provision", PAIR, "flash", "one.img", "patched.img"]
 
 
@@ -48,24 +45,9 @@ USED = [
     ("8:16", {"swaps": "/dev/node partition 8 0 -2\n"}, False),
 ]
 
-# The replies of the worked run if a write of one of its events fails, by the event. With two replies, the failed write
-# changed all its bytes in memory, or none. No later write changes anything.
-IDLE, WAITING = [PLAIN, NO_TRIAL, PLAIN, PLAIN], [NEEDS, NO_TRIAL, NEEDS, NEEDS]
-
-FAILURES = {
-    1: [ACCEPT_FAILS],
-    2: [[*USUAL[:2], "cut", *3 * [NOT_UP], *IDLE]],
-    3: [[*USUAL[:3], "cut", *2 * [NOT_UP], *IDLE]],
-    4: [[*USUAL[:4], "cut", NOT_UP, *IDLE], [*USUAL[:4], "cut", NOT_UP, *WAITING]],
-    5: [[*USUAL[:5], "cut", *WAITING], [*USUAL[:5], "cut", "cut", NOT_UP, "cut", "cut"]],
-    6: [UPGRADE_FAILS],
-    7: [[*USUAL[:7], "cut", "cut", "cut"]],
-    8: [BACK_FAILS, [*USUAL[:8], "cut", PLAIN]],
-}
-
 
 class PretendedTest(ProgramTest):
-    """A test with support/c/pretended.c, on a new flash."""
+    """A test with support/c/calls.c, on a new flash."""
 
     def setUp(self):
         super().setUp()
@@ -73,7 +55,7 @@ class PretendedTest(ProgramTest):
 
     def pretending(self, **what):
         """The environment of a run in which the library pretends this."""
-        return {**preloaded(self, "pretended"), **{name: str(it) for name, it in what.items()}}
+        return {**preloaded(self, "calls"), **{name: str(it) for name, it in what.items()}}
 
     def as_block_device(self, name, bytes):
         """Writes these bytes to a file, and returns the environment in which it is a block device."""
@@ -123,8 +105,7 @@ class BlockDeviceTest(PretendedTest):
         env = self.as_block_device("flash", bytes(8192))
         too_big = [*MAKE[:-1], "long.img"]
         self.assertEqual((1, b"", b"error: image 1 too big\n"), self.run_program(too_big, env=env))
-        with open(self.flash, "rb") as held:
-            fcntl.flock(held, fcntl.LOCK_SH)
+        with self.held("flash", fcntl.LOCK_SH):
             self.assertEqual(REFUSED, self.run_program(MAKE, env=env))
         self.holds(bytes(8192))
 
@@ -149,7 +130,7 @@ class BlockDeviceTest(PretendedTest):
     def test_a_block_device_whose_write_failed_is_written_again(self):
         """It holds a part of the new flash."""
         env, wanted = self.as_block_device("flash", bytes(8192)), placed(8192, new_parts())
-        failing = {**env, "FAILING_WRITE": "1", "LEFT": "half"}
+        failing = {**env, "FAILING_WRITE": "1"}
         self.assertEqual((4, b"", CANNOT_MAKE), self.run_program(MAKE, env=failing))
         self.holds(wanted[:4096] + bytes(4096))
         self.assertEqual(DONE, self.run_program(MAKE, env=env))
@@ -209,28 +190,14 @@ class BlockDeviceTest(PretendedTest):
 
 @needs_compiler
 class FailingWriteTest(PretendedTest):
-    def run_failing(self, events, number, left):
-        """Runs events of which one write fails, and returns how the run ends and how many writes it tried."""
-        self.file("flash", self.new)
-        env = self.pretending(FAILING_WRITE=number, LEFT=left, WRITE_COUNT=f"{self.folder}/count")
-        return self.run_program(["run", PAIR, "flash", "-"], given=script_of(events), env=env), self.counted()[0]
-
-    def test_a_device_tries_no_write_after_one_that_failed(self):
-        """It replies as after a power cut."""
-        for left in ("old", "half"):
-            with self.subTest(f"a write of the flash file that fails and leaves the {left}"):
-                for number in range(1, SUM_OF_WRITES + 1):
-                    got, tried = self.run_failing(WORKED_EVENTS, number, left)
-                    wanted = [ended(it, 4, CANNOT_MAKE) for it in FAILURES[event_of(number)]]
-                    self.assertIn(got, wanted, f"write {number}")
-                    self.assertEqual((number, 8192), (tried, len(flash_in(self))), f"write {number}")
-
-    def test_the_next_boot_completes_an_upgrade_whose_write_failed(self):
-        first, last = sum(WRITES[:6]) + 1, sum(WRITES[:7])
-        upgrade = ", ".join(WORKED_EVENTS.split(", ")[:7])
-        for left in ("old", "half"):
-            for number in range(first, last + 1):
-                self.assertEqual(4, self.run_failing(upgrade, number, left)[0][0], f"write {number}, {left}")
-                # Of the last gate only the first half counts: the other bytes are those of an erased unit.
-                reply = BACK if (number, left) == (last, "half") else TRIED
-                self.assertEqual(ended([reply]), run_of(self, "boot"), f"write {number}, {left}")
+    def test_a_device_tries_no_write_after_one_that_wrote_its_first_half(self):
+        """The next boot completes an upgrade whose write failed. With half of its last gate the record counts: the rest
+        of it has the bytes of an erased unit."""
+        upgrade, last = ", ".join(WORKED_EVENTS.split(", ")[:7]), sum(WRITES[:7])
+        for number in range(1, last + 1):
+            self.file("flash", self.new)
+            env = self.pretending(FAILING_WRITE=number, WRITE_COUNT=f"{self.folder}/count")
+            status, _, err = self.run_program(["run", PAIR, "flash", "-"], given=script_of(upgrade), env=env)
+            self.assertEqual((4, CANNOT_MAKE, number), (status, err, self.counted()[0]), f"write {number}")
+            if number > sum(WRITES[:6]):
+                self.assertEqual(ended([BACK if number == last else TRIED]), run_of(self, "boot"), f"write {number}")

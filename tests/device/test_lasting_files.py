@@ -55,7 +55,7 @@ def of_each_command(test):
 
 @needs_compiler
 class StagedTest(ProgramTest):
-    """A test with support/c/staged.c, beside a new flash."""
+    """A test with support/c/calls.c, beside a new flash."""
 
     def setUp(self):
         super().setUp()
@@ -68,7 +68,7 @@ class StagedTest(ProgramTest):
         log = f"{self.folder}/log"
         if os.path.exists(log):
             os.remove(log)
-        env = {**preloaded(self, "staged"), "STAGE_LOG": log, **{name: str(it) for name, it in more.items()}}
+        env = {**preloaded(self, "calls"), "STAGE_LOG": log, **{name: str(it) for name, it in more.items()}}
         env |= {} if at is None else {"STAGE_AT": at, "STAGE_DO": do}
         return env | ({} if fail is None else {"STAGE_FAIL": fail, "STAGE_ERROR": str(error)})
 

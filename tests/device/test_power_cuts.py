@@ -69,32 +69,14 @@ class EventCutTest(ProgramTest):
                         got = run_of(self, f"{events}, boot", own, [(number, torn)])
                         self.assertEqual(ended([*replies, "cut", reply]), got, f"write {number}, {torn}")
 
-    def cut_request(self, event, number, torn, stands, sequence):
-        """After this event, which is cut at this write, image 0 is requested or not, and the device has this sequence
-        number."""
-        self.file("flash", self.whole)
-        got = run_of(self, f"{REQUESTED}, {event}, boot", cuts=[(number, torn)])
-        reply = WAITS if stands else PLAIN
-        self.assertEqual(ended([PLAIN, *3 * ["done"], "cut", reply]), got, f"write {number}, {torn}")
-        status, shown, _ = self.run_program(["show", PAIR, "flash"])
-        begins = f"state steady\nset -\nsequence {sequence}\n".encode()
-        self.assertEqual((0, begins), (status, shown[: len(begins)]), f"write {number}, {torn}")
-
     def test_a_withdrawn_request_stands_or_is_gone(self):
-        self.whole = new_device(self)
-        writes = writes_of_last(self, PAIR, self.whole, f"{REQUESTED}, withdraw 0")
+        whole = new_device(self)
+        writes = writes_of_last(self, PAIR, whole, f"{REQUESTED}, withdraw 0")
         # The withdrawn unit, the first sector of the slot, and the trailer.
         self.assertEqual(3, len(writes))
         for done, number in enumerate(writes):
             for torn in [*TORN_UNITS, *[GOOD_TRAILER] * (done > 0)]:
-                self.cut_request("withdraw 0", number, torn, done == 0 and not TORN_UNITS[torn], 1)
-
-    def test_a_request_goes_after_the_number_of_the_next_manifest(self):
-        self.whole = new_device(self)
-        writes = writes_of_last(self, PAIR, self.whole, f"{REQUESTED}, accept stale.json")
-        # The record, its gate, the withdrawn unit, the first sector of the slot, and the trailer.
-        self.assertEqual(5, len(writes))
-        for done, number in enumerate(writes):
-            for torn, sets in TORN_UNITS.items():
-                stands, is_recorded = done < 2 or (done == 2 and not sets), done > 1 or (done == 1 and sets)
-                self.cut_request("accept stale.json", number, torn, stands, 2 if is_recorded else 1)
+                self.file("flash", whole)
+                reply = WAITS if done == 0 and not TORN_UNITS[torn] else PLAIN
+                got = run_of(self, f"{REQUESTED}, withdraw 0, boot", cuts=[(number, torn)])
+                self.assertEqual(ended([PLAIN, *3 * ["done"], "cut", reply]), got, f"write {number}, {torn}")

@@ -1,40 +1,16 @@
 """What the program does at the limits of a process: the length of files, and memory. Each error line is one write."""
 
-import os
 import resource
 import socket
 import subprocess
 import threading
-import time
 
-from support.commands import MAKING, replaced_by
-from support.files import EXAMPLES, ONE, PAIR, read
-from support.flashes import flash_of, log_record, placed
+from support.files import ONE, PAIR
+from support.flashes import flash_of
 from support.printed import CANNOT_MAKE
 from support.program import LIMIT, ProgramTest, shown
-from support.stories import flash_in, new_device, run_of, script_of
-from support.worked import (
-    ACCEPT_FAILS, BACK, BACK_FAILS, NO_SESSION, PLAIN, SCRIPT, TRIED, UPGRADE_FAILS, USUAL, WORKED_EVENTS, ended
-)
-
-# Where the worked run writes a record, its replies if this write fails, and what the next boot prints: if a byte of the
-# gate was written, the record counts.
-RECORDS = [
-    (6720, ACCEPT_FAILS, PLAIN, PLAIN),
-    (6784, UPGRADE_FAILS, TRIED, TRIED),
-    (6848, UPGRADE_FAILS, TRIED, TRIED),
-    (6912, UPGRADE_FAILS, TRIED, BACK),
-    (6976, BACK_FAILS, BACK, BACK),
-    (7040, BACK_FAILS, BACK, BACK),
-]
-
-# The commands that make a file, with the one that makes a picture.
-PICTURE = ["sweep", "--sample=0", "--svg=picture", PAIR, SCRIPT, ONE, ONE]
-ALL_MAKING = [*MAKING, (PICTURE, "picture", (1, b"", b"error: cannot write picture\n"))]
-
-# Commands, and the stream that they write to.
-ANSWERS = [(["show", PAIR, "flash"], "stdout"), (["image", f"{EXAMPLES}/images/either.img"], "stdout")]
-ANSWERS += [(["codes"], "stdout"), (["--help"], "stdout"), (["choose", "absent"], "stderr"), (["frob"], "stderr")]
+from support.stories import flash_in
+from support.worked import ACCEPT_FAILS, NO_SESSION, PLAIN, SCRIPT, USUAL, ended
 
 
 def within(kind, most):
@@ -42,49 +18,8 @@ def within(kind, most):
     return {"preexec_fn": lambda: resource.setrlimit(kind, (most, most))}
 
 
-def files_in(folder):
-    return {it: read(f"{folder}/{it}") for it in os.listdir(folder) if os.path.isfile(f"{folder}/{it}")}
-
-
 class FileLimitTest(ProgramTest):
     """Files as long as a process may write them."""
-
-    def test_a_file_beyond_the_limit_is_not_made(self):
-        """The old file of its name stays, and no file is left beside it."""
-        self.file("body", b"ABCD")
-        for arguments, name, refusal in ALL_MAKING:
-            flash_of(self)
-            usual, path = self.run_program(arguments), f"{self.folder}/{name}"
-            made = read(path)
-            for old in (None, replaced_by(arguments, made)):
-                with self.subTest(f"{arguments[0]} of a file {'that is there' if old else 'that is new'}"):
-                    os.remove(path)
-                    if old is not None:
-                        self.file(name, old)
-                    kept = files_in(self.folder)
-                    for most in (0, 1, len(made) // 2, len(made) - 1):
-                        got = self.run_program(arguments, **within(resource.RLIMIT_FSIZE, most))
-                        self.assertEqual((refusal, kept), (got, files_in(self.folder)), f"{most} bytes")
-                    got = self.run_program(arguments, **within(resource.RLIMIT_FSIZE, len(made)))
-                    self.assertEqual((usual, len(made)), (got, os.path.getsize(path)))
-
-    def test_an_answer_is_written_up_to_the_limit(self):
-        """Then the command ends with status 1."""
-        flash_of(self)
-        for arguments, stream in ANSWERS:
-            status, out, err = self.run_program(arguments)
-            whole = out or err
-            for mode, old in (("wb", b""), ("ab", b"old"), ("r+b", b"old")):
-                with self.subTest(f"{stream} of {shown(arguments)} in a file of mode {mode}"):
-                    start = len(old) if mode == "ab" else 0
-                    for room in (0, 1, len(whole) // 2, len(whole) - 1, len(whole)):
-                        self.file("taken", old)
-                        with open(f"{self.folder}/taken", mode) as it:
-                            how = {**within(resource.RLIMIT_FSIZE, start + room), stream: it}
-                            got = self.run_program(arguments, **how)
-                        left = old[:start] + whole[:room]
-                        wanted = (status if room >= len(whole) else 1, b"", b""), left + old[len(left) :]
-                        self.assertEqual(wanted, (got, read(f"{self.folder}/taken")), f"{room} bytes")
 
     def test_a_device_loses_power_at_the_limit_of_its_flash_file(self):
         """The first write past the limit is that of a record, or the erase of the log's next sector."""
@@ -100,36 +35,6 @@ class FileLimitTest(ProgramTest):
     def test_a_boot_that_writes_nothing_reaches_no_limit(self):
         flash_of(self)
         self.assertEqual(ended([PLAIN]), self.run_program(["run", PAIR, "flash", "-"], given=b"boot\n", most=0))
-
-    def test_a_record_that_is_written_in_part_counts_with_its_gate(self):
-        """The first N bytes of a record and its gate are written, and nothing later."""
-        new = new_device(self)
-        for place, replies, before, behind in RECORDS:
-            with self.subTest(f"a record at byte {place} that is written in part"):
-                for count in (0, 1, 28, 55, 56, 57, 60, 63):
-                    self.file("flash", new)
-                    got = self.run_on_full_disk(place + count)
-                    self.assertEqual(ended(replies, 4, CANNOT_MAKE), got, f"{count} bytes")
-                    # After the first record that is written, nothing else has changed.
-                    if place == 6720:
-                        wanted = placed(8192, {0: new, place: log_record(1)[:count]})
-                        self.assertEqual(wanted, flash_in(self), f"{count} bytes")
-                    self.assertEqual(ended([behind if count > 56 else before]), run_of(self, "boot"), f"{count} bytes")
-
-    def run_on_full_disk(self, most):
-        """The worked run whose flash file takes no byte past the first N. The limit begins after the program has opened
-        the file, so a write may be done in part: it then reads its standard input, by the numbers of the call and of
-        the file."""
-        pipes = {"stdin": subprocess.PIPE, "stdout": subprocess.PIPE, "stderr": subprocess.PIPE}
-        arguments = [self.program, "run", PAIR, "flash", "-"]
-        # Python ignores the signal by which such a write would end the program, and so do the programs it starts.
-        with subprocess.Popen(arguments, cwd=self.folder, restore_signals=False, **pipes) as ran:
-            until = time.monotonic() + LIMIT
-            while not read(f"/proc/{ran.pid}/syscall").startswith(b"0 0x0 ") and time.monotonic() < until:
-                time.sleep(0.001)
-            resource.prlimit(ran.pid, resource.RLIMIT_FSIZE, (most, most))
-            out, err = ran.communicate(script_of(WORKED_EVENTS))
-        return ran.returncode, out, err
 
 
 # The most bytes of a file that a line of a script may name.

@@ -7,7 +7,7 @@ from support.commands import MAKING, replaced_by
 from support.compiled import needs_compiler, preloaded
 from support.files import EXAMPLES, ONE, PAIR, read, report, table
 from support.flashes import flash_of
-from support.printed import CANNOT_MAKE
+from support.printed import CANNOT_MAKE, DONE
 from support.program import ProgramTest, error_line, shown
 from support.stories import flash_in
 from support.worked import (
@@ -15,14 +15,14 @@ from support.worked import (
     numbered
 )
 
-# The files to which support/c/faults.c writes its counts.
+# The files to which support/c/calls.c writes its counts.
 COUNTS = ("count", "taken", "wrong")
 
 # The faults after which a call has failed, and those that change each call that reads or writes, and not the result of
 # a run.
 FAILING, HARMLESS = ("fail", "nothing"), ("interrupt", "trickle")
 
-NO_MEMORY, DONE = (1, b"", b"error: memory\n"), (0, b"done\n", b"")
+NO_MEMORY = (1, b"", b"error: memory\n")
 
 
 @needs_compiler
@@ -34,7 +34,7 @@ class FaultTest(ProgramTest):
         `wrong` what the call with the fault was to do.
         """
         count, taken, wrong = (f"{self.folder}/{name}" for name in COUNTS)
-        env = {**preloaded(self, "faults"), "FAULT": fault, "FAULT_AT": str(at)}
+        env = {**preloaded(self, "calls"), "FAULT": fault, "FAULT_AT": str(at)}
         return {**env, "FAULT_COUNT": count, "FAULT_READ": taken, "FAULT_WRONG": wrong}
 
     def number_in(self, name):
@@ -201,7 +201,7 @@ class MakingFaultTest(FaultTest):
             flash_of(self)
             self.run_program(arguments)
             whole = read(path)
-            others = {*os.listdir(self.folder), *COUNTS, "faults.so"} - {file}
+            others = {*os.listdir(self.folder), *COUNTS, "calls.so"} - {file}
             for old in (None, replaced_by(arguments, whole)):
                 kept, made = {} if old is None else {file: old}, {file: whole}
 

@@ -1,13 +1,14 @@
-"""The commands of README.md, docs/TUTORIAL.md and docs/FORMATS.md: what they print is what these show."""
+"""The commands of README.md and of docs/: what they print is what the pages show."""
 
 import os
 import re
+import shutil
 import subprocess
 import sys
 import tempfile
 
 from support.files import EXAMPLES, ROOT, read
-from support.program import LIMIT, ProgramTest
+from support.program import ProgramTest
 
 from tutorial import commands_of
 
@@ -32,16 +33,23 @@ def formats_script():
 
 
 class DocumentTest(ProgramTest):
+    runs_once = True
+
     def test_each_command_prints_what_is_shown(self):
         os.mkdir(f"{self.folder}/out")
-        os.symlink(self.program, f"{self.folder}/bootswap")
-        documents = {"README.md": quick_start(), "docs/FORMATS.md": [formats_script()]}
-        documents["docs/TUTORIAL.md"] = commands_of("docs/TUTORIAL.md", self.version())
+        for name in ("bootswap", "out/bootswap"):
+            os.symlink(self.program, f"{self.folder}/{name}")
+        pages = (f"docs/{it}.md" for it in ("TUTORIAL", "FLEETS", "JSON"))
+        documents = {it: commands_of(it, self.version()) for it in pages}
+        documents |= {"README.md": quick_start(), "docs/FORMATS.md": [formats_script()]}
+        how = {"stdout": subprocess.PIPE, "stderr": subprocess.STDOUT, "text": True, "cwd": self.folder, "timeout": 120}
+        how["env"] = {**os.environ, "PATH": f"{self.folder}:{os.environ['PATH']}", "LC_ALL": "C.UTF-8"}
         for document, commands in documents.items():
             for number, (command, shown) in enumerate(commands, 1):
                 with self.subTest(f"{document}, command {number}"):
-                    both = {"stdout": subprocess.PIPE, "stderr": subprocess.STDOUT, "text": True}
-                    ran = subprocess.run(["bash", "-c", command], cwd=self.folder, timeout=LIMIT, **both)
+                    if "out/parts" in command and not shutil.which("parallel"):
+                        self.skipTest("there is no GNU parallel")
+                    ran = subprocess.run(["bash", "-c", command], **how)
                     self.assertEqual(shown, ran.stdout, command)
 
     def test_the_script_makes_the_images_of_the_examples(self):

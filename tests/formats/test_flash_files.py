@@ -38,16 +38,14 @@ class FlashFileTest(ProgramTest):
     def test_a_file_that_is_held_is_refused(self):
         for how, refused in [(fcntl.LOCK_EX, {"run", "provision", "show"}), (fcntl.LOCK_SH, {"run", "provision"})]:
             for arguments in ON_FLASH:
-                with self.subTest(f"{shown(arguments)} of a flash with lock {how}"), open(self.flash, "rb") as held:
-                    fcntl.flock(held, how)
+                with self.subTest(f"{shown(arguments)} of a flash with lock {how}"), self.held("flash", how):
                     status, out, err = self.run_program(arguments, given=b"reset\n")
                     self.assertEqual(REFUSED if arguments[0] in refused else (0, out, b""), (status, out, err))
                     self.assertEqual(self.whole, read(self.flash))
 
     def test_the_hold_is_checked_before_the_length(self):
         self.file("flash", self.whole + b"x")
-        with open(self.flash, "rb") as held:
-            fcntl.flock(held, fcntl.LOCK_EX)
+        with self.held("flash"):
             for arguments in (RUN, SHOW):
                 self.assertEqual(REFUSED, self.run_program(arguments))
 

@@ -1,28 +1,13 @@
 """Files that `make-image` makes: under which names, over which files, and who may hold them."""
 
-import fcntl
 import os
 import stat
 
 from support.files import EXAMPLES, ONE, files_in, read
+from support.printed import DONE
 from support.program import ProgramTest
 
-# The 32 bytes of an accepted header, and files that are no intact image. A flash begins with one.
-HEADER = bytes.fromhex("3db8f396" "00000000" "2000" "0000" "04000000" "00000000" "0100000000000000" "00000000")
-
-NO_IMAGES = {
-    "text": b"old",
-    "a header but for its last byte": HEADER[:-1],
-    "another magic number": b"\x3c" + HEADER[1:],
-    "a header alone": HEADER,
-    "an image but for its last byte": read(ONE)[:-1],
-    "an image and an erased slot": read(ONE) + 1000 * b"\xff",
-    "a damaged image": read(ONE)[:-1] + bytes([read(ONE)[-1] ^ 1]),
-}
-
 COUNTED = read(f"{EXAMPLES}/images/counted.img")
-IS_AN_INPUT, IN_USE = (1, b"", b"error: image is an input\n"), (1, b"", b"error: image in use\n")
-DONE = (0, b"done\n", b"")
 
 
 class ImageFileTest(ProgramTest):
@@ -33,35 +18,11 @@ class ImageFileTest(ProgramTest):
         os.symlink("own", self.path("own-link"))
         os.link(self.path("own"), self.path("own-second"))
 
-    def path(self, name):
-        return f"{self.folder}/{name}"
-
     def expect_files(self, ended, changed, *arguments, **how):
         """`make-image` ends so, and only these files are made, changed or removed."""
         before = {*files_in(self.folder)}
         got = self.run_program(["make-image", *arguments], **how)
         self.assertEqual((ended, changed), (got, {it[0] for it in before ^ {*files_in(self.folder)}}))
-
-    def test_an_image_never_replaces_its_body(self):
-        names = {"own": "its name", self.path("own"): "its path", "own-link": "a link", "own-second": "its second name"}
-        pairs = [*(("own", it) for it in names), *((it, "own") for it in names), ("own-link", "own-second")]
-        for made, body in pairs:
-            with self.subTest(f"image by {names[made]}, body by {names[body]}"):
-                self.expect_files(IS_AN_INPUT, set(), made, body, "--version=1")
-        for made in ("own", "own-link", "own-second"):
-            with self.subTest(f"image by {names[made]}, body on standard input"), open(self.path("own"), "rb") as given:
-                self.expect_files(IS_AN_INPUT, set(), made, "-", "--version=1", stdin=given)
-
-    def test_only_a_plain_file_is_made(self):
-        os.symlink("nowhere", self.path("astray"))
-        os.mkfifo(self.path("pipe"))
-        for made, shown in [
-            ("no/a.img", "no/a.img"), ("no\n/a\x1b", "no\\n/a\\u{1b}"), (".", "."), ("/dev/null", "/dev/null"),
-            ("pipe", "pipe"), ("astray", "astray"),
-        ]:
-            with self.subTest(f"image in the place of {shown}"):
-                message = f"error: cannot write {shown}\n".encode()
-                self.expect_files((1, b"", message), set(), made, "body", "--version=1")
 
     def test_an_image_file_is_replaced_whole(self):
         for old in (None, b"", COUNTED):
@@ -79,33 +40,10 @@ class ImageFileTest(ProgramTest):
         self.assertEqual((read(ONE), COUNTED), (read(self.path("own")), read(self.path("own-second"))))
         self.assertEqual(0o640, stat.S_IMODE(os.stat(self.path("own")).st_mode))
 
-    def test_an_image_that_is_held_stays(self):
-        for how in (fcntl.LOCK_EX, fcntl.LOCK_SH):
-            for made in ("own", "own-link"):
-                with self.subTest(f"{made} with lock {how}"), open(self.path("own"), "rb") as held:
-                    fcntl.flock(held, how)
-                    self.expect_files(IN_USE, set(), made, "body", "--version=1")
-
-    def test_an_image_stands_if_its_reply_cannot_be_written(self):
-        with open("/dev/full", "wb") as full:
-            self.expect_files((1, b"", b""), {"own"}, "own", "body", "--version=1.0.0", stdout=full)
-        self.assertEqual(read(ONE), read(self.path("own")))
-
-    def test_another_file_is_replaced_only_by_force(self):
-        for name, old in NO_IMAGES.items():
-            with self.subTest(f"image in the place of {name}"):
-                self.file("other", old)
-                arguments = "other", "body", "--version=1.0.0"
-                self.expect_files((1, b"", b"error: other is no image\n"), set(), *arguments)
-                self.expect_files(DONE, {"other"}, *arguments, "--force")
-                self.assertEqual(read(ONE), read(self.path("other")))
-
     def test_a_body_that_comes_first_stays(self):
+        """Only `--force` replaces it."""
         message = b"error: body is no image\n"
         self.expect_files((1, b"", message), set(), "body", "own", "--version=1")
         message += b"note: OUT comes first, then BODY: `--force` replaces body by an image of own\n"
         self.expect_files((1, b"", message), set(), "body", "own", "--version=1", "--explain")
-
-    def test_refused_values_leave_the_file(self):
-        refused = (1, b"refused 2 UnsupportedFlags\n", b"")
-        self.expect_files(refused, set(), "own", "body", "--version=1", "--flags=2")
+        self.expect_files(DONE, {"body"}, "body", "own", "--version=1", "--force")

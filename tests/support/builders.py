@@ -17,8 +17,8 @@ def area(magic, entries):
 COUNTER = (0x50, little(7, 4))
 DEPENDENCY = (0x40, bytes([1, 0, 0, 0, 2, 3, 4, 0, 5, 0, 0, 0]))
 
-# The bytes that ask for images 1 and 2 in 2.0.0+0, in a dependency or as an alternative.
-ON_FIRST, ON_SECOND = (bytes([number, 0, 0, 0, 2, 0, 0, 0, 0, 0, 0, 0]) for number in (1, 2))
+# The bytes that ask for image 1 in 2.0.0+0, in a dependency or as an alternative.
+ON_FIRST = bytes([1, 0, 0, 0, 2, 0, 0, 0, 0, 0, 0, 0])
 
 
 def group(alternatives, last=b""):
@@ -74,8 +74,3 @@ def component(*without, **changes):
 def manifest(*without, components=(component(),), **changes):
     usual = {"manifest_version": 1, "sequence_number": 1, "vendor_id": VENDOR, "class_id": CLASS}
     return spelled({**usual, "components": list(components)}, changes, without)
-
-
-def at_random(numbers, size):
-    """N random bytes."""
-    return (numbers.getrandbits(8 * size) if size else 0).to_bytes(size, "little")

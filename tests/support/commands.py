@@ -4,13 +4,6 @@ from support.every_command import EVERY
 from support.files import EXAMPLES, ONE, PAIR, read
 
 
-def make_device(sector, slots, vendor, name, *boots):
-    """The arguments of `make-device`."""
-    arguments = ["make-device", "--sector", str(sector), "--slots", ",".join(map(str, slots))]
-    arguments += ["--vendor", vendor, "--class", name]
-    return arguments + [it for many in boots for it in ("--trial-boots", str(many))]
-
-
 COMMANDS = tuple(it.name for it in EVERY)
 
 

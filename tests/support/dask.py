@@ -64,4 +64,5 @@ class DaskTest(ProgramTest):
         parts, of_first = len(read(began).split()), read(began).split().count(first)
         faults = [] if (ran.returncode, out) == wanted else [f"{ran.returncode}, {short(out)}, {short(err)}"]
         faults += [f"the worker had {of_first} of {parts} parts"] * (of_first * 2 > parts)
-        self.case(name, faults)
+        with self.subTest(name):
+            self.assertEqual([], faults)

@@ -21,15 +21,19 @@ FILES = {
 class Command(NamedTuple):
     """A command.
 
-    `words` are the arguments of a run that ends with status 0, `makes` is the file that this run makes or changes, and
+    `words` are the arguments of a run that ends with status 0, `takes` is the end of its usage, `makes` is the file that this run makes or changes, and
     `json` is whether the command takes `--json`.
     """
 
     name: str
     words: str
-    usage: str
+    takes: str
     json: bool = False
     makes: str = ""
+
+    @property
+    def usage(self):
+        return f"{self.name} [OPTIONS] {self.takes}".strip()
 
     def arguments(self):
         return [self.name, *self.words.split()]
@@ -47,37 +51,23 @@ class Command(NamedTuple):
 
 
 EVERY = [
-    Command("choose", "table", "choose [OPTIONS] <TABLE>", json=True),
-    Command("check", "table report", "check [OPTIONS] <TABLE> <REPORT>", json=True),
-    Command("plan", "fleet", "plan [OPTIONS] <FLEET>...", json=True),
-    Command("image", "image", "image [OPTIONS] <FILE>", json=True),
-    Command("manifest", "device manifest", "manifest [OPTIONS] <DEVICE> <FILE>", json=True),
-    Command(
-        "make-device",
-        "--sector=512 --slots=2,2 --vendor=python.org --class=sensor",
-        "make-device [OPTIONS] --sector <BYTES> --slots <N,N,..>\n           --vendor <DOMAIN> --class <NAME>",
-    ),
-    Command(
-        "make-image", "made body --version=1", "make-image [OPTIONS] --version <VERSION> <OUT> <BODY>", makes="made"
-    ),
-    Command("make-manifest", "device --sequence=1 --test=0=image", "make-manifest [OPTIONS] --sequence <N> <DEVICE>"),
-    Command("provision", "device new image image", "provision [OPTIONS] <DEVICE> <FLASH> <IMAGE>...", makes="new"),
-    Command(
-        "extract",
-        "device flash 0 primary made",
-        "extract [OPTIONS] <DEVICE> <FLASH> <IMAGE> <SIDE> <OUT>",
-        makes="made",
-    ),
-    Command("show", "device flash", "show [OPTIONS] <DEVICE> <FLASH>", json=True),
-    Command("slots", "device flash", "slots [OPTIONS] <DEVICE> <FLASH>", json=True),
-    Command("run", "device flash script", "run [OPTIONS] <DEVICE> <FLASH> <SCRIPT>", json=True, makes="flash"),
-    Command(
-        "sweep",
-        "device script image image",
-        "sweep [OPTIONS] <DEVICE> <SCRIPT> <IMAGE>...\n       bootswap sweep --merge [--svg <FILE>] <OUTPUT>...",
-        json=True,
-    ),
-    Command("codes", "", "codes [OPTIONS]", json=True),
+    Command("choose", "table", "<TABLE>", json=True),
+    Command("check", "table report", "<TABLE> <REPORT>", json=True),
+    Command("plan", "fleet", "<FLEET>...", json=True),
+    Command("image", "image", "<FILE>", json=True),
+    Command("manifest", "device manifest", "<DEVICE> <FILE>", json=True),
+    Command("make-device", "--sector=512 --slots=2,2 --vendor=python.org --class=sensor",
+        "--sector <BYTES> --slots <N,N,..>\n           --vendor <DOMAIN> --class <NAME>"),
+    Command("make-image", "made body --version=1", "--version <VERSION> <OUT> <BODY>", makes="made"),
+    Command("make-manifest", "device --sequence=1 --test=0=image", "--sequence <N> <DEVICE>"),
+    Command("provision", "device new image image", "<DEVICE> <FLASH> <IMAGE>...", makes="new"),
+    Command("extract", "device flash 0 primary made", "<DEVICE> <FLASH> <IMAGE> <SIDE> <OUT>", makes="made"),
+    Command("show", "device flash", "<DEVICE> <FLASH>", json=True),
+    Command("slots", "device flash", "<DEVICE> <FLASH>", json=True),
+    Command("run", "device flash script", "<DEVICE> <FLASH> <SCRIPT>", json=True, makes="flash"),
+    Command("sweep", "device script image image",
+        "<DEVICE> <SCRIPT> <IMAGE>...\n       bootswap sweep --merge [--svg <FILE>] <OUTPUT>...", json=True),
+    Command("codes", "", "", json=True),
 ]
 
 BY_NAME = {it.name: it for it in EVERY}

@@ -107,11 +107,11 @@ class Expected:
             self.program(units + 8 * step, FLAG)
 
 
-def assert_writes(test, whole, events, expected, own=PAIR, numbers=None):
+def assert_writes(test, whole, events, expected, own=PAIR):
     """These events make these writes in this order and no others. One write after the other is interrupted and torn
-    into other bytes, and at last none is; or only writes of these numbers."""
+    into other bytes, and at last none is."""
     count = len(expected.writes)
-    for number in range(1, count + 2) if numbers is None else numbers:
+    for number in range(1, count + 2):
         test.file("flash", whole)
         _, out, err = run_of(test, events, own, [(number, f"hex:{PATTERN:02x}")])
         wanted = bytearray(expected.whole)

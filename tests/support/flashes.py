@@ -4,7 +4,7 @@ import json
 
 from support.builders import little
 from support.files import ONE, PAIR, read
-from support.stories import IMAGES, flash_in
+from support.stories import IMAGES
 
 
 # A status unit that is set, and the gate of a record.
@@ -28,16 +28,6 @@ def placed(size, parts):
     for at, part in parts.items():
         whole[at : at + len(part)] = part
     return bytes(whole)
-
-
-def expect_flash(test, name, bytes):
-    """A case: the flash file holds these bytes."""
-    test.case(name, [] if flash_in(test) == bytes else ["it holds others"])
-
-
-def expect_unchanged(test, name, whole):
-    """A case: the flash file still holds these bytes."""
-    expect_flash(test, f"{name}: the flash is as it was", whole)
 
 
 def log_record(sequence, *floors):

@@ -5,7 +5,6 @@ from support.builders import ABC, CLASS, VENDOR
 # Error lines.
 CANNOT_MAKE = b"error: flash file\n"
 IN_USE = b"error: flash in use\n"
-ABSENT = b"error: cannot read absent\n"
 
 
 # How a run ends: its status, its output, and its errors.

@@ -1,6 +1,8 @@
-"""Runs the built program, and counts each case of a test."""
+"""Runs the built program."""
 
+import contextlib
 import ctypes
+import fcntl
 import json
 import os
 import resource
@@ -12,7 +14,7 @@ import threading
 import time
 import unittest
 
-from support.files import EXAMPLES, ROOT, read
+from support.files import EXAMPLES, ROOT, files_in, read
 
 sys.path.insert(0, f"{ROOT}/tools")
 
@@ -22,14 +24,8 @@ from commits import version_in
 LIMIT = 20
 
 
-class CaseTest(unittest.TestCase):
-    """A test whose cases are subtests, each of a name and its faults."""
-
-    def case(self, name, faults):
-        """Passes a case, unless there are faults."""
-        with self.subTest(name):
-            if faults:
-                self.fail("\n".join(map(str, faults)))
+# The base of tests that run no program.
+CaseTest = unittest.TestCase
 
 
 def error_line(err):
@@ -51,31 +47,49 @@ def obey_permissions():
     ctypes.CDLL(None, use_errno=True).prctl(drop_from_bound, override, 0, 0, 0)
 
 
-class ProgramTest(CaseTest):
-    """A test of the built program, in a folder of its own."""
+class FolderTest(unittest.TestCase):
+    """A test in a folder of its own."""
 
     def setUp(self):
+        self.folder = tempfile.mkdtemp(prefix="bootswap-test-")
+        self.addCleanup(shutil.rmtree, self.folder, ignore_errors=True)
+
+    def path(self, name):
+        """Returns the path of a file in the folder."""
+        return f"{self.folder}/{name}"
+
+    def file(self, name, contents):
+        """Writes a file in the folder, and returns its name."""
+        with open(self.path(name), "wb") as it:
+            it.write(contents)
+        return name
+
+    def put(self, name, contents):
+        """Writes a file in the folder, and returns its path."""
+        return self.path(self.file(name, contents))
+
+    @contextlib.contextmanager
+    def held(self, name, how=fcntl.LOCK_EX):
+        """Holds a file meanwhile, as another program does."""
+        with open(self.path(name), "rb") as it:
+            fcntl.flock(it, how)
+            yield
+
+
+class ProgramTest(FolderTest):
+    """A test of the built program, which runs in the folder."""
+
+    def setUp(self):
+        super().setUp()
         self.program = os.environ.get("BOOTSWAP_PROGRAM") or f"{ROOT}/out/bootswap"
         if not os.access(self.program, os.X_OK):
             self.fail(f"there is no {self.program}: run `./bootswap codes`, or name a program in BOOTSWAP_PROGRAM")
-        self.new_folder()
-
-    def new_folder(self):
-        """Makes an empty folder, in which the program runs from now on."""
-        self.folder = tempfile.mkdtemp(prefix="bootswap-test-")
-        self.addCleanup(shutil.rmtree, self.folder, ignore_errors=True)
         # Scripts name files relative to the root of the repository.
-        os.symlink(EXAMPLES, f"{self.folder}/examples")
+        os.symlink(EXAMPLES, self.path("examples"))
 
     def version(self):
         """Returns the version and the commit that the program has."""
         return version_in(self.program)
-
-    def file(self, name, contents):
-        """Writes a file where the program runs, and returns its name."""
-        with open(f"{self.folder}/{name}", "wb") as it:
-            it.write(contents)
-        return name
 
     def run_program(self, arguments, given=b"", pieces=0, closed=None, most=None, **streams):
         """Returns the status, standard output and standard error of a run.
@@ -103,12 +117,11 @@ class ProgramTest(CaseTest):
             return f"not ended after {LIMIT} seconds", b"", b""
         return ran.returncode, out or b"", err or b""
 
-    def expect(self, name, arguments, status, out=b"", err=b"", **how):
-        """A case: the run has this status, and prints exactly this."""
-        got = self.run_program(arguments, **how)
-        printed = zip(("status", "standard output", "standard error"), got, (status, out, err))
-        faults = [f"{what}: {short(one)}, and not {short(other)}" for what, one, other in printed if one != other]
-        self.case(name, faults)
+    def assert_refuses(self, end, arguments, **how):
+        """The run ends so, and no file is made, changed or removed."""
+        before = [*files_in(self.folder)]
+        self.assertEqual(end, self.run_program(arguments, **how))
+        self.assertEqual(before, [*files_in(self.folder)])
 
 
 def short(value):

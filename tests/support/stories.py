@@ -1,11 +1,10 @@
-"""Devices step by step: the files that a device receives, and steps that each check it."""
+"""The files that a device receives, and runs of it."""
 
 import hashlib
 
 from support.builders import VENDOR, component, device, image, manifest, version
 from support.files import EXAMPLES, PAIR, read
-from support.program import short
-from support.worked import PLAIN, numbered
+from support.worked import PLAIN
 
 # The device with trials of three boots, and the one of three images.
 PATIENT, THREE = f"{EXAMPLES}/devices/patient.json", f"{EXAMPLES}/devices/either.json"
@@ -26,7 +25,6 @@ TEXTS.update({"short.img": IMAGES["one.img"][:-1], "empty.img": b""})
 DEVICES = {
     "pair.json": read(PAIR),
     "three.json": read(THREE),
-    "narrow.json": device(sectors=8 * [1]),
     "uneven.json": device(sectors=[2, 1]),
     "small.json": device(sector=64, sectors=[2]),
     "other.json": b"{}",
@@ -46,9 +44,7 @@ MANIFESTS = {
     "stale.json": [2, "0 test stale.img"],
     "two-of-three.json": [1, "0 test newer.img", "2 test newer.img"],
     "text.json": [1, "0 test abc"],
-    "patched-for-a-test.json": [1, "0 test patched.img"],
     "newer.json": [1, "0 test newer.img"],
-    "both-newer.json": [1, "0 test newer.img", "1 test newer.img"],
     "absent-image.json": [1, "2 test abc"],
     "too-long.json": [1, "1 test long.img"],
 }
@@ -112,58 +108,3 @@ def state(kind, images, sequence, floors, swaps, left=0):
     lines += [f"floor {number} {floor}" for number, floor in enumerate(floors)]
     lines += [f"swap {number} {swap}" for number, swap in enumerate(swaps.split())]
     return "".join(f"{line}\n" for line in lines).encode()
-
-
-def other_than(wanted, got, what):
-    """The fault of a result that isn't the wanted one."""
-    return [] if got == wanted else [f"{what}: {short(got)}, and not {short(wanted)}"]
-
-
-def runs(events, replies, status=0, options=()):
-    """A step: the events get these replies, and the run with these options has this status."""
-    return lambda test, device: other_than(
-        (status, numbered(replies), b""), run_of(test, events, device, options=options), short(events)
-    )
-
-
-def keeping(step):
-    """The same step, which also leaves the flash as it was."""
-
-    def kept(test, device):
-        before = flash_in(test)
-        faults = step(test, device)
-        return faults + ([] if flash_in(test) == before else ["the flash is changed"])
-
-    return kept
-
-
-def shows(wanted, status=0):
-    """A step: `show` prints this, and changes nothing."""
-    return keeping(
-        lambda test, device: other_than((status, wanted, b""), test.run_program(["show", device, "flash"]), "show")
-    )
-
-
-def holds(at, part):
-    """A step: the flash holds these bytes at a place."""
-    return lambda test, device: other_than(part, flash_in(test)[at : at + len(part)], f"the flash at byte {at}")
-
-
-def changes(at, part):
-    """A step: the test writes these bytes to a place of the flash."""
-
-    def step(test, device):
-        whole = flash_in(test)
-        test.file("flash", whole[:at] + part + whole[at + len(part) :])
-        return []
-
-    return step
-
-
-def expect_story(test, name, steps, device=PAIR, images=TWO):
-    """A case: each of these steps succeeds, on a new device with these images."""
-    whole = new_device(test, device, images)
-    faults = [] if whole else ["the device isn't provisioned"]
-    for step in steps:
-        faults += step(test, device)
-    test.case(name, faults[:5])

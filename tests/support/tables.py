@@ -8,6 +8,3 @@ def text_of(lines):
 
 # The greatest version, and the one before it.
 GREATEST, ALMOST = "255.255.65535+4294967295", "255.255.65535+4294967294"
-
-# A group with the most alternatives, of images that no device has.
-FULL_GROUP = "needs-one" + 4 * f" 255 {GREATEST}"

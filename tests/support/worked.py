@@ -75,6 +75,4 @@ WORKED_EVENTS = (
 )
 
 ACCEPT_FAILS = [PLAIN, "cut", *4 * [NOT_UP], PLAIN, NO_TRIAL, PLAIN, PLAIN]
-UPGRADE_FAILS = [*USUAL[:6], "cut", NOT_UP, "cut", "cut"]
-BACK_FAILS = [*USUAL[:8], "cut", "cut"]
 NO_SESSION, NOTHING_REQUESTED = "refused upload 3 NoSession", "refused upload 9 NothingRequested"
