@@ -1,9 +1,9 @@
 //! The part of a file that a line names.
 
-ghost use Rattle.std.specs.Prelude.{◌≡◌, List, ℕ, IfNone, IfSome, decimal};
+ghost use Rattle.std.specs.Prelude.{◌≡◌, List, ℕ, IfNone, IfSome};
 ghost use Rattle.std.specs.Option.{option_map};
 ghost use Rattle.device_texts.specs.LineReading.{part_of};
-ghost use Rattle.device_texts.specs.Part.{IsPart};
+ghost use Rattle.device_texts.specs.Part.{AreNumbers, IsPart};
 ghost use Rattle.device_texts.specs.Said.{part_words};
 
 use crate::words::{number_usize, word};
@@ -35,8 +35,10 @@ impl<'a> PartText<'a> {
     /// The numbers of the two words: the number of the first byte, from 0, and the count. Returns
     /// `None` if a word isn't a decimal number below 2^64 without leading zeros.
     pub fn numbers(self) -> Option<(usize, usize)>
-        ensures { IfSome result (λ numbers. ((part_words self.entry).from ≡ decimal numbers.0)
-            × ((part_words self.entry).count ≡ decimal numbers.1)) }
+        ensures numbers { IfSome result (λ numbers.
+            AreNumbers (part_words self.entry) numbers.0 numbers.1) }
+        ensures other { IfNone result ((from count : ℕ)
+            → AreNumbers (part_words self.entry) from count → ⊥) }
     {
         let from = number_usize(self.from)?;
         let count = number_usize(self.count)?;

@@ -1,5 +1,5 @@
 -- What a host is known to hold: the rest of its standard input, and the contents of its files.
-use Rattle.std.specs.Prelude.{◌≡◌, ◌≢◌, ℕ, ◌+◌, ◌≤◌, List, length, Option, IfSome, codes, slice_range}
+use Rattle.std.specs.Prelude.{◌≡◌, ◌≢◌, ℕ, ◌+◌, ◌<◌, ◌≤◌, Bool, List, false, length, Option, IfSome, codes, slice_range, true}
 use Rattle.std.specs.Io.KnownBytes.{Keeps}
 use Rattle.host.specs.declared.source.Source.{Source}
 use Rattle.host.specs.declared.source.Source.TheVariants.{StandardInput, File}
@@ -8,6 +8,11 @@ use Rattle.host.specs.declared.source.Source.TheVariants.{StandardInput, File}
 abbrev pub IsNamed : List ℕ → Source → Type 0
 IsNamed word StandardInput = word ≡ codes "-"
 IsNamed word (File name) = (word ≢ codes "-") × (name.now ≡ word)
+
+-- Whether a source is standard input.
+abbrev pub is_standard_input : Source → Bool
+is_standard_input StandardInput = true
+is_standard_input (File name) = false
 
 -- Two words name these two sources.
 abbrev pub AreNamed : List ℕ → List ℕ → Source → Source → Type 0
@@ -26,6 +31,10 @@ pub record IsKnownPart (known : Option (List ℕ)) (from count : ℕ) (part : Li
   pub many : length part ≡ count
   pub there : IfSome known (λ held. from + count ≤ length held)
   pub same : IfSome known (λ held. part ≡ slice_range held from (from + count))
+
+-- If the contents are known, they end before the `count` bytes from `from` on do.
+abbrev pub LacksPart : Option (List ℕ) → ℕ → ℕ → Type 0
+LacksPart known from count = IfSome known (λ held. length held < from + count)
 
 -- Each file keeps its known contents.
 abbrev pub KeepsFiles : FileBytes → FileBytes → Type 0

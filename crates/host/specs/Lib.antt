@@ -1,4 +1,5 @@
 pub mod Doings
 pub mod Input
 pub mod Inputs
+pub mod ScriptLines
 pub mod Status

@@ -1,6 +1,8 @@
 //! How a command ends: its answer or its refusal, and the exit status.
-ghost use Rattle.std.specs.Prelude.{◌≡◌, ◌⊎◌, Ok, is_ok, if◌then◌else◌};
+ghost use Rattle.std.specs.Prelude.{◌≡◌, ◌⊎◌, None, Ok, Some, is_ok, if◌then◌else◌, option_map};
 ghost use Rattle.std.specs.Io.KnownBytes.{Keeps};
+ghost use Rattle.host.specs.declared.error.ScriptLine.{ScriptLine};
+ghost use Rattle.host.specs.ScriptLines.{script_line};
 ghost use Rattle.host.specs.Status.{Ends, status_of_answer, status_of_refusal};
 
 use crate::error::{Refusal, ScriptFault, ScriptLine, SourceRefusal};
@@ -56,7 +58,9 @@ impl Refusal {
 
     /// Returns the refusal of the line of this number of a script, from 1, for this reason.
     pub fn of_line(line: usize, fault: ScriptFault) -> Self
-        ensures { status_of_refusal result ≡ 1 }
+        ensures status { status_of_refusal result ≡ 1 }
+        ensures line { script_line result
+            ≡ Some (record { line = line; fault = fault; script = None }) }
     {
         Refusal::ScriptLine(ScriptLine {
             line,
@@ -67,7 +71,9 @@ impl Refusal {
 
     /// Adds the text of the script that was run to a refusal of one of its lines, or of a file.
     pub fn in_script(self, text: Vec<u8>) -> Self
-        ensures { status_of_refusal result ≡ status_of_refusal self }
+        ensures status { status_of_refusal result ≡ status_of_refusal self }
+        ensures line { script_line result
+            ≡ option_map (λ (bad : ScriptLine). record bad { script = Some text }) (script_line self) }
     {
         let script = Some(text);
         match self {

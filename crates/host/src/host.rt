@@ -1,11 +1,11 @@
 //! The trait by which a command reads files and standard input, and writes the file of a flash.
-ghost use Rattle.std.specs.Prelude.{◌≡◌, ◌≤◌, Bool, IfErr, IfOk, IfSome, IsTrue, List, ℕ, None, OnOk, Option, false, length, true};
+ghost use Rattle.std.specs.Prelude.{◌≡◌, ◌≤◌, Bool, IfErr, IfNone, IfOk, IfSome, IsTrue, List, ℕ, None, OnOk, Option, false, length, true};
 ghost use Rattle.std.specs.Io.{ReadsAtMost};
 ghost use Rattle.std.specs.Io.KnownBytes.{Keeps, ReadConsumes};
 ghost use Rattle.std.specs.IoError.{error_kind};
 ghost use Rattle.std.specs.declared.io.ErrorKind.TheVariants.{NotFound};
 ghost use Rattle.host.specs.Doings.{AreApart, IsOpenedFor, KeepsApart, Openings, no_openings};
-ghost use Rattle.host.specs.Input.{IsKnownAs, IsKnownPart, KeepsFiles, held_by};
+ghost use Rattle.host.specs.Input.{IsKnownAs, IsKnownPart, KeepsFiles, LacksPart, held_by};
 
 use crate::source::Source;
 use std::alloc::Global;
@@ -141,8 +141,10 @@ pub trait Host {
     /// Reads a part of the file of this name into memory of `alloc`. Returns `None` if the file
     /// doesn't have it. No other byte of a plain file is read.
     fn read_part(&self, alloc: Global, name: &str, part: FilePart) -> io::Result<Option<Vec<u8>>>
-        ensures { IfOk result (λ read. IfSome read (λ found.
-            IsKnownPart (file self.now name.now) part.from part.count found.items)) };
+        ensures part { IfOk result (λ read. IfSome read (λ found.
+            IsKnownPart (file self.now name.now) part.from part.count found.items)) }
+        ensures missing { IfOk result (λ read. IfNone read
+            (LacksPart (file self.now name.now) part.from part.count)) };
 
     /// Returns whether the file of this name is a plain one, which can be read again. A pipe gives
     /// its bytes once. An error of kind `NotFound` means that there is no such file.

@@ -1,7 +1,8 @@
 //! Where a command reads its input, as its arguments name it.
-ghost use Rattle.std.specs.Prelude.{◌≡◌, ◌≤◌, IfOk, OnOk, false, length};
+ghost use Rattle.std.specs.Prelude.{◌≡◌, ◌≤◌, IfErr, IfOk, None, OnOk, false, length};
 ghost use Rattle.host.specs.Doings.{IsApartFrom};
-ghost use Rattle.host.specs.Input.{Gives, IsNamed, KeepsFiles, KeepsOthers};
+ghost use Rattle.host.specs.Input.{Gives, IsNamed, KeepsFiles, KeepsOthers, is_standard_input};
+ghost use Rattle.host.specs.ScriptLines.{script_line};
 ghost use Rattle.host.specs.Status.{status_of_refusal};
 
 use crate::error::{NamedText, Refusal, SourceFault, SourceRefusal};
@@ -35,7 +36,9 @@ impl<'a> Source<'a> {
     }
 
     /// Returns whether this is standard input.
-    pub fn is_standard_input(self) -> bool {
+    pub fn is_standard_input(self) -> bool
+        ensures { result ≡ is_standard_input self.entry }
+    {
         matches!(self, Source::StandardInput)
     }
 
@@ -47,6 +50,7 @@ impl<'a> Source<'a> {
             (H.input host.new) (H.file host.new) }
         ensures files { KeepsFiles (H.file host.old) (H.file host.new) }
         ensures opened { H.opened host.new ≡ H.opened host.old }
+        ensures refused { IfErr result (λ refusal. script_line refusal ≡ None) }
     {
         let bytes = self.read_start(alloc, host, most)?;
         if bytes.len() > most as usize {
@@ -69,6 +73,7 @@ impl<'a> Source<'a> {
             (H.input host.new) (H.file host.new) }
         ensures files { KeepsFiles (H.file host.old) (H.file host.new) }
         ensures opened { H.opened host.new ≡ H.opened host.old }
+        ensures refused { IfErr result (λ refusal. script_line refusal ≡ None) }
     {
         let read = match self {
             Source::StandardInput => host.read_input(alloc, most),
@@ -103,7 +108,8 @@ impl<'a> Source<'a> {
     /// Returns the refusal for this fault of the source. Its name is copied into memory of `alloc`.
     /// If memory runs out, the refusal says so instead.
     pub fn refused(self, alloc: Global, fault: SourceFault) -> Refusal
-        ensures { status_of_refusal result ≡ 1 }
+        ensures status { status_of_refusal result ≡ 1 }
+        ensures other { script_line result ≡ None }
     {
         match String::from_str(alloc, self.name()) {
             Ok(name) => Refusal::OfSource(SourceRefusal {
@@ -118,7 +124,8 @@ impl<'a> Source<'a> {
     /// Returns the refusal of a text of this source that is no device file. The source's name is copied
     /// into memory of `alloc`. If memory runs out, the refusal says so instead.
     pub fn no_device_file(self, alloc: Global, text: Vec<u8>) -> Refusal
-        ensures { status_of_refusal result ≡ 1 }
+        ensures status { status_of_refusal result ≡ 1 }
+        ensures other { script_line result ≡ None }
     {
         match String::from_str(alloc, self.name()) {
             Ok(name) => Refusal::DeviceFile(NamedText { name, text }),
@@ -130,7 +137,8 @@ impl<'a> Source<'a> {
     /// `FileTooLarge` means that a part of the source lies past [`MOST_FILE`] bytes. The name is
     /// copied into memory of `alloc`.
     pub fn refusal(self, alloc: Global, error: io::Error) -> Refusal
-        ensures { status_of_refusal result ≡ 1 }
+        ensures status { status_of_refusal result ≡ 1 }
+        ensures other { script_line result ≡ None }
     {
         match error.kind() {
             ErrorKind::OutOfMemory => Refusal::NoMemory,

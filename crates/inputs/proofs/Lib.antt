@@ -1,2 +1,3 @@
 mod Written
 pub mod ScriptLaws
+pub mod ScriptFaultLaws

@@ -306,7 +306,7 @@ AreTaken-event text old new happened taken buffered files came one_came next loa
     }
 
 -- An empty list of lines can always follow.
-nothing_follows : (has_event : Bool) (last : ℕ) → MatchBool has_event (AreEvents []) (AreInOrder last [])
+pub nothing_follows : (has_event : Bool) (last : ℕ) → MatchBool has_event (AreEvents []) (AreInOrder last [])
 nothing_follows true last = tt
 nothing_follows false last = tt
 

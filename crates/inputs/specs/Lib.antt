@@ -2,3 +2,4 @@ pub mod DeviceInput
 pub mod FileFlash
 pub mod Loading
 pub mod Script
+pub mod ScriptFault

@@ -1,5 +1,5 @@
 -- The result of reading a script line by line, for the private contracts of its readers.
-use Rattle.std.specs.Prelude.{◌≡◌, ◌≢◌, ◌⊎◌, ◌↔◌, ℕ, ◌+◌, List, [], ◌∷◌, ◌++◌, false, Bool, IfSome, IsTrue, None, Option, Some, Vec, length, map, slice_get, take}
+use Rattle.std.specs.Prelude.{◌≡◌, ◌≢◌, ◌⊎◌, ◌↔◌, ℕ, ◌+◌, List, [], ◌∷◌, ◌++◌, false, true, Bool, IfSome, IsTrue, Option, Some, Vec, length, map, slice_get, take}
 use Rattle.std.specs.Borrow.{Bor}
 use Rattle.std.specs.Io.KnownBytes.{Keeps}
 use Rattle.std.specs.List.{AllZip}
@@ -12,12 +12,16 @@ use Rattle.device_texts.specs.declared.line.FileText.{FileText}
 use Rattle.device_texts.specs.declared.line.Line.{Line}
 use Rattle.device_texts.specs.InOrder.{AreInOrder, CanFollow}
 use Rattle.device_texts.specs.LineText.{IsLineText}
+use Rattle.device_texts.specs.Part.{AreNumbers}
 use Rattle.device_texts.specs.Said.{PartWords, Said, SaidEvent, SaidFile, said, said_file}
 use Rattle.device_texts.specs.Said as say
 use Rattle.inputs.specs.declared.checking.BufferedInput.{BufferedInput}
 use Rattle.inputs.specs.declared.lines.Lines.{Lines}
+use Rattle.host.specs.declared.error.ScriptFault.{ScriptFault}
+use Rattle.host.specs.declared.error.ScriptFault.TheVariants as fault
 use Rattle.host.specs.Doings.{AreApart}
 use Rattle.host.specs.Input.{FileBytes, IsKnownAs, KeepsFiles}
+use Rattle.inputs.specs.ScriptFault.{AreNoNumbers, IsPartFault}
 use Rattle.inputs.specs.Script.{AllCome, AllCut, IsCutBy, IsPieceOf, Known, ReadsFile, StaysKnown}
 
 -- An event of the device, with its bytes as a list.
@@ -42,6 +46,31 @@ pub record IsNextLine (old new : Lines) (line : Line) : Type 0 where
   pub says : IsLineText text (said line)
   pub follows : (lines : List Said)
       → CanFollow new.order lines ↔ CanFollow old.order (said line ∷ lines)
+
+-- A text isn't spelled as a line, or it is one that can't come.
+abbrev pub IsTextFault : (Said → Type 0) → List ℕ → ScriptFault → Type 0
+IsTextFault CanCome text fault.Spelling = (line : Said) → IsLineText text line → ⊥
+IsTextFault CanCome text fault.Order =
+    (line : Said) × IsLineText text line × (CanCome line → ⊥)
+IsTextFault CanCome text other = ⊥
+
+-- The next line of a text has this fault.
+pub record IsWrongNext (old new : Lines) (why : ScriptFault) : Type 0 where
+  pub text : List ℕ
+  pub parts : lines_of old.rest.now ≡ text ∷ lines_of new.rest.now
+  pub wrong : IsTextFault (λ line. CanFollow old.order (line ∷ [])) text why
+
+-- The first fault of a line that names standard input, of which this is known, or a part of it.
+abbrev pub IsInputFault : Bool → Option (List ℕ) → Option PartWords → ScriptFault → Type 0
+IsInputFault is_read input part fault.InputRead = is_read ≡ true
+IsInputFault is_read input part other = (is_read ≡ false) × IsPartFault part input other
+
+-- Why these words name no part of an input of this length, if they name none.
+abbrev pub IsPartReason : PartWords → ℕ → ScriptFault → Type 0
+IsPartReason words many fault.PartNumbers = AreNoNumbers words
+IsPartReason words many (fault.NoPart reported) =
+    ((from : ℕ) × (count : ℕ) × AreNumbers words from count) × (reported ≡ Some many)
+IsPartReason words many other = ⊥
 
 -- What a line adds to the armed cuts.
 abbrev pub AddsCut : Said → List Armed → List Armed → Type 0
@@ -125,12 +154,6 @@ abbrev pub BuffersIfNeeded : (List ℕ → Bool) → (List ℕ → List ℕ → 
 BuffersIfNeeded plain apart flash file old new =
     ((item : BufferedInput) × (item.file ≡ file) × (new ≡ old ++ item ∷ []))
     ⊎ (CanBeReadAgain plain apart file.name.now flash × (new ≡ old))
-
--- The file that an event names, if it names one.
-abbrev pub file_in : SaidEvent → Option SaidFile
-file_in (event.Accept file) = Some file
-file_in (event.Piece image file) = Some file
-file_in other = None
 
 -- The bytes are those of the next buffered input, which is of the named file, and one more input is
 -- used. Therefore no buffered input is used twice.

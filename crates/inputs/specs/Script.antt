@@ -22,6 +22,10 @@ pub record Known : Type 0 where
   pub input : Option (List ℕ)
   pub files : FileBytes
 
+-- What is known of a host that holds this.
+abbrev pub known_at : Option (List ℕ) → FileBytes → Known
+known_at input files = record { input = input; files = files }
+
 -- What is known stays so.
 pub record StaysKnown (known : Known) (input : Option (List ℕ)) (files : FileBytes) : Type 0 where
   pub input_kept : Keeps known.input input
@@ -54,6 +58,12 @@ IsPieceOf (Some words) bytes piece = IsPart words bytes piece
 abbrev pub ReadsFile : SaidFile → List ℕ → Known → Known → Type 0
 ReadsFile file piece known after =
     (bytes : List ℕ) × IsRead file.name known bytes after × IsPieceOf file.part bytes piece
+
+-- The file that an event names, if it names one.
+abbrev pub file_in : SaidEvent → Option SaidFile
+file_in (event.Accept file) = Some file
+file_in (event.Piece image file) = Some file
+file_in other = None
 
 -- The event of a line, and what is known of the host after it.
 abbrev pub Comes : SaidEvent → Known → Event (List ℕ) → Known → Type 0

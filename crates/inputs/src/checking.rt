@@ -1,12 +1,14 @@
 //! Checks a script before anything is run: each of its lines and the files that they name.
-ghost use Rattle.std.specs.Prelude.{◌≡◌, ◌++◌, ◌∷◌, [], IfOk, OnOk, false, true};
+ghost use Rattle.std.specs.Prelude.{◌≡◌, ◌++◌, ◌||◌, ◌∷◌, [], IfErr, IfOk, IfSome, None, OnOk, Some, false, true};
 ghost use Rattle.std.specs.Option.{option_map};
-ghost use Rattle.machine.specs.Event.{event_map};
-ghost use Rattle.device_texts.specs.Said.{part_words, said, said_file, said_torn};
+ghost use Rattle.common.specs.Event.{event_map};
+ghost use Rattle.device_texts.specs.Said.{SaidFile, part_words, said, said_file, said_torn};
 ghost use Rattle.device_texts.specs.FlashOf.{armed_in, armed_of};
 ghost use Rattle.host.specs.Input.{KeepsFiles};
-ghost use Rattle.inputs.specs.Loading.{AddsCut, AreBuffered, AreCutsOf, BuffersIfNeeded, CanBeReadAgain, IsInputPiece, KeepsBuffered, file_in};
-ghost use Rattle.inputs.specs.Script.{IsCutBy};
+ghost use Rattle.host.specs.ScriptLines.{script_line};
+ghost use Rattle.inputs.specs.Loading.{AddsCut, AreBuffered, AreCutsOf, BuffersIfNeeded, CanBeReadAgain, IsInputFault, IsInputPiece, KeepsBuffered};
+ghost use Rattle.inputs.specs.Script.{IsCutBy, file_in, known_at};
+ghost use Rattle.inputs.specs.ScriptFault.{IsFileFault, IsRightScript, IsWrongLine, MayName, NamesLine, OnScriptLine, file_of_line, is_input, is_input_name};
 
 use crate::lines::Lines;
 use crate::sources::{part_of, piece_of};
@@ -59,6 +61,11 @@ pub fn check_script<'a, H: Host>(
     ensures cuts { IfOk result (λ checked. AreCutsOf text.now (armed_in checked.cuts.items)) }
     ensures buffered { IfOk result (λ checked.
         AreBuffered checked.buffered.items (H.input host.old) (H.file host.old)) }
+    ensures right { OnOk result (IsRightScript text.now is_input_read
+        (known_at (H.input host.old) (H.file host.old))) }
+    ensures wrong { IfErr result (λ refusal. OnScriptLine refusal (λ bad.
+        IsWrongLine text.now is_input_read (known_at (H.input host.old) (H.file host.old))
+        bad.line bad.fault)) }
     ensures files { KeepsFiles (H.file host.old) (H.file host.new) }
     ensures opened { H.opened host.new ≡ H.opened host.old }
 {
@@ -89,6 +96,13 @@ fn check_line<'a, H: Host>(
     ensures buffered { OnOk result (KeepsBuffered checked.old.buffered.items checked.new.buffered.items
         checked.old.is_input_read checked.new.is_input_read
         (H.input host.old) (H.file host.old) (H.input host.new)) }
+    ensures read { OnOk result (checked.new.is_input_read
+        ≡ (checked.old.is_input_read || is_input (file_of_line (said line.entry)))) }
+    ensures right { OnOk result (IfSome (file_of_line (said line.entry)) (MayName
+        checked.old.is_input_read (known_at (H.input host.old) (H.file host.old)))) }
+    ensures wrong { IfErr result (NamesLine number (λ why. (file : SaidFile)
+        × (file_of_line (said line.entry) ≡ Some file) × IsFileFault checked.old.is_input_read
+        (known_at (H.input host.old) (H.file host.old)) file why)) }
     ensures files { KeepsFiles (H.file host.old) (H.file host.new) }
     ensures opened { H.opened host.new ≡ H.opened host.old }
 {
@@ -106,7 +120,8 @@ fn check_line<'a, H: Host>(
 
 /// Returns the write that a `cut` line of a script interrupts.
 fn cut_write(alloc: Global, write: u32, torn: TornText<'_>) -> Result<CutWrite, Refusal>
-    ensures { IfOk result (λ cut. IsCutBy write (said_torn torn.entry) (armed_of cut)) }
+    ensures cut { IfOk result (λ cut. IsCutBy write (said_torn torn.entry) (armed_of cut)) }
+    ensures unnamed { IfErr result (λ refusal. script_line refusal ≡ None) }
 {
     match torn.torn(alloc) {
         Ok(torn) => Ok(CutWrite { write, torn }),
@@ -116,7 +131,8 @@ fn cut_write(alloc: Global, write: u32, torn: TornText<'_>) -> Result<CutWrite, 
 
 /// Adds a `cut` to those of the earlier lines.
 fn add_cut(cuts: &mut Vec<CutWrite>, cut: CutWrite) -> Result<(), Refusal>
-    ensures { OnOk result (cuts.new.items ≡ cuts.old.items ++ cut ∷ []) }
+    ensures added { OnOk result (cuts.new.items ≡ cuts.old.items ++ cut ∷ []) }
+    ensures unnamed { IfErr result (λ refusal. script_line refusal ≡ None) }
 {
     match cuts.push(cut) {
         Ok(()) => Ok(()),
@@ -148,6 +164,12 @@ fn check_file<'a, H: Host>(
     ensures buffered { OnOk result (KeepsBuffered checked.old.buffered.items checked.new.buffered.items
         checked.old.is_input_read checked.new.is_input_read
         (H.input host.old) (H.file host.old) (H.input host.new)) }
+    ensures read { OnOk result (checked.new.is_input_read
+        ≡ (checked.old.is_input_read || is_input_name file.entry.name.now)) }
+    ensures right { OnOk result (MayName checked.old.is_input_read
+        (known_at (H.input host.old) (H.file host.old)) (said_file file.entry)) }
+    ensures wrong { IfErr result (NamesLine number (IsFileFault checked.old.is_input_read
+        (known_at (H.input host.old) (H.file host.old)) (said_file file.entry))) }
     ensures again { OnOk result (BuffersIfNeeded (H.plain host.new) (H.apart host.new) flash.entry
         file.entry checked.old.buffered.items checked.new.buffered.items) }
     ensures files { KeepsFiles (H.file host.old) (H.file host.new) }
@@ -173,7 +195,8 @@ fn add_input<'a>(
     buffered: &mut Vec<BufferedInput<'a>>,
     input: BufferedInput<'a>,
 ) -> Result<(), Refusal>
-    ensures { OnOk result (buffered.new.items ≡ buffered.old.items ++ input.entry ∷ []) }
+    ensures added { OnOk result (buffered.new.items ≡ buffered.old.items ++ input.entry ∷ []) }
+    ensures unnamed { IfErr result (λ refusal. script_line refusal ≡ None) }
 {
     match buffered.push(input) {
         Ok(()) => Ok(()),
@@ -194,6 +217,8 @@ fn input_part<H: Host>(
     ensures read { OnOk result (is_read.new ≡ true) }
     ensures piece { IfOk result (λ piece. IsInputPiece (option_map part_words file.entry.part)
         (H.input host.old) piece.items) }
+    ensures wrong { IfErr result (NamesLine number (IsInputFault is_read.old (H.input host.old)
+        (option_map part_words file.entry.part))) }
     ensures files { KeepsFiles (H.file host.old) (H.file host.new) }
     ensures opened { H.opened host.new ≡ H.opened host.old }
 {

@@ -1,11 +1,12 @@
 //! Reads a device file, and the bytes of a device's flash.
-ghost use Rattle.std.specs.Prelude.{◌≡◌, IfErr, IfOk, IsTrue, OnOk};
+ghost use Rattle.std.specs.Prelude.{◌≡◌, IfErr, IfOk, IsTrue, None, OnOk};
 ghost use Rattle.std.specs.Io.KnownBytes.{Appends, Keeps};
 ghost use Rattle.device_texts.specs.AnswerText.{map_refusal_text};
 ghost use Rattle.device_texts.specs.FlashOf.{IsFlashOf};
 ghost use Rattle.inputs.specs.DeviceInput.{GivesDeviceOrFault, OpensFlash, ReadsDevice};
 ghost use Rattle.host.specs.Doings.{IsOpenedFor};
 ghost use Rattle.host.specs.Input.{Gives, IsKnownAs, KeepsFiles, KeepsOthers};
+ghost use Rattle.host.specs.ScriptLines.{script_line};
 
 use crate::notes::Notes;
 use device_texts::{DeviceFault, DeviceFile, map_refusal_text, write_all};
@@ -73,6 +74,7 @@ pub fn device_or_fault<H: Host>(
 ) -> Result<Result<DeviceFile, BadMap>, Refusal>
     ensures read { IfOk result (λ read.
         GivesDeviceOrFault read device.entry (H.input host.old) (H.file host.old)) }
+    ensures unnamed { IfErr result (λ refusal. script_line refusal ≡ None) }
     ensures others { KeepsOthers device.entry (H.input host.old) (H.file host.old)
         (H.input host.new) (H.file host.new) }
     ensures files { KeepsFiles (H.file host.old) (H.file host.new) }
@@ -127,6 +129,7 @@ pub fn read_flash<H: Host>(
     ensures bytes { IfOk result (λ bytes.
         Gives flash.entry (H.input host.old) (H.file host.old) bytes.items) }
     ensures whole { IfOk result (λ bytes. IsFlashOf map.now bytes.items) }
+    ensures unnamed { IfErr result (λ refusal. script_line refusal ≡ None) }
     ensures others { KeepsOthers flash.entry (H.input host.old) (H.file host.old)
         (H.input host.new) (H.file host.new) }
     ensures files { KeepsFiles (H.file host.old) (H.file host.new) }
@@ -164,6 +167,7 @@ fn open_flash<H: Host>(
     ensures input { Keeps (H.input host.old) (H.input host.new) }
     ensures opened { OnOk result (IsOpenedFor access (H.opened host.old) (H.opened host.new)) }
     ensures unopened { IfErr result (λ _. H.opened host.new ≡ H.opened host.old) }
+    ensures unnamed { IfErr result (λ refusal. script_line refusal ≡ None) }
 {
     match host.open_flash(alloc, name, u64::from(map.bytes_in_all()), access) {
         Ok(bytes) => Ok(bytes),
@@ -178,7 +182,9 @@ fn open_flash<H: Host>(
 }
 
 /// The refusal of a flash of `found` bytes for the device of this map.
-fn wrong_length(found: Option<u64>, map: &SectorMap) -> Refusal {
+fn wrong_length(found: Option<u64>, map: &SectorMap) -> Refusal
+    ensures { script_line result ≡ None }
+{
     Refusal::FlashSize(WrongLength {
         found,
         wanted: map.bytes_in_all(),

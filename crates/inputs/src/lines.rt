@@ -1,9 +1,10 @@
 //! Reads the lines of a script's text one by one.
-ghost use Rattle.std.specs.Prelude.{◌≡◌, ◌<◌, ◌↔◌, IfErr, IfOk, List, length};
+ghost use Rattle.std.specs.Prelude.{◌≡◌, ◌+◌, ◌^◌, ◌<◌, ◌↔◌, IfErr, IfOk, List, length};
 ghost use Rattle.device_texts.specs.InOrder.{AreInOrder, CanFollow};
 ghost use Rattle.device_texts.specs.Said.{Said};
 ghost use Rattle.host.specs.Status.{status_of_refusal};
-ghost use Rattle.inputs.specs.Loading.{IsNextLine};
+ghost use Rattle.inputs.specs.Loading.{IsNextLine, IsWrongNext};
+ghost use Rattle.inputs.specs.ScriptFault.{NamesLine};
 
 use common::lines::first_line;
 use device_texts::{Line, LineOrder, line_of};
@@ -24,6 +25,7 @@ impl<'a> Lines<'a> {
     /// Returns all lines of a text.
     pub fn of(text: &'a [u8]) -> Self
         ensures all { result.rest.now ≡ text.now }
+        ensures none { result.number ≡ 0 }
         ensures order { (lines : List Said) → CanFollow result.order lines ↔ AreInOrder 0 lines }
     {
         Lines {
@@ -41,6 +43,8 @@ impl<'a> Lines<'a> {
         requires { 0 < length self.old.rest.now }
         ensures next { IfOk result (λ line. IsNextLine self.old self.new line) }
         ensures shorter { length self.new.rest.now < length self.old.rest.now }
+        ensures number { self.old.number + 1 < 2 ^ 64 → self.new.number ≡ self.old.number + 1 }
+        ensures wrong { IfErr result (NamesLine self.new.number (IsWrongNext self.old self.new)) }
         ensures refused { IfErr result (λ refusal. status_of_refusal refusal ≡ 1) }
     {
         let (line, rest) = first_line(self.rest);

@@ -1,8 +1,10 @@
 //! Reads the text of a script, and all events of a script that runs more than once.
-ghost use Rattle.std.specs.Prelude.{◌≡◌, ◌++◌, ◌∷◌, [], IfOk, OnOk};
+ghost use Rattle.std.specs.Prelude.{◌≡◌, ◌++◌, ◌∷◌, [], IfErr, IfOk, None, OnOk};
 ghost use Rattle.host.specs.Input.{Gives, KeepsFiles, KeepsOthers};
+ghost use Rattle.host.specs.ScriptLines.{script_line};
 ghost use Rattle.inputs.specs.Loading.{LoadsAll, came_in};
-ghost use Rattle.inputs.specs.Script.{IsScript, Known, StaysKnown};
+ghost use Rattle.inputs.specs.Script.{IsScript, Known, StaysKnown, known_at};
+ghost use Rattle.inputs.specs.ScriptFault.{IsFaultOfUncut, IsLostLine, OnScriptLine};
 
 use crate::checking::check_script;
 use crate::lines::Lines;
@@ -24,6 +26,8 @@ pub fn read_script<H: Host>(
 ) -> Result<Vec<u8>, Refusal>
     ensures bytes { IfOk result (λ bytes.
         Gives script.entry (H.input host.old) (H.file host.old) bytes.items) }
+    ensures wrong { IfErr result (λ refusal. OnScriptLine refusal (λ bad.
+        bad.fault ≡ ScriptFault.TooLong)) }
     ensures others { KeepsOthers script.entry (H.input host.old) (H.file host.old)
         (H.input host.new) (H.file host.new) }
     ensures files { KeepsFiles (H.file host.old) (H.file host.new) }
@@ -56,6 +60,9 @@ pub fn load<H: Host>(
     ensures script { IfOk result (λ events. (known : Known)
         → StaysKnown known (H.input host.old) (H.file host.old)
         → IsScript text.now known [] (came_in events.items)) }
+    ensures wrong { IfErr result (λ refusal. OnScriptLine refusal (λ bad.
+        IsFaultOfUncut text.now is_input_read (known_at (H.input host.old) (H.file host.old))
+        bad.line bad.fault)) }
     ensures files { KeepsFiles (H.file host.old) (H.file host.new) }
     ensures opened { H.opened host.new ≡ H.opened host.old }
 {
@@ -77,8 +84,10 @@ fn load_events<H: Host>(
     text: &[u8],
     sources: &Sources<'_, '_, '_, H>,
 ) -> Result<Vec<Event<Vec<u8>>>, Refusal>
-    ensures { IfOk result (λ events. LoadsAll text.now sources.now.buffered.now
+    ensures loaded { IfOk result (λ events. LoadsAll text.now sources.now.buffered.now
         (H.file sources.now.host.now) (came_in events.items)) }
+    ensures wrong { IfErr result (λ refusal. OnScriptLine refusal (λ bad.
+        IsLostLine text.now (known_at None (H.file sources.now.host.now)) bad.line bad.fault)) }
 {
     let mut events = Vec::new(sources.alloc);
     let mut lines = Lines::of(text);
@@ -94,7 +103,8 @@ fn load_events<H: Host>(
 
 /// Adds an event to those of the earlier lines.
 fn add_event(events: &mut Vec<Event<Vec<u8>>>, event: Event<Vec<u8>>) -> Result<(), Refusal>
-    ensures { OnOk result (events.new.items ≡ events.old.items ++ event ∷ []) }
+    ensures added { OnOk result (events.new.items ≡ events.old.items ++ event ∷ []) }
+    ensures unnamed { IfErr result (λ refusal. script_line refusal ≡ None) }
 {
     match events.push(event) {
         Ok(()) => Ok(()),

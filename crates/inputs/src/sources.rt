@@ -1,12 +1,14 @@
 //! Loads the events of a script's lines, with the bytes of the files that the lines name.
-ghost use Rattle.std.specs.Prelude.{◌≡◌, ◌≢◌, ◌≤◌, IfErr, IfNone, IfOk, IfSome, Some, codes, IsTrue, false, length, slice_get};
+ghost use Rattle.std.specs.Prelude.{◌≡◌, ◌≢◌, ◌≤◌, IfErr, IfNone, IfOk, IfSome, None, Some, codes, IsTrue, false, length, slice_get, true};
 ghost use Rattle.std.specs.Option.{option_map};
-ghost use Rattle.machine.specs.Event.{event_map};
-ghost use Rattle.host.specs.Input.{IsKnownAs, IsKnownPart};
+ghost use Rattle.common.specs.Event.{event_map};
+ghost use Rattle.host.specs.Input.{IsKnownAs, IsKnownPart, LacksPart};
+ghost use Rattle.host.specs.ScriptLines.{script_line};
 ghost use Rattle.host.specs.Status.{status_of_refusal};
-ghost use Rattle.device_texts.specs.Said.{file_of, part_words, said_file};
-ghost use Rattle.inputs.specs.Loading.{EventTakesNext, IsNextOther, Loads, ReadsNow, TakesNext, came_of};
-ghost use Rattle.inputs.specs.Script.{Comes, IsPieceOf, ReadsFile};
+ghost use Rattle.device_texts.specs.Said.{SaidFile, file_of, part_words, said_file};
+ghost use Rattle.inputs.specs.Loading.{EventTakesNext, IsNextOther, IsPartReason, Loads, ReadsNow, TakesNext, came_of};
+ghost use Rattle.inputs.specs.Script.{Comes, IsPieceOf, ReadsFile, file_in, known_at};
+ghost use Rattle.inputs.specs.ScriptFault.{IsFileFault, IsPartFault, NamesLine};
 
 use crate::checking::BufferedInput;
 use device_texts::{FileText, PartText};
@@ -45,6 +47,9 @@ impl<H: Host> Sources<'_, '_, '_, H> {
         ensures next { IfOk result (λ read.
             EventTakesNext self.now.buffered.now used.old used.new (event_map said_file event.entry)
             (came_of read)) }
+        ensures wrong { IfErr result (NamesLine number (λ why. (file : SaidFile)
+            × (file_in (event_map said_file event.entry) ≡ Some file)
+            × IsFileFault true (known_at None (H.file self.now.host.now)) file why)) }
         ensures refused { IfErr result (λ refusal. status_of_refusal refusal ≡ 1) }
     {
         match event {
@@ -77,6 +82,8 @@ impl<H: Host> Sources<'_, '_, '_, H> {
             (ReadsFile (said_file file.entry) bytes.items)) }
         ensures next { IfOk result (λ bytes.
             TakesNext self.now.buffered.now used.old used.new (said_file file.entry) bytes.items) }
+        ensures wrong { IfErr result (NamesLine number (IsFileFault true
+            (known_at None (H.file self.now.host.now)) (said_file file.entry))) }
         ensures refused { IfErr result (λ refusal. status_of_refusal refusal ≡ 1) }
     {
         let Some(input) = self.next_for(*used, file) else {
@@ -137,6 +144,8 @@ pub fn piece_of<H: Host>(
     ensures read { IfOk result (λ bytes.
         ReadsNow (said_file file.entry) bytes.items (H.file host.now)) }
     ensures most { IfOk result (λ bytes. length bytes.items ≤ MOST_FILE) }
+    ensures wrong { IfErr result (NamesLine number (IsFileFault true
+        (known_at None (H.file host.now)) (said_file file.entry))) }
     ensures refused { IfErr result (λ refusal. status_of_refusal refusal ≡ 1) }
 {
     match (Source::named(file.name), file.part) {
@@ -150,6 +159,7 @@ pub fn piece_of<H: Host>(
 fn whole_file<H: Host>(alloc: Global, host: &H, name: &str) -> Result<Vec<u8>, Refusal>
     ensures bytes { IfOk result (λ bytes. IsKnownAs (H.file host.now name.now) bytes.items) }
     ensures most { IfOk result (λ bytes. length bytes.items ≤ MOST_FILE) }
+    ensures unnamed { IfErr result (λ refusal. script_line refusal ≡ None) }
     ensures refused { IfErr result (λ refusal. status_of_refusal refusal ≡ 1) }
 {
     let source = Source::File(name);
@@ -176,6 +186,8 @@ fn file_part<H: Host>(
     ensures read { IfOk result (λ piece.
         ReadsNow (file_of name.now (Some (part_words part.entry))) piece.items (H.file host.now)) }
     ensures most { IfOk result (λ piece. length piece.items ≤ MOST_FILE) }
+    ensures wrong { IfErr result (NamesLine number
+        (IsPartFault (Some (part_words part.entry)) (H.file host.now name.now))) }
     ensures refused { IfErr result (λ refusal. status_of_refusal refusal ≡ 1) }
 {
     let Some((from, count)) = part.numbers() else {
@@ -200,7 +212,10 @@ fn part_at<H: Host>(
 ) -> Result<Option<Vec<u8>>, Refusal>
     ensures part { IfOk result (λ read. IfSome read (λ part.
         IsKnownPart (H.file host.now name.now) from count part.items)) }
+    ensures missing { IfOk result (λ read. IfNone read
+        (LacksPart (H.file host.now name.now) from count)) }
     ensures most { IfOk result (λ read. IfSome read (λ part. length part.items ≤ MOST_FILE)) }
+    ensures unnamed { IfErr result (λ refusal. script_line refusal ≡ None) }
     ensures refused { IfErr result (λ refusal. status_of_refusal refusal ≡ 1) }
 {
     let source = Source::File(name);
@@ -221,8 +236,10 @@ pub fn part_of(
     bytes: Vec<u8>,
     part: Option<PartText<'_>>,
 ) -> Result<Vec<u8>, Refusal>
-    ensures { IfOk result (λ piece.
+    ensures piece { IfOk result (λ piece.
         IsPieceOf (option_map part_words part.entry) bytes.items piece.items) }
+    ensures wrong { IfErr result (NamesLine number
+        (IsPartFault (option_map part_words part.entry) (Some bytes.items))) }
 {
     let Some(part) = part else {
         return Ok(bytes);
@@ -237,7 +254,9 @@ pub fn part_of(
 }
 
 /// Why a line may not name this part of an input of `length` bytes.
-fn part_fault(part: PartText<'_>, length: usize) -> ScriptFault {
+fn part_fault(part: PartText<'_>, length: usize) -> ScriptFault
+    ensures { IsPartReason (part_words part.entry) length result }
+{
     match part.numbers() {
         Some(_) => ScriptFault::NoPart(Some(length as u64)),
         None => ScriptFault::PartNumbers,
