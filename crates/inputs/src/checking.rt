@@ -1,7 +1,7 @@
 //! Checks a script before anything is run: each of its lines and the files that they name.
 ghost use Rattle.std.specs.Prelude.{◌≡◌, ◌++◌, ◌||◌, ◌∷◌, [], IfErr, IfOk, IfSome, None, OnOk, Some, false, true};
 ghost use Rattle.std.specs.Option.{option_map};
-ghost use Rattle.common.specs.Event.{event_map};
+ghost use Rattle.machine.specs.Event.{event_map};
 ghost use Rattle.device_texts.specs.Said.{SaidFile, part_words, said, said_file, said_torn};
 ghost use Rattle.device_texts.specs.FlashOf.{armed_in, armed_of};
 ghost use Rattle.host.specs.Input.{KeepsFiles};

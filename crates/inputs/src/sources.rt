@@ -1,7 +1,7 @@
 //! Loads the events of a script's lines, with the bytes of the files that the lines name.
 ghost use Rattle.std.specs.Prelude.{◌≡◌, ◌≢◌, ◌≤◌, IfErr, IfNone, IfOk, IfSome, None, Some, codes, IsTrue, false, length, slice_get, true};
 ghost use Rattle.std.specs.Option.{option_map};
-ghost use Rattle.common.specs.Event.{event_map};
+ghost use Rattle.machine.specs.Event.{event_map};
 ghost use Rattle.host.specs.Input.{IsKnownAs, IsKnownPart, LacksPart};
 ghost use Rattle.host.specs.ScriptLines.{script_line};
 ghost use Rattle.host.specs.Status.{status_of_refusal};

@@ -1,8 +1,8 @@
 use Rattle.std.proofs.Common.{refl, subst, sym}
 use Rattle.common.proofs.Results.{IfErr-passed}
 use Rattle.inputs.proofs.ScriptFaultLaws.{NamesLine-faults}
-use Rattle.common.specs.declared.event.Event.TheVariants as event
-use Rattle.common.specs.Event.{event_map}
+use Rattle.machine.specs.declared.event.Event.TheVariants as event
+use Rattle.machine.specs.Event.{event_map}
 use Rattle.device_texts.specs.Said.{said_file}
 use Rattle.inputs.specs.Loading.{Loads}
 use Rattle.inputs.specs.Script.{Comes}
