@@ -7,10 +7,10 @@ from support.builders import component, image, little, manifest, version
 from support.files import PAIR
 from support.flashes import FLAG
 from support.images import OF_ONE
-from support.power_cuts import UPGRADE
 from support.program import ProgramTest
 from support.stories import (
-    IMAGES, PATIENT, STAYED, THREE, UPLOAD_REPLIES, UPLOADED, WAITS, digest_of, flash_in, new_device, run_of, state
+    IMAGES, PATIENT, STAYED, THREE, UPGRADE, UPLOAD_REPLIES, UPLOADED, WAITS, digest_of, flash_in, new_device, run_of,
+    state
 )
 from support.worked import BACK, NO_SESSION, NO_TRIAL, NOT_UP, NOTHING_REQUESTED, PLAIN, TRIED, ended
 
