@@ -14,6 +14,7 @@ from support.worked import PLAIN, numbered
 # How many boots a long script has. Their replies are far longer than a pipe's buffer.
 MANY = 20_000
 
+
 def status_after(output):
     """The status of a run with this output, by its last reply."""
     kinds = [line.split()[1] for line in output.decode().splitlines() if line[0].isdigit()]

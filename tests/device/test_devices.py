@@ -7,10 +7,10 @@ from support.builders import component, image, little, manifest, version
 from support.files import PAIR
 from support.flashes import FLAG
 from support.images import OF_ONE
-from support.power_cuts import UPGRADE
 from support.program import ProgramTest
 from support.stories import (
-    IMAGES, PATIENT, STAYED, THREE, UPLOAD_REPLIES, UPLOADED, WAITS, digest_of, flash_in, new_device, run_of, state
+    IMAGES, PATIENT, STAYED, THREE, UPGRADE, UPLOAD_REPLIES, UPLOADED, WAITS, digest_of, flash_in, manifest_of,
+    new_device, run_of, state
 )
 from support.worked import BACK, NO_SESSION, NO_TRIAL, NOT_UP, NOTHING_REQUESTED, PLAIN, TRIED, ended
 
@@ -41,6 +41,7 @@ FILES = {
     "long.json": of_sizes(2, 1025),
     "old-long.json": of_sizes(0, 1025),
     "second-long.json": of_sizes(2, 96, 1025),
+    "partner.json": manifest_of(1, "1 test partner.img"),
     "right.json": of_file(NEEDING, precursor_digest=OF_ONE),
     "wrong.json": of_file(NEEDING, precursor_digest=f"{OF_ONE[:-1]}d"),
 }
@@ -125,7 +126,7 @@ ROWS = [
     )),
     ("a refused manifest leaves uploads open", PAIR, (
         "boot, accept whole.json, piece 0 needing.img 0 5, accept long.json, accept old-long.json,"
-        " accept second-long.json, accept second.json, piece 0 needing.img 5 11",
+        " accept second-long.json, accept partner.json, piece 0 needing.img 5 11",
         [PLAIN, "done", "done", TOO_BIG, OLD_SEQUENCE, TOO_BIG, "done", "done"],
     ), {FIRST_SLOT: NEEDING[:16] + ERASED}),
     ("an upload of the same image begins again", PAIR, (

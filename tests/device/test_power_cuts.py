@@ -2,9 +2,8 @@
 
 from support.files import PAIR, read
 from support.flashes import flash_of
-from support.power_cuts import UPGRADE, writes_of_last
 from support.program import ProgramTest
-from support.stories import PATIENT, STAYED, UPLOAD_REPLIES, WAITS, new_device, run_of, state
+from support.stories import PATIENT, STAYED, UPGRADE, UPLOAD_REPLIES, WAITS, new_device, run_of, state
 from support.worked import BACK, PLAIN, SCRIPT, SUM_OF_WRITES, TORN, TRIED, USUAL, cut_at, ended
 
 # What an interrupted write leaves, and whether a unit that was to be programmed isn't erased then.
@@ -56,11 +55,26 @@ class WorkedCutTest(ProgramTest):
 
 
 class EventCutTest(ProgramTest):
+    def writes_of(self, device, whole, events):
+        """How many writes these events make, fewer than 1000. A cut at a later write has no effect."""
+        few, beyond = 0, 1000
+        while beyond - few > 1:
+            middle = (few + beyond) // 2
+            self.file("flash", whole)
+            _, output, _ = run_of(self, events, device, [(middle, "keep")])
+            few, beyond = (middle, beyond) if b" cut\n" in output else (few, middle)
+        return few
+
+    def writes_of_last(self, device, whole, events):
+        """The numbers of the writes of the last of these events, which are consecutive."""
+        before = self.writes_of(device, whole, events.rpartition(", ")[0])
+        return range(before + 1, self.writes_of(device, whole, events) + 1)
+
     def test_the_next_boot_ends_what_was_cut(self):
         for name, own, events, replies, then, done, is_one in EVENTS:
             with self.subTest(f"cut at each write: {name}"):
                 whole = new_device(self, own)
-                writes = writes_of_last(self, own, whole, events)
+                writes = self.writes_of_last(own, whole, events)
                 self.assertTrue(len(writes) == 1 if is_one else len(writes) >= 25, writes)
                 for number in writes:
                     for torn, sets in TORN_UNITS.items():
@@ -71,7 +85,7 @@ class EventCutTest(ProgramTest):
 
     def test_a_withdrawn_request_stands_or_is_gone(self):
         whole = new_device(self)
-        writes = writes_of_last(self, PAIR, whole, f"{REQUESTED}, withdraw 0")
+        writes = self.writes_of_last(PAIR, whole, f"{REQUESTED}, withdraw 0")
         # The withdrawn unit, the first sector of the slot, and the trailer.
         self.assertEqual(3, len(writes))
         for done, number in enumerate(writes):

@@ -1,4 +1,4 @@
-"""Files that `make-image` makes: under which names, over which files, and who may hold them."""
+"""Files that `make-image` makes: over which files, and with which mode."""
 
 import os
 import stat

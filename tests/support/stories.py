@@ -69,6 +69,7 @@ FILES["other-vendor.json"] = manifest(vendor_id=f"{VENDOR[:-1]}e")
 
 # The upload of two images that need each other, and its replies.
 UPLOADED = "boot, accept trial.json, piece 0 needing.img, piece 1 partner.img, finish 1, finish 0"
+UPGRADE = f"{UPLOADED}, boot"
 
 UPLOAD_REPLIES = [PLAIN, *5 * ["done"]]
 TWO = ("one.img", "one.img")
