@@ -13,6 +13,7 @@ that is refused, its mutant is tried in the next check. A mutant that changes mo
 import os
 import re
 import shutil
+import signal
 import subprocess
 import tempfile
 
@@ -112,6 +113,11 @@ def crates_with_mutants():
     return sorted(seconds, key=lambda name: -seconds[name])
 
 
+def names_below(name):
+    """Returns the names of the crates that a crate depends on. Its mutants are tried over their libraries."""
+    return [it.name for it in crates_of(name)[:-1]]
+
+
 class Trial:
     """The mutants of a crate, tried over the libraries of the crates below it."""
 
@@ -143,6 +149,9 @@ class Trial:
             words = [*self.crate.check_words(self.kit, functions), "--incremental", self.kept]
             streams = {"stdin": subprocess.DEVNULL, "stdout": subprocess.PIPE, "stderr": subprocess.STDOUT}
             ran = subprocess.run(words, cwd=room, text=True, errors="replace", **streams)
+            if ran.returncode == -signal.SIGKILL:
+                # Most likely for memory, of which there may be more now.
+                ran = subprocess.run(words, cwd=room, text=True, errors="replace", **streams)
         return ran.returncode, ran.stdout.rstrip("\n").split("\n")
 
     def tried(self, mutants):
