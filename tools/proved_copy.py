@@ -41,14 +41,15 @@ class ProvedCopy:
         self.folder = f"{folder}/bootswap"
         shutil.copytree(ROOT, self.folder, ignore=LEFT_OUT)
 
-    def check_by_rt(self, beside):
-        """Runs `rt ci`, and tasks beside it, prints its output, and returns its counts.
+    def check_by_rt(self, beside, anew=False):
+        """Runs `rt ci`, and tasks beside it, prints its output, and returns its counts. If it isn't asked to prove all anew,
+        it takes over what it proved before on this machine of the same files, and says which crates those are.
 
         Its last line gets a prefix `rt ci: `, so that only the gate's last line is a sum.
         """
         streams = {"stdin": subprocess.DEVNULL, "stdout": subprocess.PIPE, "bufsize": 0}
         try:
-            ran = subprocess.Popen(["rt", "ci"], cwd=self.folder, env=environment_of_rt(), **streams)
+            ran = subprocess.Popen(["rt", "ci", *["--anew"] * anew], cwd=self.folder, env=environment_of_rt(), **streams)
         except OSError:
             print("FAILED rt ci\n     the Rattle toolchain's command rt is not on the PATH", flush=True)
             return Counts(failed=1)

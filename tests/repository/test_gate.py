@@ -6,6 +6,7 @@ the step is reached, the test sends a signal. Five seconds later no process may 
 """
 
 import contextlib
+import io
 import os
 import shutil
 import signal
@@ -17,9 +18,11 @@ from unittest import mock
 from support.files import ROOT, folder_for, read, write, write_script
 from support.page import MISSING
 
+import mutants
 from beside import Beside
 from builder import LIBRARY
 from ending import adopt_orphans, forget_ended
+from mutants import Mutant
 from results import Counts
 from side_by_side import Task, side_by_side
 
@@ -191,6 +194,23 @@ class BesideTest(unittest.TestCase):
                 self.assertEqual([*lines], [it.decode() for it in beside.lines_of(ran)])
         self.assertEqual([second], beside.left())
         self.assertEqual(Counts(2), side_by_side(beside.left(), 1, beside.running)[0])
+
+
+class MutantsTest(unittest.TestCase):
+    def test_mutants_that_were_refused_are_tried_again_after_a_change_or_if_asked(self):
+        """Those that weren't refused are tried each time."""
+        mutant, trial = Mutant("two.edit"), mock.Mock()
+        mutant.function = "one"
+        trial.together, out = lambda left: [*left], folder_for(self)
+        rows = ("a", False, ["why"], True), ("a", False, [], True), ("a", False, [], False), ("a", True, [], True)
+        for digest, anew, faults, is_tried in (*rows, ("b", False, [], True), ("b", False, [], False)):
+            trial.tried = mock.Mock(return_value={mutant: faults})
+            parts = {"OUT": out, "Trial": lambda *_: trial, "mutants_of": lambda _: [mutant]}
+            parts["digest_of"] = lambda _: digest
+            with mock.patch.multiple(mutants, **parts), contextlib.redirect_stdout(io.StringIO()) as said:
+                counts = mutants.try_mutants("common", None, anew)
+            self.assertEqual((is_tried, not faults), (trial.tried.called, counts == Counts(1)), (digest, anew))
+            self.assertEqual(not is_tried, "refused at one, as before: nothing has changed" in said.getvalue())
 
 
 def running():
