@@ -15,7 +15,7 @@ import time
 import unittest
 from unittest import mock
 
-from support.files import ROOT, folder_for, read, write, write_script
+from support.files import ROOT, copy_parts, folder_for, read, write, write_script
 from support.page import MISSING
 
 import mutants
@@ -98,7 +98,6 @@ STEPS = {
 
 COPIED = ("tools", "tests/support", "tests/library/__init__.py", "tests/library/test_page.py")
 COPIED += ("web", "examples", "bindings", "gate", "mutants")
-LEFT_OUT = shutil.ignore_patterns("__pycache__", "target")
 
 
 class GateTest(unittest.TestCase):
@@ -108,12 +107,7 @@ class GateTest(unittest.TestCase):
         self.files, self.repository = f"{self.folder}/files", f"{self.folder}/repository"
         for it in (self.files, self.repository):
             os.mkdir(it)
-        for name in COPIED:
-            if os.path.isdir(f"{ROOT}/{name}"):
-                shutil.copytree(f"{ROOT}/{name}", f"{self.repository}/{name}", ignore=LEFT_OUT)
-            else:
-                os.makedirs(os.path.dirname(f"{self.repository}/{name}"), exist_ok=True)
-                shutil.copy(f"{ROOT}/{name}", f"{self.repository}/{name}")
+        copy_parts(COPIED, self.repository)
         # A check of the pretended toolchain takes no memory.
         builder = read(f"{ROOT}/tools/builder.py").decode().replace("\nMEMORY = 2_300_000_000\n", "\nMEMORY = 1\n")
         places = {f"repository/{name}": text for name, text in {**FILES, "tools/builder.py": builder}.items()}

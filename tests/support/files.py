@@ -8,6 +8,9 @@ import tempfile
 ROOT = os.path.dirname(os.path.dirname(os.path.dirname(os.path.realpath(__file__))))
 EXAMPLES = f"{ROOT}/examples"
 
+# What is made in folders of the repository.
+MADE = shutil.ignore_patterns("out", "__pycache__", "target", "Cargo.lock")
+
 # The device file of the examples of manifests and scripts, and the image at the front of its flash.
 PAIR = f"{EXAMPLES}/devices/pair.json"
 
@@ -30,6 +33,16 @@ def write(path, contents, mode="w"):
 def write_script(path, contents):
     write(path, contents)
     os.chmod(path, 0o755)
+
+
+def copy_parts(names, folder):
+    """Copies files and folders of the repository, without what is made in these."""
+    for name in names:
+        os.makedirs(os.path.dirname(f"{folder}/{name}"), exist_ok=True)
+        if os.path.isdir(f"{ROOT}/{name}"):
+            shutil.copytree(f"{ROOT}/{name}", f"{folder}/{name}", ignore=MADE)
+        else:
+            shutil.copy(f"{ROOT}/{name}", f"{folder}/{name}")
 
 
 def folder_for(test):
