@@ -44,9 +44,10 @@ class Beside:
         yield from filter(None, [rest])
 
     def start_one(self, top):
-        """Starts the first task whose crates are proved, if a processor and memory are free."""
+        """Starts the first task whose crates are proved, if a processor and memory are free. `rt ci` begins with few checks, and
+        soon has many: so nothing is started before a crate is proved."""
         ready = next((it for it in self.waiting if self.proved.issuperset(it[1])), None)
-        if ready and self.is_room(top):
+        if ready and self.proved and self.is_room(top):
             self.waiting.remove(ready)
             task, _ = ready
             self.running.start(Task(task.name, lambda: run_nicely(task)))
