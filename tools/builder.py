@@ -163,10 +163,19 @@ def text_of(path):
         return None
 
 
+def parts_of_crates():
+    """Returns what crates.txt has of each crate: its name with its kind, and the names of those that it depends on."""
+    lines = [line.partition("#")[0] for line in (text_of(f"{ROOT}/crates.txt") or "").splitlines()]
+    return [(name.split(), below.split()) for name, colon, below in (it.partition(":") for it in lines) if colon]
+
+
+def names_of_crates():
+    return [name for (name, *_), _ in parts_of_crates()]
+
+
 def crates_of(last="bootswap"):
     """Returns the crates that a crate depends on, and this one, lowest first."""
-    lines = [line.partition("#")[0] for line in (text_of(f"{ROOT}/crates.txt") or "").splitlines()]
-    parts = [(name.split(), below.split()) for name, colon, below in (it.partition(":") for it in lines) if colon]
+    parts = parts_of_crates()
     rows = {name: below for (name, *_), below in parts}
     static = {name for (name, *kind), _ in parts if kind == ["staticlib"]}
     known = {}

@@ -10,14 +10,16 @@ one check: each has to be refused at its function, and all other functions have 
 that is refused, its mutant is tried in the next check. A mutant that changes more than the body of its function is tried alone.
 """
 
+import hashlib
 import os
 import re
 import shutil
+import signal
 import subprocess
 import tempfile
 
-from builder import ROOT, asked_of_rt, crates_of, text_of
-from results import Counts, report
+from builder import OUT, ROOT, asked_of_rt, crates_of, text_of
+from results import Counts, report, sum_of
 
 # The last line of a check of some functions: how many there were, those that they call among them, and were proved.
 ENDED = re.compile(r"only=(\d+) proved=(\d+)")
@@ -112,6 +114,11 @@ def crates_with_mutants():
     return sorted(seconds, key=lambda name: -seconds[name])
 
 
+def names_below(name):
+    """Returns the names of the crates that a crate depends on. Its mutants are tried over their libraries."""
+    return [it.name for it in crates_of(name)[:-1]]
+
+
 class Trial:
     """The mutants of a crate, tried over the libraries of the crates below it."""
 
@@ -143,6 +150,9 @@ class Trial:
             words = [*self.crate.check_words(self.kit, functions), "--incremental", self.kept]
             streams = {"stdin": subprocess.DEVNULL, "stdout": subprocess.PIPE, "stderr": subprocess.STDOUT}
             ran = subprocess.run(words, cwd=room, text=True, errors="replace", **streams)
+            if ran.returncode == -signal.SIGKILL:
+                # Most likely for memory, of which there may be more now.
+                ran = subprocess.run(words, cwd=room, text=True, errors="replace", **streams)
         return ran.returncode, ran.stdout.rstrip("\n").split("\n")
 
     def tried(self, mutants):
@@ -184,12 +194,24 @@ def last_of(lines):
     return [it for it in lines if not COUNTED.match(it)][-MOST_SHOWN:]
 
 
-def try_mutants(name, library_of):
+def digest_of(name):
+    """Returns a digest of all that decides about the mutants of a crate: its sources, those of the crates below it, the
+    toolchain, the mutants and the code here."""
+    folder = f"{ROOT}/crates/{name}/must-fail"
+    texts = [(it, text_of(f"{folder}/{it}")) for it in sorted(os.listdir(folder))]
+    own = crates_of(name)[-1].digest(asked_of_rt("version"))
+    return hashlib.sha256(repr((own, texts, text_of(__file__))).encode()).hexdigest()
+
+
+def try_mutants(name, library_of, anew=False):
     """Tries the mutants of a crate, over the libraries that this names by their crates, and returns the counts of
-    those that were refused, and weren't."""
-    left = mutants_of(name)
-    with tempfile.TemporaryDirectory(prefix="bootswap-kept-") as kept:
-        counts, trial = Counts(), Trial(name, library_of, f"{kept}/proved")
+    those that were refused, and weren't. If all were refused before, and nothing has changed since, it says so instead,
+    unless they are to be tried anew."""
+    kept, digest, left = f"{OUT}/mutants/{name}", digest_of(name), mutants_of(name)
+    if not anew and text_of(kept) == digest:
+        return sum_of(report(f"{line_of(name, it)}, as before: nothing has changed", []) for it in left)
+    with tempfile.TemporaryDirectory(prefix="bootswap-kept-") as folder:
+        counts, trial = Counts(), Trial(name, library_of, f"{folder}/proved")
         while left:
             chosen = trial.together(left)
             tried = trial.tried(chosen)
@@ -199,5 +221,13 @@ def try_mutants(name, library_of):
             for mutant, faults in tried.items():
                 if faults is not None:
                     left.remove(mutant)
-                    counts = counts.and_then(report(f"mutant {name}/{mutant.name} is refused at {mutant.function}", faults))
-        return counts
+                    counts = counts.and_then(report(line_of(name, mutant), faults))
+    if not counts.failed:
+        os.makedirs(os.path.dirname(kept), exist_ok=True)
+        with open(kept, "w", encoding="utf-8") as it:
+            it.write(digest)
+    return counts
+
+
+def line_of(name, mutant):
+    return f"mutant {name}/{mutant.name} is refused at {mutant.function}"

@@ -1,5 +1,6 @@
 """The lines that `./gate` prints of checks, and how many of these passed, failed and were skipped."""
 
+import functools
 from typing import NamedTuple
 
 
@@ -15,6 +16,10 @@ class Counts(NamedTuple):
 
     def __str__(self):
         return f"{self.passed} passed, {self.failed} failed, {self.skipped} skipped"
+
+
+def sum_of(counts):
+    return functools.reduce(Counts.and_then, counts, Counts())
 
 
 def report(name, faults):

@@ -21,29 +21,40 @@ class Task(NamedTuple):
 FORK = multiprocessing.get_context("fork")
 
 
-def side_by_side(tasks, most):
+class Running:
+    """Tasks that run, the sum of the counts of those that ended, and how many seconds each of these took, by their names."""
+
+    def __init__(self):
+        self.tasks, self.counts, self.seconds = {}, Counts(), {}
+
+    def start(self, task):
+        results, sender = FORK.Pipe(duplex=False)
+        process = FORK.Process(target=send_results, args=(task, sender))
+        process.start()
+        sender.close()
+        self.tasks[results] = task, process, time.monotonic()
+
+    def wait(self, stream=None, seconds=None):
+        """Waits until a task ends, or a stream can be read, or N seconds have passed. Prints what ended tasks printed. Returns
+        whether the stream can be read."""
+        ready = multiprocessing.connection.wait([*self.tasks, *filter(None, [stream])], seconds)
+        for results in [it for it in ready if it is not stream]:
+            task, process, began = self.tasks.pop(results)
+            self.counts = self.counts.and_then(end(task, process, results))
+            self.seconds[task.name] = time.monotonic() - began
+        return stream in ready
+
+
+def side_by_side(tasks, most, running=None):
     """Starts tasks in their order, so that at most `most` of them run at the same time, but one at least. Prints the output of
-    each when it ends. Returns the sum of their counts, and how many seconds each took, by their names."""
-    left, running, counts, seconds = [*reversed(tasks)], {}, Counts(), {}
-    while left or running:
-        while left and len(running) < max(most, 1):
-            task = left.pop()
-            results, process = start(task)
-            running[results] = task, process, time.monotonic()
-        for results in multiprocessing.connection.wait([*running]):
-            task, process, began = running.pop(results)
-            counts = counts.and_then(end(task, process, results))
-            seconds[task.name] = time.monotonic() - began
-    return counts, seconds
-
-
-def start(task):
-    """Starts a task, and returns where it sends its results, and its process."""
-    results, sender = FORK.Pipe(duplex=False)
-    process = FORK.Process(target=send_results, args=(task, sender))
-    process.start()
-    sender.close()
-    return results, process
+    each when it ends. Tasks that run already may be given. Returns the sum of the counts of all, and how many seconds each
+    took, by their names."""
+    left, running = [*reversed(tasks)], running or Running()
+    while left or running.tasks:
+        while left and len(running.tasks) < max(most, 1):
+            running.start(left.pop())
+        running.wait()
+    return running.counts, running.seconds
 
 
 def send_results(task, sender):

@@ -5,7 +5,7 @@ On ARM it runs in an emulator as a whole, and is killed less often: each run tak
 
 from support import file_device
 from support.compiled import needs_compiler
-from support.processors import OnArm, OnSmallArm, needs_arm, needs_small_arm
+from support.processors import ARM, SMALL_ARM, needs_arm, needs_small_arm
 
 
 @needs_compiler
@@ -14,10 +14,10 @@ class FileDeviceTest(file_device.FileDevice):
 
 
 @needs_arm
-class ArmFileDeviceTest(OnArm, file_device.FileDevice):
-    most_kills = 100
+class ArmFileDeviceTest(file_device.FileDevice):
+    processor, most_kills = ARM, 100
 
 
 @needs_small_arm
-class SmallArmFileDeviceTest(OnSmallArm, file_device.FileDevice):
-    most_kills = 15
+class SmallArmFileDeviceTest(file_device.FileDevice):
+    processor, most_kills = SMALL_ARM, 15

@@ -9,14 +9,13 @@ machine.
 import itertools
 import os
 import shutil
-import tempfile
 import unittest
 
 from support.bare import MACHINES
 from support.compiled import C, needs_compiler
-from support.files import ROOT, read
+from support.files import ROOT, folder_for, read
 from support.libraries import c_folder, output_of, symbols
-from support.processors import HERE, SMALL_ARM, needs_small_arm
+from support.processors import ARM, HERE, SMALL_ARM
 
 STRICT = ["-std=c11", "-Wall", "-Wextra", "-Werror"]
 COPIES = [f"include/{name}.h" for name in ("bootswap", "bootswap_names", "bootswap_simulate")]
@@ -30,8 +29,7 @@ FIRST, LAST = "0", "299"
 class CFileTest(unittest.TestCase):
     @classmethod
     def setUpClass(cls):
-        cls.folder = tempfile.mkdtemp(prefix="bootswap-c-library-")
-        cls.addClassCleanup(shutil.rmtree, cls.folder, ignore_errors=True)
+        cls.folder = folder_for(cls)
         c_folder(f"{cls.folder}/c")
         cls.file = f"{cls.folder}/c/bootswap.c"
         cls.words = [*STRICT, "-O1", "-I", f"{cls.folder}/c", f"{C}/scenarios.c"]
@@ -53,10 +51,14 @@ class CFileTest(unittest.TestCase):
         HERE.compile(["-fsanitize=address,undefined", "-fno-sanitize-recover", *self.words, self.file, "-o", program])
         self.expect_same(HERE.output_of(program, FIRST, LAST))
 
-    @needs_small_arm
-    def test_it_answers_so_on_32_bit_arm(self):
-        SMALL_ARM.compile([*self.words, SMALL_ARM.archive(), "-o", f"{self.folder}/arm"])
-        self.expect_same(SMALL_ARM.output_of(f"{self.folder}/arm", FIRST, LAST))
+    def test_the_library_answers_so_on_arm(self):
+        """That of 32-bit ARM is the file of C."""
+        for it in (ARM, SMALL_ARM):
+            with self.subTest(it.target):
+                if it.missing():
+                    self.skipTest(f"not installed: {it.missing()}")
+                it.compile([*self.words, it.archive(), "-o", f"{self.folder}/arm"])
+                self.expect_same(it.output_of(f"{self.folder}/arm", FIRST, LAST))
 
     def test_it_answers_so_on_machines_without_an_operating_system(self):
         """An access that isn't aligned is a fault on both of ARM."""

@@ -7,7 +7,7 @@ import tempfile
 import unittest
 
 from support.compiled import needs_compiler
-from support.files import EXAMPLES, ROOT, read
+from support.files import EXAMPLES, ROOT, folder_for, read
 from support.libraries import c_folder, fenced, output_of, ran, symbols
 
 import empty_projects
@@ -34,8 +34,7 @@ OPTIONS = {
 class CMakeTest(unittest.TestCase):
     @classmethod
     def setUpClass(cls):
-        cls.top = tempfile.mkdtemp(prefix="bootswap-cmake-")
-        cls.addClassCleanup(shutil.rmtree, cls.top, ignore_errors=True)
+        cls.top = folder_for(cls)
         cls.library = f"{cls.top}/c"
         c_folder(cls.library)
 

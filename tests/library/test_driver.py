@@ -1,24 +1,22 @@
 """Devices over a driver in C, bindings/c/driver.c: power fails at each write, and the driver in each of its calls.
 
-On 64-bit ARM driver.c and the library run in `qemu-aarch64`, the tests and their drivers on this processor. So do
-driver.c and the library as one file of C for 32-bit ARM in `qemu-arm`.
+On ARM, test_file_device.py kills devices over driver.c, and test_c_file.py compares the library with that for this
+processor.
 """
 
 import itertools
 import json
 import os
 import shutil
-import tempfile
 import unittest
 from ctypes import POINTER, c_uint8
 
 from support.compiled import needs_compiler
-from support.driven import DRIVER_FAILED, INCLUDE, LONG, NEEDING, NEW, NEWER, OLD, PARTNER, STRICT
-from support.driven import Driven, DriverTest, replies_of, reply_of
-from support.emulated import DrivenOnArm, DrivenOnSmallArm
-from support.files import EXAMPLES, ROOT, names_in, read
+from support.driven import DRIVER_FAILED, INCLUDE, LONG, NAMES, NEEDING, NEW, NEWER, OLD, PARTNER, STRICT
+from support.driven import Driven, DriverTest, manifest_of, replies_of, reply_of, setup_of
+from support.files import EXAMPLES, ROOT, folder_for, names_in, read, write
 from support.libraries import fenced, output_of, symbols
-from support.processors import HERE, needs_arm, needs_small_arm
+from support.processors import HERE
 from support.program import ProgramTest
 from support.worked import SUM_OF_WRITES, WORKED
 
@@ -34,8 +32,7 @@ def make_call(device, event):
     word, *words = event.split()
     if word == "accept":
         given = json.loads(read(f"{ROOT}/{words[0]}"))
-        library = device.library
-        manifest = library.new(library.names._Manifest, given["sequence-number"], len(given["components"]))
+        manifest = NAMES._Manifest(given["sequence-number"], len(given["components"]))
         for row, it in zip(manifest.components, given["components"]):
             row.image, row.size, row.is_permanent = it["component-id"], it["size"], it["kind"] == "permanent"
             row.digest[:] = bytes.fromhex(it["payload-digest"])
@@ -55,15 +52,15 @@ def play(device, events):
         replies = replies_of(device, number)
         if number == DRIVER_FAILED:
             device.flash.restart()
-            device = Driven(device.library, device.setup, device.flash, device.capacity, device.is_mapped)
+            device = Driven(device.calls, device.setup, device.flash, device.capacity, device.is_mapped)
             if device.open() != 0:
                 device.flash.wrong.append("the device isn't opened again")
         yield device, replies
 
 
-def ways_to_tear(write):
+def ways_to_tear(change):
     """What a write leaves: nothing of the new bytes, all, the first half, or a pattern."""
-    _, old, new = write
+    _, old, new = change
     half = new[: len(new) // 2] + old[len(new) // 2 :]
     return "keep", "done", f"hex:{half.hex()}", "hex:005a"
 
@@ -98,7 +95,7 @@ class ScriptsTest(DriverTest, ProgramTest):
         """Compares each cut of a script that has cuts of its own. Returns its number of writes, and that of the
         cuts."""
         given = json.loads(read(device_file))
-        setup = self.library.setup(given["sector"], given["sectors"], given.get("trial-boots", 1))
+        setup = setup_of(given["sector"], given["sectors"], given.get("trial-boots", 1))
         device = self.over(self.first, setup, LONG)
         device.flash.cuts = own
         device.open()
@@ -109,10 +106,10 @@ class ScriptsTest(DriverTest, ProgramTest):
         self.expect_run(device_file, own, events, replies, device)
         made, count = device.flash.made, 0
         writes = [(at, it) for at in range(len(events)) for it in range(states[at][1] + 1, states[at + 1][1] + 1)]
-        for at, write in writes:
-            for torn in () if write in own else ways_to_tear(made[write - 1]):
+        for at, number in writes:
+            for torn in () if number in own else ways_to_tear(made[number - 1]):
                 count += 1
-                cuts = {**own, write: torn}
+                cuts = {**own, number: torn}
                 other = self.over(device.flash.bytes, setup, LONG)
                 other.put(states[at])
                 other.flash.cuts = cuts
@@ -148,7 +145,7 @@ class FailuresTest(DriverTest):
         """Yields the numbers that the calls of an upgrade to two images return, which are then confirmed."""
         yield device.open()
         yield device.boot()
-        yield device.accept(self.library.manifest(1, [(0, NEEDING, 0), (1, PARTNER, 0)]))
+        yield device.accept(manifest_of(1, [(0, NEEDING, 0), (1, PARTNER, 0)]))
         for number, file in enumerate((NEEDING, PARTNER)):
             yield device.piece(number, file)
             yield device.finish(number)
@@ -175,7 +172,7 @@ class FailuresTest(DriverTest):
     def test_a_refused_call_makes_its_writes(self):
         """`finish` writes the bytes that were held back before it compares the digest."""
         device = self.new_device()
-        self.assertEqual((1, 0), (device.boot(), device.accept(self.library.manifest(1, [(0, bytes(77), 0)]))))
+        self.assertEqual((1, 0), (device.boot(), device.accept(manifest_of(1, [(0, bytes(77), 0)]))))
         self.assertEqual((0, 4), (device.piece(0, bytes(76) + b"Z"), device.finish(0)))
         self.assertEqual("refused upload 6 DigestWrong", reply_of(device, 4))
         self.assertEqual((6 * 512 + 72, 8 * b"\xff", bytes(4) + b"Z" + 3 * b"\xff"), device.flash.made[-1])
@@ -188,8 +185,8 @@ class FailuresTest(DriverTest):
             state, first = device.state(), len(device.flash.made)
             self.assertEqual(ends, (device.boot(), device.device.reverted, [*device.versions()]))
             made, after = device.flash.made[first:], device.state()
-            for number, write in enumerate(made, 1):
-                for torn in ways_to_tear(write):
+            for number, change in enumerate(made, 1):
+                for torn in ways_to_tear(change):
                     device.put(state)
                     device.flash.cuts = {device.flash.writes + number: torn}
                     self.assertEqual(DRIVER_FAILED, device.boot())
@@ -207,7 +204,7 @@ class FailuresTest(DriverTest):
         """It takes uploads and confirms a trial, and makes no boot of its own."""
         loader, files = self.new_device(), (NEEDING, PARTNER)
         got, application = [loader.boot()], self.other_over(loader)
-        got += [application.resume(), application.accept(self.library.manifest(1, [(0, NEEDING, 0), (1, PARTNER, 0)]))]
+        got += [application.resume(), application.accept(manifest_of(1, [(0, NEEDING, 0), (1, PARTNER, 0)]))]
         for number, file in enumerate(files):
             got += [application.piece(number, file), application.finish(number)]
         self.assertEqual([1, *6 * [0]], got)
@@ -219,15 +216,7 @@ class FailuresTest(DriverTest):
         self.assertEqual([0, 0], [application.confirm(0), application.confirm(1)])
         loader = self.other_over(application)
         self.assertEqual([0, 1, NEW], [loader.open(), loader.boot(), [*loader.versions()]])
-
-    def test_nothing_is_taken_after_an_interrupted_boot(self):
-        loader = self.new_device()
-        self.request(loader, (NEEDING, PARTNER))
-        loader.flash.cuts = {loader.flash.writes + 20: "keep"}
-        self.assertEqual(DRIVER_FAILED, loader.boot())
-        application = self.other_over(loader)
-        got = application.resume(), application.accept(self.library.manifest(2, [(0, NEEDING, 0)]))
-        self.assertEqual((0, 4, 1), (*got, application.device.result.fault))
+        # A flash that is mapped isn't read.
         application.flash.fails_at = application.flash.calls + 1
         wanted = (0, True) if self.is_mapped else (DRIVER_FAILED, False)
         self.assertEqual(wanted, (application.resume(), application.is_booted))
@@ -238,26 +227,11 @@ class FailuresTest(DriverTest):
         other = self.other_over(device)
         if self.is_mapped:
             other.device.flash = POINTER(c_uint8)()
-        manifest = self.library.manifest(1, [(0, NEEDING, 0)])
+        manifest = manifest_of(1, [(0, NEEDING, 0)])
         got = [other.boot(), other.provision(), other.finish(0), other.accept(manifest)]
         other.device.flash, other.device.copy = 2 * [POINTER(c_uint8)()]
         got += [other.open(), other.resume(), other.boot()]
         self.assertEqual((7 * [DRIVER_FAILED], False), (got, other.is_booted))
-
-    def test_a_boot_without_texts_is_one_with_texts(self):
-        """But for the lengths of the texts."""
-        devices = self.new_device(), self.new_device()
-        for it in devices:
-            self.request(it, (NEEDING, PARTNER))
-        for _ in ("an upgrade", "a revert"):
-            got, lengths = [], []
-            for it, boot in zip(devices, (devices[0].boot, devices[1].boot_without_texts)):
-                number, result = boot(), it.device.result
-                lengths.append((result.table_length > 0, result.report_length > 0))
-                result.table_length = result.report_length = 0
-                got.append((number, bytes(result), it.device.reverted, bytes(it.device.saved), it.state()[:2]))
-            self.assertEqual(got[0], got[1])
-            self.assertEqual([(True, True), (False, False)], lengths)
 
     def test_a_boot_that_reverts_and_finds_damage_is_refused(self):
         """The damaged image is outside of the set."""
@@ -312,38 +286,16 @@ class MappedFailuresTest(FailuresTest):
     is_mapped = True
 
 
-@needs_arm
-class ArmScriptsTest(DrivenOnArm, ScriptsTest):
-    runs_once = True
-
-
-@needs_arm
-class ArmFailuresTest(DrivenOnArm, FailuresTest):
-    pass
-
-
-@needs_small_arm
-class SmallArmScriptsTest(DrivenOnSmallArm, ScriptsTest):
-    runs_once = True
-
-
-@needs_small_arm
-class SmallArmFailuresTest(DrivenOnSmallArm, FailuresTest):
-    pass
-
-
 @needs_compiler
 class SourcesTest(unittest.TestCase):
     def setUp(self):
-        self.folder = tempfile.mkdtemp(prefix="bootswap-driver-")
-        self.addCleanup(shutil.rmtree, self.folder, ignore_errors=True)
+        self.folder = folder_for(self)
 
     def test_the_sources_and_the_listing_of_the_manual_compile_without_a_warning(self):
         """The headers also as C++."""
         listing, header = f"{self.folder}/listing.c", f"{self.folder}/header.cpp"
         for path, text in ((listing, "\n".join(fenced("docs/PORTING.md", "c"))), (header, "#include <driver.h>\n")):
-            with open(path, "w", encoding="utf-8") as it:
-                it.write(text)
+            write(path, text)
         for compiler in filter(shutil.which, ("gcc", "clang")):
             for file in (f"{ROOT}/bindings/c/driver.c", f"{ROOT}/bindings/c/file_device.c", listing):
                 with self.subTest(f"{os.path.basename(file)} by {compiler}"):

@@ -4,13 +4,15 @@ That a journal records exactly the writes of its call, and that the bounds of th
 """
 
 import ctypes
-from ctypes import POINTER, byref, c_size_t, c_uint8, c_uint32, c_uint64
+import unittest
+from ctypes import byref, c_size_t, c_uint8, c_uint64
 
 from support.builders import image, version
 from support.compiled import C, needs_compiler
-from support.driven import CUT, DRIVER_FAILED, JOURNAL, JOURNAL_TOO_SMALL, LONG, NEEDING, NEWER, PARTNER, DriverTest
-from support.emulated import DrivenOnArm, DrivenOnSmallArm
-from support.processors import needs_arm, needs_small_arm
+from support.driven import CUT, DRIVER_FAILED, INCLUDE, JOURNAL, JOURNAL_TOO_SMALL, LONG, NAMES, NEEDING, NEWER, PARTNER
+from support.driven import STRICT, DriverTest, manifest_of
+from support.files import ROOT, folder_for
+from support.processors import ARM, HERE, SMALL_ARM, needs_arm, needs_small_arm
 
 # What a call asks of a journal at most: two components of images of two sectors, a piece of 96 bytes, and two images.
 BOUNDS = {"accept": JOURNAL["ACCEPT"](2, 2 + 2), "piece": JOURNAL["PIECE"](96), "provision": JOURNAL["PROVISION"](2)}
@@ -18,11 +20,6 @@ BOUNDS |= {"finish": JOURNAL["FINISH"](), "withdraw": JOURNAL["WITHDRAW"](), "bo
 
 # One step of a swap of sectors of 512 bytes.
 STEP = 12 + 512 + 2 * 12 + 20
-
-
-def wide(number):
-    """A number of 8 bits in a register whose other bits are set."""
-    return c_uint64(0xA5A5_A5A5_A5A5_A500 | number)
 
 
 def words(*numbers):
@@ -35,7 +32,7 @@ class JournalsTest(DriverTest):
         """But a boot: then the device isn't booted."""
         device = self.new_device(capacity=LONG)
         self.assertEqual(1, device.boot())
-        manifest = self.library.manifest(1, [(0, NEEDING, 0), (1, PARTNER, 0)])
+        manifest = manifest_of(1, [(0, NEEDING, 0), (1, PARTNER, 0)])
         calls = [("accept", (manifest,)), ("piece", (0, NEEDING)), ("finish", (0,)), ("withdraw", (0,))]
         for name, given in [*calls, ("provision", ()), ("boot", ())]:
             state, bound = device.state(), BOUNDS[name]
@@ -51,17 +48,16 @@ class JournalsTest(DriverTest):
 
     def test_a_boot_with_the_shortest_journal_ends(self):
         """Of eight images, wherever the log is, and of larger sectors."""
-        for sector, count, starts in ((512, 8, range(8)), (1024, 2, range(1)), (4096, 2, range(1))):
-            for records in starts:
-                with self.subTest(f"{count} images, sectors of {sector} bytes, {records} records"):
-                    device = self.new_device(sector, count * [1])
-                    self.assertEqual(1, device.boot())
-                    for record in range(records):
-                        self.assertEqual(0, device.accept(self.library.manifest(record + 1, [(0, NEEDING, 0)])))
-                    self.request(device, count * [NEWER], records + 1)
-                    self.assertEqual((1, count * ["2.0.0+0"]), (device.boot(), [*device.versions()]))
-                    self.assertEqual((1, 2**count - 1), (device.boot(), device.device.reverted))
-                    self.assertEqual(count * ["1.0.0+0"], [*device.versions()])
+        for sector, count, records in [*((512, 8, it) for it in range(8)), (1024, 2, 0), (4096, 2, 0)]:
+            with self.subTest(f"{count} images, sectors of {sector} bytes, {records} records"):
+                device = self.new_device(sector, count * [1])
+                self.assertEqual(1, device.boot())
+                for record in range(records):
+                    self.assertEqual(0, device.accept(manifest_of(record + 1, [(0, NEEDING, 0)])))
+                self.request(device, count * [NEWER], records + 1)
+                self.assertEqual((1, count * ["2.0.0+0"]), (device.boot(), [*device.versions()]))
+                self.assertEqual((1, 2**count - 1), (device.boot(), device.device.reverted))
+                self.assertEqual(count * ["1.0.0+0"], [*device.versions()])
 
     def test_an_attempt_repeats_no_more_of_a_step_than_the_first_began(self):
         """Here a journal holds two steps, what follows the last one, and 100 bytes. The first attempt performs 4
@@ -86,48 +82,21 @@ class JournalsTest(DriverTest):
         self.assertEqual(erases[0] + 1, erases[1])
 
     def test_calls_read_short_arguments_from_the_low_bits_of_a_register(self):
-        device, calls, result = self.new_device(capacity=LONG), self.library.calls, self.library.names._CallResult
-        self.assertEqual(1, device.boot())
-        self.assertEqual(0, device.accept(self.library.manifest(1, [(1, NEEDING, 0)])))
-        file = [self.library.copy(NEEDING), c_size_t(len(NEEDING))]
-        flash = byref(device.setup), device.memory, c_size_t(len(device.memory))
-        for name, more in (("piece", file), ("finish", []), ("withdraw", []), ("confirm", [])):
-            got, before = [], bytes(device.device.saved)
-            for short in (c_uint8, wide):
-                ctypes.memmove(byref(device.device.saved), before, len(before))
-                made = self.library.new(result)
-                given = byref(device.device.saved), device.journal, c_size_t(LONG), short(1), *more, byref(made)
-                number = getattr(calls, f"bootswap_journal_{name}")(*flash, *given)
-                journal = bytes(device.journal[: made.journal_length])
-                got.append((number, bytes(made), journal, bytes(device.device.saved)))
+        device = self.new_device(capacity=LONG)
+        numbers = device.boot(), device.accept(manifest_of(1, [(1, NEEDING, 0)]))
+        self.assertEqual((1, 0), numbers)
+        flash, saved = (byref(device.setup), device.memory, c_size_t(len(device.memory))), device.device.saved
+        before = bytes(saved)
+        for name, more in (("piece", [NEEDING, c_size_t(len(NEEDING))]), ("withdraw", []), ("confirm", [])):
+            got = []
+            for short in (c_uint8(1), c_uint64(0xA5A5_A5A5_A5A5_A501)):
+                ctypes.memmove(byref(saved), before, len(before))
+                made = NAMES._CallResult()
+                given = byref(saved), device.journal, c_size_t(LONG), short, *more, byref(made)
+                number = getattr(self.calls, f"bootswap_journal_{name}")(*flash, *given)
+                got.append((number, bytes(made), bytes(device.journal[: made.journal_length]), bytes(saved)))
             self.assertEqual(got[0], got[1], name)
-            self.assertEqual(4 if name == "confirm" else 0, got[0][0], name)
-            ctypes.memmove(byref(device.device.saved), before, len(before))
-            getattr(device, name)(1, *[NEEDING] * (name == "piece"))
-        got, found = [], self.library.new(self.library.names._Description)
-        for short in (c_uint8, wide):
-            for number, side in ((0, 0), (0, 1), (1, 1)):
-                got.append((calls.bootswap_slot(*flash, short(number), short(side), byref(found)), bytes(found)))
-        self.assertEqual(got[:3], got[3:])
-        self.assertEqual([0, 2], sorted({number for number, _ in got}))
-
-
-class Listed:
-    """A flash whose driver lists its calls."""
-
-    def __init__(self):
-        self.made = []
-
-    def read(self, context, at, out, length):
-        return 0
-
-    def program(self, context, at, given, length):
-        self.made.append((at, ctypes.string_at(given, length)))
-        return 0
-
-    def erase(self, context, at, length):
-        self.made.append((at, length))
-        return 0
+            self.assertEqual({"piece": 0}.get(name, 4), got[0][0], name)
 
 
 # Journals after which a write would be wrong, by what is wrong, and the number of their bytes that the library says it
@@ -153,75 +122,50 @@ MALFORMED = {
 
 
 @needs_compiler
-class MalformedTest(DriverTest):
+class MalformedTest(unittest.TestCase):
     """Journals of a stand-in for the library."""
 
+    processor = HERE
+
     @classmethod
-    def below_driver(cls):
-        return f"{C}/malformed.c"
+    def setUpClass(cls):
+        folder = folder_for(cls)
+        cls.program, files = f"{folder}/malformed", [f"{C}/malformed.c", f"{ROOT}/bindings/c/driver.c"]
+        cls.processor.compile([*STRICT, "-O1", *INCLUDE, *files, "-o", cls.program])
 
-    def opened(self, journal, used, number=0):
-        """A device of one image, whose next call records these bytes in a journal of their length, at the end of a
-        page that no page follows; and what its driver lists."""
-        library, flash = self.library, Listed()
-        setup, driver, copy = library.setup(512, [2]), library.driver_of(flash), library.copy(bytes(5120))
-        recorded = library.at_page_end(len(journal))
-        ctypes.memmove(recorded, journal, len(journal))
-        pointers = [ctypes.cast(it, POINTER(c_uint8)) for it in (copy, recorded)]
-        parts = ctypes.pointer(setup), ctypes.pointer(driver), POINTER(c_uint8)(), len(copy), *pointers, len(journal)
-        device = library.new(library.device, *parts)
-        self.held = flash, setup, driver, copy, recorded
-        library.calls.malformed_set(c_uint32(number), c_uint32(used % 2**32), c_uint32(used >> 32))
-        self.assertEqual(0, library.calls.bootswap_open(byref(device)))
-        return device, flash.made
-
-    def confirm(self, device):
-        return self.library.calls.bootswap_device_confirm(byref(device), c_uint8(0))
+    def ran(self, call, number, used, journal):
+        """Makes a call that returns a number, and says that it used N bytes of a journal. Returns what is printed."""
+        return self.processor.output_of(self.program, call, str(number), str(used), journal.hex()).decode().splitlines()
 
     def test_a_write_that_is_malformed_is_a_failure(self):
         """The write before it is performed. No byte after the journal is read."""
         for name, (journal, used) in MALFORMED.items():
             with self.subTest(name):
-                device, made = self.opened(GOOD + journal, 20 + used)
-                wanted = [(512, b"ABCDEFGH")] * (used <= len(journal))
-                self.assertEqual((DRIVER_FAILED, wanted), (self.confirm(device), made))
+                performed = [f"program 512 {b'ABCDEFGH'.hex()}"] * (used <= len(journal))
+                got = self.ran("confirm", 0, 20 + used, GOOD + journal)
+                self.assertEqual([*performed, f"{DRIVER_FAILED} 1 0"], got)
 
     def test_writes_are_made_in_their_order_up_to_the_last_byte(self):
-        device, made = self.opened(words(1, 1024, 512) + words(0, 1032, 16) + bytes(range(16)), 40)
-        self.assertEqual((0, [(1024, 512), (1032, bytes(range(16)))]), (self.confirm(device), made))
+        wanted = ["erase 1024 512", f"program 1032 {bytes(range(16)).hex()}", "0 1 1"]
+        journal = words(1, 1024, 512) + words(0, 1032, 16) + bytes(range(16))
+        self.assertEqual(wanted, self.ran("confirm", 0, 40, journal))
 
     def test_a_boot_whose_attempts_are_all_cut_ends(self):
         """After three for each sector of the slots, and seventeen."""
         shortest, most = JOURNAL["BOOT"](1, 512), 3 * 2 + 17
         for journal, used in ((bytes(shortest), 0), ((words(0, 512, 8) + bytes(shortest))[:shortest], 20)):
-            device, made = self.opened(journal, used, CUT)
-            number = self.library.calls.bootswap_device_boot(byref(device))
-            got = number, self.library.calls.malformed_attempts(), len(made)
-            self.assertEqual((JOURNAL_TOO_SMALL, most, most * (used > 0)), got)
+            *performed, last = self.ran("boot", CUT, used, journal)
+            self.assertEqual((f"{JOURNAL_TOO_SMALL} {most} 1", most * (used > 0)), (last, len(performed)))
 
     def test_two_boots_that_revert_are_a_failure(self):
-        device, _ = self.opened(bytes(JOURNAL["BOOT"](1, 512)), 0, 2)
-        device.saved.is_booted = 1
-        number = self.library.calls.bootswap_device_boot(byref(device))
-        got = number, self.library.calls.malformed_attempts(), device.saved.is_booted
-        self.assertEqual((DRIVER_FAILED, 2, 0), got)
+        self.assertEqual([f"{DRIVER_FAILED} 2 0"], self.ran("boot", 2, 0, bytes(JOURNAL["BOOT"](1, 512))))
 
 
 @needs_arm
-class ArmJournalsTest(DrivenOnArm, JournalsTest):
-    pass
-
-
-@needs_arm
-class ArmMalformedTest(DrivenOnArm, MalformedTest):
-    pass
+class ArmMalformedTest(MalformedTest):
+    processor = ARM
 
 
 @needs_small_arm
-class SmallArmJournalsTest(DrivenOnSmallArm, JournalsTest):
-    pass
-
-
-@needs_small_arm
-class SmallArmMalformedTest(DrivenOnSmallArm, MalformedTest):
-    pass
+class SmallArmMalformedTest(MalformedTest):
+    processor = SMALL_ARM

@@ -4,12 +4,11 @@ import base64
 import http.client
 import json
 import os
-import shutil
-import tempfile
 import time
 import unittest
 
 from support.files import PAIR as PAIR_DEVICE
+from support.files import folder_for, write
 from support.flashes import flash_of
 from support.libraries import web_module
 from support.page import EVENTS, Page, needs_browser
@@ -23,8 +22,8 @@ ALONE = [{"image": 0, "version": "2.0.0", "needs": "", "permanent": True}]
 UPLOAD = {"do": "upload", "rows": PAIR}
 
 
-def cut(write, left):
-    return {"do": "boot", "cut": {"write": write, "left": left}}
+def cut(at, left):
+    return {"do": "boot", "cut": {"write": at, "left": left}}
 
 
 # Scenes that together show everything that the page can show: each with the number of images, and its events.
@@ -116,16 +115,15 @@ class ServeTest(unittest.TestCase):
 
     def test_it_answers_each_name(self):
         """A file that isn't there, and a name that no file can have."""
-        with tempfile.TemporaryDirectory() as folder:
-            with open(f"{folder}/bootswap.wasm", "wb"):
-                pass
-            page = Page(folder)
-            self.addCleanup(page.close)
-            for name, wanted in {"index.html?%00": 200, "absent": 404, "index.html%00": 404, "%00": 404}.items():
-                connection = http.client.HTTPConnection(page.address.removeprefix("http://"), timeout=10)
-                connection.request("GET", f"/{name}")
-                self.assertEqual(wanted, connection.getresponse().status, name)
-                connection.close()
+        folder = folder_for(self)
+        write(f"{folder}/bootswap.wasm", b"")
+        page = Page(folder)
+        self.addCleanup(page.close)
+        for name, wanted in {"index.html?%00": 200, "absent": 404, "index.html%00": 404, "%00": 404}.items():
+            connection = http.client.HTTPConnection(page.address.removeprefix("http://"), timeout=10)
+            connection.request("GET", f"/{name}")
+            self.assertEqual(wanted, connection.getresponse().status, name)
+            connection.close()
 
 
 @needs_browser
@@ -136,8 +134,7 @@ class PageTest(ProgramTest):
 
     @classmethod
     def setUpClass(cls):
-        cls.files = tempfile.mkdtemp(prefix="bootswap-page-")
-        cls.addClassCleanup(shutil.rmtree, cls.files, ignore_errors=True)
+        cls.files = folder_for(cls)
         cls.module = web_module(cls.files)
         cls.page = Page(cls.files)
         cls.addClassCleanup(cls.page.close)
@@ -167,16 +164,11 @@ class PageTest(ProgramTest):
     def text_of(self, name):
         return self.run_on_page(f"document.getElementById('{name}').textContent")
 
-    def test_it_says_what_the_program_prints(self):
-        """For the ten events of examples/scripts/confirmed.txt, of which the page makes five by one click."""
+    def test_it_says_what_the_program_prints_also_after_a_cut_and_a_link_carries_the_scene(self):
+        """For the ten events of examples/scripts/confirmed.txt, of which the page makes five by one click, with a cut
+        at a third of the writes of the boot that takes the set."""
         boot, *upload, takes, first, second, last = self.printed("confirmed")
-        self.run_all(click("boot"), CLICK_UPLOAD, click("boot"), confirm(0), confirm(1), click("boot"))
         self.assertEqual({"done"}, {*upload})
-        self.assertEqual(["done", boot, "done", takes, first, second, last], self.run_on_page(EVENTS))
-
-    def test_it_does_so_after_a_cut_and_a_link_carries_the_scene(self):
-        """The same events with a cut at a third of the writes of the boot that takes the set."""
-        boot, *_, takes, first, second, last = self.printed("confirmed")
         self.run_all(click("boot"), CLICK_UPLOAD)
         writes = int(self.run_on_page("document.getElementById('write').max"))
         self.run_on_page(MOVE.format(writes // 3))
@@ -250,8 +242,8 @@ class PageTest(ProgramTest):
         self.page.visit(acting(BOOT, UPLOAD, cut(25, [90, 165])))
         texts = [NEW_PAIR, self.run_on_page(DESCRIPTION)]
         self.assertIn("torn", texts[1])
-        for write in (1, 2):
-            self.run_on_page(MOVE.format(write))
+        for at in (1, 2):
+            self.run_on_page(MOVE.format(at))
             texts.append(self.run_on_page(DESCRIPTION))
         self.assertRegex(texts[2], r"\AThe flash after 1 of ")
         self.assertEqual(4, len({*texts}), texts)
@@ -306,5 +298,4 @@ class PageTest(ProgramTest):
             self.assertIn(reason, said)
             self.assertFalse(self.run_on_page("document.querySelector('main').checkVisibility()"))
             self.assertEqual([], self.page.look("faint")["faults"])
-            with open(self.module, "wb") as it:
-                it.write(b"no module")
+            write(self.module, b"no module")

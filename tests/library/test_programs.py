@@ -6,15 +6,13 @@ On 64-bit ARM the programs run in `qemu-aarch64`.
 import ctypes
 import os
 import shutil
-import tempfile
 import unittest
 from ctypes import POINTER, byref, c_char, c_size_t, c_uint8
 
 from support.builders import CLASS, VENDOR
 from support.compiled import C, needs_compiler
-from support.driven import LONG, NEEDING, DriverTest
-from support.emulated import DrivenOnArm
-from support.files import EXAMPLES, ROOT, read
+from support.driven import LONG, NAMES, NEEDING, DriverTest, manifest_of
+from support.files import EXAMPLES, ROOT, folder_for, read
 from support.headers import declared
 from support.libraries import output_of, symbols
 from support.manifests import listing_of
@@ -36,8 +34,7 @@ class ProgramsTest(unittest.TestCase):
 
     @classmethod
     def setUpClass(cls):
-        cls.folder = tempfile.mkdtemp(prefix="bootswap-library-")
-        cls.addClassCleanup(shutil.rmtree, cls.folder, ignore_errors=True)
+        cls.folder = folder_for(cls)
         cls.archive, cls.manifests = cls.processor.archive(), cls.processor.manifest_archive()
 
     def test_a_program_of_fewer_than_100_lines_upgrades_whichever_write_is_cut(self):
@@ -81,8 +78,8 @@ class NullTest(DriverTest):
     """Null with a length of 0 passes no bytes, as any other pointer does."""
 
     def arguments(self, types, none, has_bytes):
-        """Arguments of a call on a device, and the objects that it may write: `none` and a length of 0 for bytes, but for the
-        first ones if it has these."""
+        """Arguments of a call on a device, and the objects that it may write: `none` and a length of 0 for bytes, but
+        for the first ones if it has these."""
         words, written = [], []
         for kind, after in zip(types, [*types[1:], None]):
             if kind is c_size_t:
@@ -91,32 +88,33 @@ class NullTest(DriverTest):
             elif not hasattr(kind, "contents"):
                 words.append(kind(0))
             elif after is c_size_t and has_bytes:
-                written.append(self.library.copy(self.text if kind is POINTER(c_char) else self.flash_bytes))
+                given = self.text if kind is POINTER(c_char) else self.flash_bytes
+                written.append(ctypes.create_string_buffer(given, len(given)))
                 words.append(written[-1])
             elif after is c_size_t:
                 words.append(ctypes.cast(none, kind) if none else kind())
             else:
-                written.append(self.library.new(kind._type_))
+                written.append(kind._type_())
                 if kind._type_ in self.given:
                     ctypes.memmove(byref(written[-1]), byref(self.given[kind._type_]), ctypes.sizeof(kind._type_))
                 words.append(byref(written[-1]))
         return words, written
 
     def test_null_is_no_bytes_in_each_call(self):
-        device, names, numbers = self.new_device(capacity=LONG), self.library.names, set()
+        device, numbers = self.new_device(capacity=LONG), set()
         self.assertEqual(1, device.boot())
-        self.assertEqual(0, device.accept(self.library.manifest(1, [(0, NEEDING, 0)])))
+        self.assertEqual(0, device.accept(manifest_of(1, [(0, NEEDING, 0)])))
         self.text, self.flash_bytes = b"image 0 1.0.0+0 0 0\n", bytes(device.flash.bytes)
-        self.given = {names._Setup: device.setup, names._SavedState: device.device.saved}
-        self.given[names._Manifest] = self.library.manifest(2, [(0, NEEDING, 0)])
-        self.given[names._ImageParts] = names._ImageParts(header_size=32)
-        none = ctypes.pointer(self.library.new(c_uint8))
+        self.given = {NAMES._Setup: device.setup, NAMES._SavedState: device.device.saved}
+        self.given[NAMES._Manifest] = manifest_of(2, [(0, NEEDING, 0)])
+        self.given[NAMES._ImageParts] = NAMES._ImageParts(header_size=32)
+        none = ctypes.pointer(c_uint8())
         for name in (it for it in declared("call") if not it.endswith(("_name", "_manifest", "_reset"))):
             for has_bytes in (False, True):
                 got = []
                 for pointer in (None, none):
-                    words, written = self.arguments(getattr(names._LIBRARY, name).argtypes, pointer, has_bytes)
-                    number = getattr(self.library.calls, name)(*words)
+                    words, written = self.arguments(getattr(NAMES._LIBRARY, name).argtypes, pointer, has_bytes)
+                    number = getattr(self.calls, name)(*words)
                     # The one call that returns nothing.
                     got.append((0 if name == "bootswap_digest" else number, [bytes(it) for it in written]))
                 self.assertEqual(got[0], got[1], f"{name}, {has_bytes}")
@@ -129,8 +127,7 @@ class ManifestMemoryTest(unittest.TestCase):
     """bindings/c/manifest.c over a stand-in for the library."""
 
     def setUp(self):
-        self.folder = tempfile.mkdtemp(prefix="bootswap-library-")
-        self.addCleanup(shutil.rmtree, self.folder, ignore_errors=True)
+        self.folder = folder_for(self)
 
     def test_calls_in_two_threads_have_their_own_memory(self):
         """Null with a length of 0 is no memory, and nothing undefined is computed of it."""
@@ -151,8 +148,3 @@ class ManifestMemoryTest(unittest.TestCase):
 @needs_arm
 class ArmProgramsTest(ProgramsTest):
     processor = ARM
-
-
-@needs_arm
-class ArmNullTest(DrivenOnArm, NullTest):
-    pass

@@ -4,11 +4,10 @@ import os
 import shutil
 import subprocess
 import sys
-import tempfile
 import unittest
 
 from support.compiled import needs_compiler
-from support.files import ROOT
+from support.files import ROOT, folder_for
 from support.libraries import fenced, output_of, shared_library
 from support.processors import HERE
 
@@ -20,8 +19,7 @@ LIMIT = 120
 class PythonTest(unittest.TestCase):
     @classmethod
     def setUpClass(cls):
-        cls.folder = tempfile.mkdtemp(prefix="bootswap-library-")
-        cls.addClassCleanup(shutil.rmtree, cls.folder, ignore_errors=True)
+        cls.folder = folder_for(cls)
         cls.archives = HERE.archive(), HERE.manifest_archive()
         cls.shared = shared_library(cls.folder)
 

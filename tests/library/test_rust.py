@@ -4,13 +4,12 @@ targets."""
 import os
 import re
 import shutil
-import tempfile
 import unittest
 
 from support import file_device
 from support.compiled import C, needs_compiler, preloaded
 from support.driven import INCLUDE
-from support.files import EXAMPLES, ROOT, read
+from support.files import EXAMPLES, ROOT, folder_for, read, write
 from support.libraries import TARGET, archive_for, c_folder, fenced, output_of, ran, symbols
 from support.processors import HERE
 
@@ -19,17 +18,10 @@ import empty_projects
 CRATE = f"{ROOT}/bindings/rust"
 
 # Targets without an operating system, and the prefix of the compiler that build.rs takes.
-BARE_TARGETS = {
-    "thumbv6m-none-eabi": "arm-none-eabi-",
-    "thumbv7m-none-eabi": "arm-none-eabi-",
-    "thumbv7em-none-eabi": "arm-none-eabi-",
-    "thumbv7em-none-eabihf": "arm-none-eabi-",
-    "thumbv8m.base-none-eabi": "arm-none-eabi-",
-    "thumbv8m.main-none-eabi": "arm-none-eabi-",
-    "thumbv8m.main-none-eabihf": "arm-none-eabi-",
-    "riscv32imac-unknown-none-elf": "riscv64-unknown-elf-",
-    "riscv32imc-unknown-none-elf": "riscv64-unknown-elf-",
-}
+ARM_TARGETS = [f"thumbv{it}-none-eabi" for it in ("6m", "7m", "7em", "8m.base", "8m.main")]
+ARM_TARGETS += [f"thumbv{it}-none-eabihf" for it in ("7em", "8m.main")]
+BARE_TARGETS = {it: "arm-none-eabi-" for it in ARM_TARGETS}
+BARE_TARGETS |= {f"riscv32{it}-unknown-none-elf": "riscv64-unknown-elf-" for it in ("imac", "imc")}
 
 # What has build.rs compile by clang.
 CLANG = {"CC": "clang", "AR": "llvm-ar"}
@@ -87,8 +79,7 @@ def copied(folder):
 class RustTest(unittest.TestCase):
     @classmethod
     def setUpClass(cls):
-        cls.folder = tempfile.mkdtemp(prefix="bootswap-rust-")
-        cls.addClassCleanup(shutil.rmtree, cls.folder, ignore_errors=True)
+        cls.folder = folder_for(cls)
         cls.environment, cls.crate = copied(cls.folder), f"{cls.folder}/crate"
 
     def cargo(self, *words, cwd=None, **variables):
@@ -195,33 +186,26 @@ class RustFileDeviceTest(file_device.FileDevice):
         output_of(words, cwd=f"{cls.folder}/crate", env=cls.environment)
 
     def test_it_makes_the_writes_of_the_device_in_c(self):
-        """With the shortest journal, and with one that holds two steps of a swap."""
-        in_rust, in_c = "SETUP.boot_journal_length()", "BOOTSWAP_JOURNAL_BOOT(IMAGES, SECTOR)"
-        for more in (0, 600):
-            c, example = f"{self.folder}/file_device.c", "examples/file_device.rs"
-            self.lengthen(f"{CRATE}/{example}", f"{self.folder}/crate/{example}", in_rust, more)
-            self.lengthen(f"{ROOT}/bindings/c/file_device.c", c, in_c, more)
-            self.build_example()
-            files = [c, f"{ROOT}/bindings/c/driver.c", f"{C}/power.c", f"{self.folder}/bootswap.o"]
-            HERE.compile(["-O1", *INCLUDE, *files, "-o", f"{self.folder}/device_in_c"])
-            self.compare(more)
-
-    @staticmethod
-    def lengthen(file, copy, journal, more):
-        """Copies a source, in which the length of the journal is N bytes more."""
-        with open(copy, "w", encoding="utf-8") as it:
-            it.write(read(file).decode().replace(journal, f"{journal} + {more}", 1))
-
-    def compare(self, more):
-        """Both devices print the same and leave the same in an upgrade, a revert, and a confirmed upgrade."""
+        """With the shortest journal, and with one that holds two steps of a swap. Both print the same and leave the
+        same in an upgrade, a revert, and a confirmed upgrade."""
         one, needing, partner = file_device.ONE, file_device.NEEDING, file_device.PARTNER
         steps = [("provision", one, one), ("boot",), ("boot", "upload", needing, partner), ("boot",), ("boot",)]
-        for commands in (*steps, ("boot", "upload", needing, partner), ("boot", "confirm"), ("boot",)):
-            before = read(self.flash) if os.path.exists(self.flash) else b""
-            programs = f"{self.folder}/device_in_c", type(self).program
-            in_c, in_rust = (self.step(it, before, commands) for it in programs)
-            self.assertEqual(in_c, in_rust, f"{more}: {commands}")
-            self.assertEqual(0, in_rust[0][0])
+        steps += [("boot", "upload", needing, partner), ("boot", "confirm"), ("boot",)]
+        sources = {f"{self.folder}/file_device.c": f"{ROOT}/bindings/c/file_device.c"}
+        sources[f"{self.folder}/crate/examples/file_device.rs"] = f"{CRATE}/examples/file_device.rs"
+        in_c, in_rust = f"{self.folder}/device_in_c", self.program
+        for more in (0, 600):
+            for copy, source in sources.items():
+                length = r"SETUP\.boot_journal_length\(\)|BOOTSWAP_JOURNAL_BOOT\(IMAGES, SECTOR\)"
+                write(copy, re.sub(length, rf"\g<0> + {more}", read(source).decode(), count=1))
+            self.build_example()
+            files = [f"{ROOT}/bindings/c/driver.c", f"{C}/power.c", f"{self.folder}/bootswap.o"]
+            HERE.compile(["-O1", *INCLUDE, f"{self.folder}/file_device.c", *files, "-o", in_c])
+            for commands in steps:
+                before = read(self.flash) if os.path.exists(self.flash) else b""
+                wanted = self.step(in_c, before, commands)
+                self.assertEqual(wanted, self.step(in_rust, before, commands), f"{more}: {commands}")
+                self.assertEqual(0, wanted[0][0])
 
     def step(self, program, before, commands):
         """Runs commands on a flash of these bytes. Returns how that ends, the bytes then, and the number of writes of

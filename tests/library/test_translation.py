@@ -1,17 +1,15 @@
 """The translation of WebAssembly to C, instruction by instruction.
 
-Each instruction of the subset is translated, compiled, and compared with what the specification says of it, written
-down in Python: support/instruction_cases.py and support/control_cases.py have the cases. `node` runs the same
-functions, so the cases are right. What has no translation is refused.
+Each instruction of the subset is translated, compiled, and compared with the same function in `node`:
+support/instruction_cases.py and support/control_cases.py have the cases. What has no translation is refused.
 """
 
 import shutil
-import tempfile
 import unittest
 
 from support import translated
 from support.compiled import needs_compiler
-from support.files import read
+from support.files import folder_for, read
 from support.instruction_cases import DATA
 from support.libraries import output_of, ran
 from support.wasm import Assembler, Data, Function, text, unsigned
@@ -34,15 +32,16 @@ BUILDS = {
 
 
 @needs_compiler
+@unittest.skipUnless(shutil.which("node"), "there is no `node`")
 class CasesTest(unittest.TestCase):
     @classmethod
     def setUpClass(cls):
-        cls.folder = tempfile.mkdtemp(prefix="bootswap-c-")
-        cls.addClassCleanup(shutil.rmtree, cls.folder, ignore_errors=True)
+        cls.folder = folder_for(cls)
         cls.cases = translated.all_cases()
         translated.write_sources(cls.cases, cls.folder)
+        cls.expected = translated.expected(cls.cases, cls.folder)
 
-    def test_each_case_returns_what_the_specification_says(self):
+    def test_each_case_returns_what_node_returns(self):
         program, files = f"{self.folder}/program", [f"{self.folder}/{it}.c" for it in ("cases", "main")]
         for name, (words, runner) in BUILDS.items():
             with self.subTest(name):
@@ -50,18 +49,7 @@ class CasesTest(unittest.TestCase):
                 if missing:
                     self.skipTest(f"not installed: {' and '.join(missing)}")
                 output_of([*words, *STRICT, *files, "-o", program])
-                self.assertEqual([], translated.ran([*runner, program], self.cases))
-
-    @unittest.skipUnless(shutil.which("node"), "there is no `node`")
-    def test_node_returns_the_same(self):
-        module, script = f"{self.folder}/cases.wasm", f"{self.folder}/cases.js"
-        with open(module, "wb") as it:
-            it.write(translated.assembler_of(self.cases).module())
-        with open(script, "w", encoding="utf-8") as it:
-            it.write(translated.NODE % translated.PATTERN.hex())
-        kinds = [",".join([str(it.result), *it.params]) for it in self.cases]
-        words = ["node", "--experimental-wasm-memory64", script, module, *kinds]
-        self.assertEqual([], translated.ran(words, self.cases))
+                self.assertEqual([], translated.faults_of([*runner, program], self.cases, self.expected))
 
     def test_each_instruction_is_in_a_case(self):
         made, seen = read_object(translated.assembler_of(self.cases).object()), set()

@@ -9,7 +9,7 @@ import sys
 import tempfile
 import unittest
 
-from support.files import EXAMPLES, ROOT, read
+from support.files import EXAMPLES, ROOT, read, write
 
 # How many seconds a script may take.
 LIMIT = 60
@@ -53,11 +53,9 @@ class ArgumentTest(unittest.TestCase):
     def test_what_is_missing_or_wrong_is_named(self):
         with tempfile.TemporaryDirectory() as folder:
             gone, fleet = f"{folder}/gone", f"{folder}/fleet"
-            with open(fleet, "w", encoding="utf-8") as it:
-                it.write("device a\nimage 0 1.0.0+0 0 0\n")
+            write(fleet, "device a\nimage 0 1.0.0+0 0 0\n")
             # Python finds this module before any other of its name.
-            with open(f"{folder}/distributed.py", "w", encoding="utf-8") as it:
-                it.write("raise ImportError('No module')\n")
+            write(f"{folder}/distributed.py", "raise ImportError('No module')\n")
             self.expect_fault("make_images.py: .*No such file or directory", f"{EXAMPLES}/make_images.py", gone)
             words = f"{EXAMPLES}/make_image.py", gone, fleet, "--version", "one"
             self.expect_fault("make_image.py: no image has the version one.*bytes", *words)

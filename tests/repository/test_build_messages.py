@@ -60,14 +60,8 @@ class BuildMessageTest(unittest.TestCase):
     def test_crates_that_can_be_built_at_the_same_time_are(self):
         lowest = OfSeconds(60)
         above = [OfSeconds(40, lowest), OfSeconds(40, lowest)]
-        for name, left, processors, wanted in (
-            ("one after the other", [lowest, *above], 1, (140, 140)),
-            ("two that are left, side by side", above, 2, (40, 80)),
-            ("one that is left, in two processes", above[:1], 2, (26, 52)),
-            ("nothing", [], 4, (0, 0)),
-        ):
-            with self.subTest(name):
-                self.assertEqual(wanted, expected([lowest, *above], left, processors, processors))
+        for left, most, wanted in (([lowest, *above], 1, (140, 140)), (above, 2, (40, 80)), (above[:1], 2, (26, 52))):
+            self.assertEqual(wanted, expected([lowest, *above], left, most, most))
 
     def test_a_build_says_what_it_does_on_a_terminal_only(self):
         for is_watched in (True, False):

@@ -72,27 +72,20 @@ class ExamplesTest(unittest.TestCase):
         wanted = {"crates/chooser/src/table.rt": text} if text else {}
         self.assertEqual((wanted, faults), examples.written(self.examples, sources))
 
-    def test_a_section_is_appended_to_the_doc_comment(self):
-        self.expect(CALL.replace("    /// None.\n    #[inline]\n", SHOWN), [], CALL)
-
-    def test_a_section_is_written_anew_in_its_place(self):
+    def test_a_section_is_appended_to_the_doc_comment_or_written_anew_in_its_place(self):
         shown = CALL.replace("    /// None.\n    #[inline]\n", SHOWN)
         later = shown.replace("    /// ```\n    #", "    /// ```\n    ///\n    /// # Safety\n    /// Safe.\n    #")
+        self.expect(shown, [], CALL)
         self.expect(None, [], shown)
         for it in (shown, later):
             self.expect(it, [], it.replace("Table::new", "Table::old"))
 
     def test_an_example_needs_one_item_with_a_doc_comment(self):
-        for call, fault in [
-            (CALL.replace("pick", "choose"), "an example is of chooser::Table::pick, and 0 items have this name"),
-            (CALL + CALL, "an example is of chooser::Table::pick, and 2 items have this name"),
-            (
-                re.sub("    ///.*\n", "", CALL),
-                "crates/chooser/src/table.rt: chooser::Table::pick has an example and no doc comment",
-            ),
-        ]:
-            with self.subTest(fault):
-                self.expect(None, [fault], call)
+        name, many = "chooser::Table::pick", "an example is of chooser::Table::pick, and {} items have this name"
+        without = f"crates/chooser/src/table.rt: {name} has an example and no doc comment"
+        self.expect(None, [many.format(0)], CALL.replace("pick", "choose"))
+        self.expect(None, [many.format(2)], CALL + CALL)
+        self.expect(None, [without], re.sub("    ///.*\n", "", CALL))
 
     def test_a_line_that_is_too_long_is_refused(self):
         self.examples[0].lines.append("x" * 93)

@@ -1,4 +1,4 @@
-"""That signals end `./gate` and `./mutants`, and all that these started.
+"""That signals end `./gate` and `./mutants`, and all that these started; and what runs beside `rt ci`.
 
 A copy of the gate runs in a small repository, with a toolchain that only pretends. At one step of it a command starts
 processes that would run for minutes, some in sessions of their own. At the first step one of them ignores signals. When
@@ -6,19 +6,25 @@ the step is reached, the test sends a signal. Five seconds later no process may 
 """
 
 import contextlib
+import io
 import os
 import shutil
 import signal
 import subprocess
-import tempfile
 import time
 import unittest
+from unittest import mock
 
-from support.files import ROOT, read
+from support.files import ROOT, copy_parts, folder_for, read, write, write_script
 from support.page import MISSING
 
+import mutants
+from beside import Beside
 from builder import LIBRARY
 from ending import adopt_orphans, forget_ended
+from mutants import Mutant
+from results import Counts
+from side_by_side import Task, side_by_side
 
 # How many seconds the gate may take to reach a step, and to end.
 REACHED, ENDED = 60, 5
@@ -92,31 +98,22 @@ STEPS = {
 
 COPIED = ("tools", "tests/support", "tests/library/__init__.py", "tests/library/test_page.py")
 COPIED += ("web", "examples", "bindings", "gate", "mutants")
-LEFT_OUT = shutil.ignore_patterns("__pycache__", "target")
 
 
 class GateTest(unittest.TestCase):
     def setUp(self):
         """Makes a small repository with the files of the gate, and a toolchain that only pretends."""
-        self.folder = tempfile.mkdtemp(prefix="bootswap-gate-")
-        self.addCleanup(shutil.rmtree, self.folder, ignore_errors=True)
+        self.folder = folder_for(self)
         self.files, self.repository = f"{self.folder}/files", f"{self.folder}/repository"
         for it in (self.files, self.repository):
             os.mkdir(it)
-        for name in COPIED:
-            if os.path.isdir(f"{ROOT}/{name}"):
-                shutil.copytree(f"{ROOT}/{name}", f"{self.repository}/{name}", ignore=LEFT_OUT)
-            else:
-                os.makedirs(os.path.dirname(f"{self.repository}/{name}"), exist_ok=True)
-                shutil.copy(f"{ROOT}/{name}", f"{self.repository}/{name}")
+        copy_parts(COPIED, self.repository)
         # A check of the pretended toolchain takes no memory.
         builder = read(f"{ROOT}/tools/builder.py").decode().replace("\nMEMORY = 2_300_000_000\n", "\nMEMORY = 1\n")
         places = {f"repository/{name}": text for name, text in {**FILES, "tools/builder.py": builder}.items()}
         for name, text in {**places, **{f"bin/{name}": text for name, text in COMMANDS.items()}}.items():
             os.makedirs(os.path.dirname(f"{self.folder}/{name}"), exist_ok=True)
-            with open(f"{self.folder}/{name}", "w", encoding="utf-8") as it:
-                it.write(text)
-            os.chmod(f"{self.folder}/{name}", 0o755)
+            write_script(f"{self.folder}/{name}", text)
         # What is left below this process is what the gate started.
         adopt_orphans()
         self.addCleanup(adopt_orphans, False)
@@ -177,6 +174,37 @@ class GateTest(unittest.TestCase):
                     if name == "the page" and MISSING:
                         self.skipTest(f"there is no {' and no '.join(MISSING)}")
                     self.expect_end(name, number, send)
+
+
+class BesideTest(unittest.TestCase):
+    def test_a_task_runs_beside_rt_ci_once_its_crates_are_proved(self):
+        begun = f"{folder_for(self)}/begun"
+        lines = "rt: low proved", "rt: high: its tests are proved", "1 passed, 0 failed"
+        script = f"echo '{lines[0]}'; until [ -e {begun} ]; do sleep 0.1; done; echo '{lines[1]}'; printf '{lines[2]}'"
+        first, second = (Task(it, lambda: write(begun, "") or Counts(1)) for it in ("first", "second"))
+        beside = Beside([(second, {"low", "high"}), (first, {"low"})])
+        with mock.patch("beside.free_memory", lambda: 10**12):
+            with subprocess.Popen(["timeout", "60", "sh", "-c", script], stdout=subprocess.PIPE, bufsize=0) as ran:
+                self.assertEqual([*lines], [it.decode() for it in beside.lines_of(ran)])
+        self.assertEqual([second], beside.left())
+        self.assertEqual(Counts(2), side_by_side(beside.left(), 1, beside.running)[0])
+
+
+class MutantsTest(unittest.TestCase):
+    def test_mutants_that_were_refused_are_tried_again_after_a_change_or_if_asked(self):
+        """Those that weren't refused are tried each time."""
+        mutant, trial = Mutant("two.edit"), mock.Mock()
+        mutant.function = "one"
+        trial.together, out = lambda left: [*left], folder_for(self)
+        rows = ("a", False, ["why"], True), ("a", False, [], True), ("a", False, [], False), ("a", True, [], True)
+        for digest, anew, faults, is_tried in (*rows, ("b", False, [], True), ("b", False, [], False)):
+            trial.tried = mock.Mock(return_value={mutant: faults})
+            parts = {"OUT": out, "Trial": lambda *_: trial, "mutants_of": lambda _: [mutant]}
+            parts["digest_of"] = lambda _: digest
+            with mock.patch.multiple(mutants, **parts), contextlib.redirect_stdout(io.StringIO()) as said:
+                counts = mutants.try_mutants("common", None, anew)
+            self.assertEqual((is_tried, not faults), (trial.tried.called, counts == Counts(1)), (digest, anew))
+            self.assertEqual(not is_tried, "refused at one, as before: nothing has changed" in said.getvalue())
 
 
 def running():

@@ -84,11 +84,6 @@ class CommandPagesTest(ProgramTest):
             self.assertEqual((2, b""), got[:2])
             self.assertEqual(self.run_program(["help", *words]), got)
 
-    def test_a_page_that_cannot_be_written_ends_with_1(self):
-        with open("/dev/full", "wb") as full:
-            status, _, err = self.run_program(["help", "man"], stdout=full)
-        self.assertEqual((1, b""), (status, err))
-
 
 @unittest.skipUnless(shutil.which("pandoc"), "there is no pandoc")
 class MadePagesTest(unittest.TestCase):

@@ -6,6 +6,7 @@ import tempfile
 import unittest
 from unittest import mock
 
+from support.files import write_script
 import support.program  # tools/ is on the path from here on
 
 import builder
@@ -22,9 +23,7 @@ class SmallCodeTest(unittest.TestCase):
             os.makedirs(f"{self.kit}/toolchain/{it}")
         for name in ("clang", *small_code.TOOLS):
             path = f"{self.kit}/toolchain/bin/{name}"
-            with open(path, "w", encoding="utf-8") as it:
-                it.write('#!/bin/sh\nprintf "%s\\n" "$0" "$@"\n')
-            os.chmod(path, 0o755)
+            write_script(path, '#!/bin/sh\nprintf "%s\\n" "$0" "$@"\n')
 
     def test_its_clang_passes_the_flags_last_and_its_other_files_are_the_toolchains(self):
         for _ in range(2):

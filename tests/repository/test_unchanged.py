@@ -12,7 +12,7 @@ import time
 import unittest
 from unittest import mock
 
-from support.files import ROOT
+from support.files import ROOT, copy_parts, write
 import support.program  # tools/ is on the path from here on
 
 import unchanged
@@ -62,8 +62,7 @@ def rewrite(path, old, new):
 def replace(path, text):
     """Puts another file in the place of one, of the same size and time."""
     before = os.stat(path)
-    with open(f"{path}.new", "w", encoding="utf-8") as it:
-        it.write(text)
+    write(f"{path}.new", text)
     os.utime(f"{path}.new", ns=(before.st_atime_ns, before.st_mtime_ns))
     os.replace(f"{path}.new", path)
 
@@ -98,14 +97,12 @@ class UnchangedTest(unittest.TestCase):
     def start(self):
         """Makes the repository anew, as it is after a build."""
         shutil.rmtree(self.top)
-        shutil.copytree(f"{ROOT}/tools", f"{self.top}/tools", ignore=shutil.ignore_patterns("__pycache__"))
-        shutil.copy(f"{ROOT}/bootswap", self.top)
+        copy_parts(("tools", "bootswap"), self.top)
         built = {"out/bootswap": "#!/bin/sh\necho $1\n", "out/bootswap.stamp": "a/b"}
         for name, text in {**SOURCES, **built, **{f"kit/{it}": text for it, text in KIT.items()}}.items():
             path = f"{self.top}/{name}"
             os.makedirs(os.path.dirname(path), exist_ok=True)
-            with open(path, "w", encoding="utf-8") as it:
-                it.write(text)
+            write(path, text)
             os.chmod(path, 0o755 if text.startswith("#!") else 0o644)
 
     def remembered(self, after):

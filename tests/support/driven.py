@@ -2,14 +2,11 @@
 
 import ctypes
 import hashlib
-import mmap
-import shutil
-import tempfile
 import unittest
 from ctypes import CFUNCTYPE, POINTER, byref, c_char, c_int, c_size_t, c_uint8, c_uint32, c_void_p
 
 from support.builders import image, version
-from support.files import EXAMPLES, ROOT, read
+from support.files import EXAMPLES, ROOT, folder_for, read
 from support.headers import journal_bounds
 from support.libraries import python_module
 from support.processors import HERE
@@ -35,83 +32,39 @@ UPLOAD_FAULTS = dict(enumerate(
     "OldSequence TooBig NoSession TooMuch SizeWrong DigestWrong NotAnImage WrongPrecursor NothingRequested".split(), 1
 ))
 
+# The structs of bindings/python.
+NAMES = python_module()
 
-class Library:
-    """The calls over a driver and what they call, in this process, with the structs of bindings/python. `parts` are
-    the files of what they call: the library, or a stand-in for it."""
 
-    def __init__(self, processor, parts, folder):
-        self.processor, self.names = processor, python_module()
-        self.driver, self.device = self.structs()
-        self.calls = self.linked(parts, folder)
+class Driver(ctypes.Structure):
+    """The driver of bindings/c/driver.h."""
 
-    def linked(self, parts, folder):
-        """Compiles and links everything, and returns the calls."""
-        made = f"{folder}/libdriven.so"
-        words = [*STRICT, "-O1", "-fPIC", "-shared", *INCLUDE, "-o", made, f"{ROOT}/bindings/c/driver.c"]
-        self.processor.compile([*words, "-Wl,--whole-archive", *parts, "-Wl,--no-whole-archive"])
-        return ctypes.CDLL(made)
+    _fields_ = [(it, CFUNCTYPE(c_int, c_void_p, c_uint32, POINTER(c_uint8), c_uint32)) for it in ("read", "program")]
+    _fields_ += [("erase", CFUNCTYPE(c_int, c_void_p, c_uint32, c_uint32)), ("context", c_void_p)]
 
-    def close(self):
-        """Ends what was started for the calls."""
 
-    def new(self, kind, *fields):
-        """An object of a type of `ctypes` whose address can be passed to a call."""
-        return kind(*fields)
+class Device(ctypes.Structure):
+    """The device of bindings/c/driver.h."""
 
-    def copy(self, given):
-        """Bytes whose address can be passed to a call."""
-        made = self.new(c_uint8 * max(len(given), 1))
-        ctypes.memmove(made, given, len(given))
-        return made
+    _fields_ = [("setup", POINTER(NAMES._Setup)), ("driver", POINTER(Driver)), ("flash", POINTER(c_uint8))]
+    _fields_ += [("flash_length", c_size_t), ("copy", POINTER(c_uint8)), ("journal", POINTER(c_uint8))]
+    _fields_ += [("journal_capacity", c_size_t), ("saved", NAMES._SavedState), ("result", NAMES._CallResult)]
+    _fields_ += [("reverted", c_uint8), ("is_stale", c_uint8)]
 
-    def at_page_end(self, length):
-        """Bytes at the end of a page that no page follows."""
-        pages, page = mmap.mmap(-1, 2 * mmap.PAGESIZE), mmap.PAGESIZE
-        first = ctypes.addressof(c_uint8.from_buffer(pages))
-        ctypes.CDLL(None).mprotect(c_void_p(first + page), c_size_t(page), 0)
-        return (c_uint8 * length).from_buffer(pages, page - length)
 
-    def driver_of(self, flash):
-        """The struct of a driver, whose three functions are those of an object."""
-        kinds = dict(self.driver._fields_)
-        return self.driver(*(kinds[name](getattr(flash, name)) for name in ("read", "program", "erase")), None)
+def setup_of(sector, sectors, trial_boots=1):
+    made = NAMES._Setup(sector, len(sectors))
+    made.sectors[: len(sectors)], made.trial_boots = sectors, trial_boots
+    return made
 
-    def structs(self):
-        """The structs of bindings/c/driver.h."""
-        names = self.names
-        driver = type("Driver", (ctypes.Structure,), {"_fields_": [
-            ("read", CFUNCTYPE(c_int, c_void_p, c_uint32, POINTER(c_uint8), c_uint32)),
-            ("program", CFUNCTYPE(c_int, c_void_p, c_uint32, POINTER(c_uint8), c_uint32)),
-            ("erase", CFUNCTYPE(c_int, c_void_p, c_uint32, c_uint32)),
-            ("context", c_void_p),
-        ]})
-        return driver, type("Device", (ctypes.Structure,), {"_fields_": [
-            ("setup", POINTER(names._Setup)),
-            ("driver", POINTER(driver)),
-            ("flash", POINTER(c_uint8)),
-            ("flash_length", c_size_t),
-            ("copy", POINTER(c_uint8)),
-            ("journal", POINTER(c_uint8)),
-            ("journal_capacity", c_size_t),
-            ("saved", names._SavedState),
-            ("result", names._CallResult),
-            ("reverted", c_uint8),
-            ("is_stale", c_uint8),
-        ]})
 
-    def setup(self, sector, sectors, trial_boots=1):
-        made = self.new(self.names._Setup, sector, len(sectors))
-        made.sectors[: len(sectors)], made.trial_boots = sectors, trial_boots
-        return made
-
-    def manifest(self, sequence, components):
-        """The manifest of these components: for each the image, the bytes of its file, and whether it is permanent."""
-        made = self.new(self.names._Manifest, sequence, len(components))
-        for row, (image, file, is_permanent) in zip(made.components, components):
-            row.image, row.size, row.is_permanent = image, len(file), is_permanent
-            row.digest[:] = hashlib.sha256(file).digest()
-        return made
+def manifest_of(sequence, components):
+    """The manifest of these components: for each the image, the bytes of its file, and whether it is permanent."""
+    made = NAMES._Manifest(sequence, len(components))
+    for row, (number, file, is_permanent) in zip(made.components, components):
+        row.image, row.size, row.is_permanent = number, len(file), is_permanent
+        row.digest[:] = hashlib.sha256(file).digest()
+    return made
 
 
 class Flash:
@@ -187,26 +140,24 @@ class Driven:
     """A device over a flash. `capacity` is the length of its journal in bytes. `memory` is what the library reads: the
     flash itself if it is mapped into memory, or a copy of it."""
 
-    def __init__(self, library, setup, flash, capacity, is_mapped=False):
-        self.library, self.setup, self.flash, self.capacity, self.is_mapped = library, setup, flash, capacity, is_mapped
-        self.driver = library.driver_of(flash)
-        self.memory = library.new(c_uint8 * len(flash.bytes))
-        self.journal = library.new(c_uint8 * (capacity + len(CANARY)))
+    def __init__(self, calls, setup, flash, capacity, is_mapped=False):
+        self.calls, self.setup, self.flash, self.capacity, self.is_mapped = calls, setup, flash, capacity, is_mapped
+        functions = [kind(getattr(flash, name)) for name, kind in Driver._fields_[:3]]
+        self.driver, self.memory = Driver(*functions, None), (c_uint8 * len(flash.bytes))()
+        self.journal = (c_uint8 * (capacity + len(CANARY)))()
         self.journal[capacity:] = CANARY
         memory, journal = (ctypes.cast(it, POINTER(c_uint8)) for it in (self.memory, self.journal))
-        flash_and_copy = POINTER(c_uint8)(), memory
+        shown, copy = (memory, None) if is_mapped else (None, memory)
         if is_mapped:
             self.driver.read, flash.mapped = type(self.driver.read)(), self.memory
-            flash_and_copy = memory, POINTER(c_uint8)()
             flash.show()
-        flash, copy = flash_and_copy
-        parts = ctypes.pointer(setup), ctypes.pointer(self.driver), flash, len(self.memory), copy
-        self.device = library.new(library.device, *parts, journal, capacity)
-        self.table, self.report = (library.new(c_char * it) for it in (20480, 2048))
+        parts = ctypes.pointer(setup), ctypes.pointer(self.driver), shown, len(self.memory), copy, journal, capacity
+        self.device = Device(*parts)
+        self.table, self.report = ((c_char * it)() for it in (20480, 2048))
 
     def call(self, name, *words):
         """Makes a call, and returns its number."""
-        number = getattr(self.library.calls, name)(byref(self.device), *words)
+        number = getattr(self.calls, name)(byref(self.device), *words)
         if bytes(self.journal[self.capacity :]) != CANARY:
             self.flash.wrong.append(f"{name} wrote past the journal's end")
         if number < DRIVER_FAILED and bytes(self.memory) != self.flash.bytes[: len(self.memory)]:
@@ -217,6 +168,8 @@ class Driven:
         self.flash.show()
         return self.call("bootswap_open")
 
+    reset = open
+
     def resume(self):
         self.flash.show()
         return self.call("bootswap_device_resume")
@@ -226,30 +179,23 @@ class Driven:
 
     def boot(self):
         """Boots, with the texts of the boot."""
-        table, report = (ctypes.cast(it, POINTER(c_char)) for it in (self.table, self.report))
-        lengths = [c_size_t(len(it)) for it in (self.table, self.report)]
-        return self.call("bootswap_device_boot_with_texts", table, lengths[0], report, lengths[1])
-
-    def boot_without_texts(self):
-        return self.call("bootswap_device_boot")
+        texts = (part for it in (self.table, self.report) for part in (it, c_size_t(len(it))))
+        return self.call("bootswap_device_boot_with_texts", *texts)
 
     def accept(self, manifest):
         return self.call("bootswap_device_accept", byref(manifest))
 
-    def piece(self, image, file):
-        return self.call("bootswap_device_piece", c_uint8(image), self.library.copy(file), c_size_t(len(file)))
+    def piece(self, number, file):
+        return self.call("bootswap_device_piece", c_uint8(number), bytes(file), c_size_t(len(file)))
 
-    def finish(self, image):
-        return self.call("bootswap_device_finish", c_uint8(image))
+    def finish(self, number):
+        return self.call("bootswap_device_finish", c_uint8(number))
 
-    def withdraw(self, image):
-        return self.call("bootswap_device_withdraw", c_uint8(image))
+    def withdraw(self, number):
+        return self.call("bootswap_device_withdraw", c_uint8(number))
 
-    def confirm(self, image):
-        return self.call("bootswap_device_confirm", c_uint8(image))
-
-    def reset(self):
-        return self.open()
+    def confirm(self, number):
+        return self.call("bootswap_device_confirm", c_uint8(number))
 
     @property
     def is_booted(self):
@@ -257,14 +203,11 @@ class Driven:
 
     def versions(self):
         """The versions of the images at the front of the primary slots."""
-        found = self.library.new(self.library.names._Description)
-        for image in range(self.setup.images):
-            memory = self.memory, c_size_t(len(self.memory))
-            if self.library.calls.bootswap_slot(byref(self.setup), *memory, c_uint8(image), c_uint8(0), byref(found)):
-                yield None
-            else:
-                it = found.version
-                yield f"{it.major}.{it.minor}.{it.revision}+{it.build}"
+        found, memory = NAMES._Description(), (self.memory, c_size_t(len(self.memory)))
+        for number in range(self.setup.images):
+            words = byref(self.setup), *memory, c_uint8(number), c_uint8(0), byref(found)
+            it = None if self.calls.bootswap_slot(*words) else found.version
+            yield it and f"{it.major}.{it.minor}.{it.revision}+{it.build}"
 
     def state(self):
         """What a call begins with: the flash, its number of writes, the saved state and what the library reads."""
@@ -310,27 +253,22 @@ def refused(result):
         return " ".join(["refused upload", str(result.detail), UPLOAD_FAULTS[result.detail], *check])
     if result.fault == 9:
         return f"refused manifest {result.detail} NoComponent"
-    image = [str(result.detail)] if result.fault == 5 else []
-    return " ".join(["refused boot", str(result.fault), FAULTS[result.fault], *image])
+    number = [str(result.detail)] if result.fault == 5 else []
+    return " ".join(["refused boot", str(result.fault), FAULTS[result.fault], *number])
 
 
 class DriverTest(unittest.TestCase):
-    """A test of driver.c over the library, on a processor, with a driver in Python. No call may ask of a driver what
-    it mustn't."""
+    """A test of driver.c over the library, with a driver in Python. No call may ask of a driver what it mustn't."""
 
-    processor, library_class, is_mapped = HERE, Library, False
+    is_mapped = False
 
     @classmethod
     def setUpClass(cls):
-        cls.build = tempfile.mkdtemp(prefix="bootswap-driver-")
-        cls.addClassCleanup(shutil.rmtree, cls.build, ignore_errors=True)
-        cls.library = cls.library_class(cls.processor, [cls.below_driver()], cls.build)
-        cls.addClassCleanup(cls.library.close)
-
-    @classmethod
-    def below_driver(cls):
-        """The file of what driver.c calls."""
-        return cls.processor.archive()
+        folder = folder_for(cls)
+        words = [*STRICT, *INCLUDE, "-O1", "-fPIC", "-shared", "-o", f"{folder}/driven.so"]
+        library = ["-Wl,--whole-archive", HERE.archive(), "-Wl,--no-whole-archive"]
+        HERE.compile([*words, f"{ROOT}/bindings/c/driver.c", *library])
+        cls.calls = ctypes.CDLL(f"{folder}/driven.so")
 
     def setUp(self):
         super().setUp()
@@ -342,7 +280,7 @@ class DriverTest(unittest.TestCase):
     def over(self, contents, setup, capacity):
         """A device over these contents of a flash, with a journal of this length."""
         self.flashes.append(Flash(contents, setup.sector_size))
-        return Driven(self.library, setup, self.flashes[-1], capacity, self.is_mapped)
+        return Driven(self.calls, setup, self.flashes[-1], capacity, self.is_mapped)
 
     def new_device(self, sector=512, sectors=(2, 2), capacity=None, running=ONE):
         """A provisioned device, whose slots run the same image, with the shortest journal."""
@@ -351,13 +289,13 @@ class DriverTest(unittest.TestCase):
             at = sector * sum(it + 1 for it in sectors[:number])
             contents[at : at + len(running)] = running
         capacity = JOURNAL["BOOT"](len(sectors), sector) if capacity is None else capacity
-        device = self.over(contents, self.library.setup(sector, sectors), capacity)
+        device = self.over(contents, setup_of(sector, sectors), capacity)
         self.assertEqual((0, 0), (device.open(), device.provision()))
         return device
 
     def request(self, device, files, sequence=1):
         """Boots a device, and requests these files for its images."""
-        manifest = self.library.manifest(sequence, [(number, file, False) for number, file in enumerate(files)])
+        manifest = manifest_of(sequence, [(number, file, False) for number, file in enumerate(files)])
         numbers = [device.boot(), device.accept(manifest)]
         for number, file in enumerate(files):
             numbers += [device.piece(number, file), device.finish(number)]
@@ -368,7 +306,7 @@ class DriverTest(unittest.TestCase):
         device, other = self.new_device(), self.new_device()
         self.request(device, [NEWER])
         self.assertEqual((1, 1), (device.boot(), device.device.result.set))
-        numbers = other.boot(), other.accept(self.library.manifest(1, [(1, NEWER, False)]))
+        numbers = other.boot(), other.accept(manifest_of(1, [(1, NEWER, False)]))
         self.assertEqual((1, 0, 0, 0), (*numbers, other.piece(1, NEWER), other.finish(1)))
         device.flash.bytes[9 * 512 : 12 * 512] = other.flash.bytes[9 * 512 : 12 * 512]
         self.assertEqual(0, device.open())

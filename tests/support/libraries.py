@@ -1,11 +1,10 @@
 """The static libraries of include/bootswap.h and of include/bootswap_manifest.h, for the tests that link them.
 
-Tests don't prove it anew. They take what `bindings/build` and `web/build` built. In the complete gate the first test
-that needs it builds it, over the libraries of the crates below it that `rt ci` proved in the folder BOOTSWAP_PROVED.
+Tests don't prove it anew. They take what `bindings/build` and `web/build` built. The complete gate builds it over the
+libraries of the crates below it that `rt ci` proved in the folder BOOTSWAP_PROVED.
 """
 
 import ctypes
-import fcntl
 import importlib.util
 import os
 import re
@@ -22,7 +21,7 @@ sys.path.append(f"{ROOT}/bindings")
 from builder import ARM_TARGET, LIBRARY, MANIFEST_LIBRARY, TARGET, WEB_TARGET, asked_of_rt, library_crates, link_for_web
 from c_file.folder import write_folder
 from installing import share
-from proved_copy import library_in
+from proved_copy import archive_over
 
 BUILDERS = {TARGET: "bindings/build", WEB_TARGET: "bindings/build --c"}
 BUILDERS[ARM_TARGET] = f"bindings/build --target {ARM_TARGET}"
@@ -32,7 +31,10 @@ def archive_for(target, name=LIBRARY):
     """Returns the file of a library for a target. Skips the tests that need it if it isn't built."""
     crates, proved = library_crates(target, name), os.environ.get("BOOTSWAP_PROVED")
     if proved:
-        return built_over(proved, crates, f"{proved}/{name}.{target}.a")
+        archive, faults = archive_over(proved, target, name)
+        if faults:
+            raise AssertionError("\n".join(["the library isn't built:", *faults]))
+        return archive
     if not crates[-1].is_built(asked_of_rt("version")):
         raise unittest.SkipTest(f"the library isn't built, or not of these sources: {BUILDERS[target]} builds it")
     return crates[-1].made
@@ -41,21 +43,6 @@ def archive_for(target, name=LIBRARY):
 def manifest_archive_for(target):
     """Returns the file of the library for manifests, as `archive_for`."""
     return archive_for(target, MANIFEST_LIBRARY)
-
-
-def built_over(proved, crates, archive):
-    """Builds the library over those of the crates below it, unless another test did, and returns its file."""
-    *below, library = crates
-    for crate in below:
-        crate.made = library_in(proved, crate.name)
-    library.made = archive
-    with open(f"{archive}.lock", "w", encoding="utf-8") as lock:
-        fcntl.flock(lock, fcntl.LOCK_EX)
-        if not os.path.exists(archive):
-            faults, _ = ran(library.words(os.path.dirname(asked_of_rt("doc"))), cwd=library.folder)
-            if faults:
-                raise AssertionError(f"the library builds: {faults[0]}")
-    return archive
 
 
 def shared_library(folder):

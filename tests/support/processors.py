@@ -45,10 +45,6 @@ class Processor:
         """Runs its compiler, and returns what is wrong."""
         return ran([*self.compiler, *words])[0]
 
-    def ran(self, program, *words):
-        """Runs a program for it, and returns what is wrong and what it printed."""
-        return ran([*self.runner, program, *words])
-
 
 HERE = Processor(TARGET, ("cc",), "nm", ())
 ARM = Processor(ARM_TARGET, ("aarch64-linux-gnu-gcc", "-static"), "aarch64-linux-gnu-nm", ("qemu-aarch64",))
@@ -81,15 +77,3 @@ SMALL_ARM = SmallProcessor("arm-linux-gnueabihf", SMALL_COMPILER, "arm-linux-gnu
 
 needs_arm = unittest.skipIf(ARM.missing(), f"not installed: {ARM.missing()}")
 needs_small_arm = unittest.skipIf(SMALL_ARM.missing(), f"not installed: {SMALL_ARM.missing()}")
-
-
-class OnArm:
-    """A test that runs on 64-bit ARM too, in front of the class of its tests."""
-
-    processor = ARM
-
-
-class OnSmallArm:
-    """A test that runs on 32-bit ARM too, in front of the class of its tests."""
-
-    processor = SMALL_ARM

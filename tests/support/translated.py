@@ -1,7 +1,7 @@
-"""Cases of instruction_cases.py as programs: translated to C by bindings/c_file, or as a module that `node` runs.
+"""Cases of instruction_cases.py as programs: translated to C by bindings/c_file, and as a module that `node` runs.
 
-A program reads for each case the number of its inputs and these, each word as 8 bytes, and writes for each what the
-case expects: the result, and the memory.
+A program reads for each case the number of its inputs and these, each word as 8 bytes. For each it writes the result,
+and the memory if the case has it. What `node` writes is expected.
 
     python3 -m support.translated PATTERN FOLDER    writes the sources of the cases whose names have the pattern
 """
@@ -11,7 +11,7 @@ import re
 import subprocess
 import sys
 
-from support.files import ROOT
+from support.files import ROOT, write
 from support.instruction_cases import DATA, PATTERN, numeric_cases
 from support.control_cases import control_cases
 from support.wasm import Assembler
@@ -83,7 +83,7 @@ def header_of(cases):
 
 def program_of(cases):
     """Returns a program in C that calls the functions of the cases."""
-    parts, calls = [C_HEAD % ", ".join(map(str, PATTERN))], []
+    calls = []
     for i, it in enumerate(cases):
         reads = "".join(f"        {C_TYPES[kind]} a{k} = ({C_TYPES[kind]})in();\n" for k,
                         kind in enumerate(it.params) if kind != "memory")
@@ -92,9 +92,8 @@ def program_of(cases):
         shown = f"        out({call});\n" if it.result else f"        {call};\n        out(0);\n"
         shown += "        fwrite(memory, sizeof memory, 1, stdout);\n" if "memory" in it.params else ""
         body = f"        memcpy(memory, pattern, sizeof memory);\n{reads}{shown}"
-        parts.append(f"static void case_{i}(void) {{\n    for (uint64_t count = in(); count > 0; count--) {{\n{body}    }}\n}}\n")
-        calls.append(f"    case_{i}();\n")
-    return "".join([*parts, "int main(void) {\n", *calls, "    return 0;\n}\n"])
+        calls.append(f"    for (uint64_t count = in(); count > 0; count--) {{\n{body}    }}\n")
+    return "".join([C_HEAD % ", ".join(map(str, PATTERN)), "int main(void) {\n", *calls, "    return 0;\n}\n"])
 
 
 def write_sources(cases, folder):
@@ -105,8 +104,7 @@ def write_sources(cases, folder):
     files = {"cases.h": header, "main.c": program_of(cases)}
     files["cases.c"] = translated(assembler_of(cases).object(), [("cases.h", header)], ["Cases of tests."])
     for name, text in files.items():
-        with open(f"{folder}/{name}", "w", encoding="utf-8") as it:
-            it.write(text)
+        write(f"{folder}/{name}", text)
 
 
 def input_of(cases):
@@ -117,31 +115,30 @@ def input_of(cases):
     return b"".join(parts)
 
 
-def ran(words, cases):
-    """Runs a program of the cases, and returns what is wrong, a line for each case that differs."""
-    done = subprocess.run(words, input=input_of(cases), stdout=subprocess.PIPE, stderr=subprocess.PIPE)
-    faults, place = [], 0
+def expected(cases, folder):
+    """Returns what `node` writes, in a folder for its files."""
+    files = {"cases.wasm": assembler_of(cases).module(), "cases.js": (NODE % PATTERN.hex()).encode()}
+    for name, contents in files.items():
+        write(f"{folder}/{name}", contents)
+    kinds = [",".join([str(it.result), *it.params]) for it in cases]
+    words = ["node", "--experimental-wasm-memory64", *(f"{folder}/{it}" for it in ("cases.js", "cases.wasm")), *kinds]
+    wanted = subprocess.run(words, input=input_of(cases), stdout=subprocess.PIPE, check=True).stdout
+    assert len(wanted) == sum(it.length * len(it.inputs) for it in cases)
+    return wanted
+
+
+def faults_of(words, cases, wanted):
+    """Runs a program of the cases. Returns what is wrong, a line for each case that differs."""
+    done, faults, place = subprocess.run(words, input=input_of(cases), capture_output=True), [], 0
     for case in cases:
-        wanted = case.expected()
-        got = done.stdout[place : place + len(wanted)]
-        place += len(wanted)
-        if got != wanted:
-            faults.append(f"{case.name}: {difference(case, got, wanted)}")
-            if len(got) < len(wanted):
-                break
+        for given in case.inputs:
+            one, other = (it[place : place + case.length] for it in (done.stdout, wanted))
+            place += case.length
+            if one != other:
+                faults.append(f"{case.name} of {given} returns {one[:8][::-1].hex()}, and not {other[:8][::-1].hex()}")
     if done.returncode:
         faults.append(f"status {done.returncode}: {done.stderr[-600:].decode(errors='replace')}")
     return faults
-
-
-def difference(case, got, wanted):
-    """Returns the first input of a case with another result, and both."""
-    length = len(wanted) // len(case.inputs)
-    for i, words in enumerate(case.inputs):
-        one, other = (it[i * length : i * length + length] for it in (got, wanted))
-        if one != other:
-            return f"of {words} it returns {one[:8][::-1].hex()}, and not {other[:8][::-1].hex()}"
-    return "no result"
 
 
 if __name__ == "__main__":

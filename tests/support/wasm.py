@@ -21,15 +21,16 @@ INDEXED = {"br": 0x0C, "br_if": 0x0D, "local.get": 0x20, "local.set": 0x21, "loc
 CONSTANTS = {"i32.const": 0x41, "i64.const": 0x42}
 RAW = {"memory.copy": b"\xfc\x0a\0\0", "memory.fill": b"\xfc\x0b\0", "memory.grow": b"\x40\0", "memory.size": b"\x3f\0"}
 
-ACCESSES = """i32.load i64.load f32.load f64.load i32.load8_s i32.load8_u i32.load16_s i32.load16_u i64.load8_s i64.load8_u
-i64.load16_s i64.load16_u i64.load32_s i64.load32_u i32.store i64.store f32.store f64.store i32.store8 i32.store16 i64.store8
-i64.store16 i64.store32""".split()
-ACCESSES = {name: 0x28 + i for i, name in enumerate(ACCESSES)}
+ACCESSES = """i32.load i64.load f32.load f64.load i32.load8_s i32.load8_u i32.load16_s i32.load16_u i64.load8_s
+i64.load8_u i64.load16_s i64.load16_u i64.load32_s i64.load32_u i32.store i64.store f32.store f64.store i32.store8
+i32.store16 i64.store8 i64.store16 i64.store32"""
+ACCESSES = {name: 0x28 + i for i, name in enumerate(ACCESSES.split())}
 
 COMPARISONS = "eqz eq ne lt_s lt_u gt_s gt_u le_s le_u ge_s ge_u".split()
 ARITHMETIC = "clz ctz popcnt add sub mul div_s div_u rem_s rem_u and or xor shl shr_s shr_u rotl rotr".split()
-PLAIN.update({f"i{width}.{name}": at + i for width, at in ((32, 0x45), (64, 0x50)) for i, name in enumerate(COMPARISONS)})
-PLAIN.update({f"i{width}.{name}": at + i for width, at in ((32, 0x67), (64, 0x79)) for i, name in enumerate(ARITHMETIC)})
+for width, compares, computes in ((32, 0x45, 0x67), (64, 0x50, 0x79)):
+    PLAIN.update({f"i{width}.{name}": compares + i for i, name in enumerate(COMPARISONS)})
+    PLAIN.update({f"i{width}.{name}": computes + i for i, name in enumerate(ARITHMETIC)})
 PLAIN.update({"i32.wrap_i64": 0xA7, "i64.extend_i32_s": 0xAC, "i64.extend_i32_u": 0xAD, "f32.add": 0x92})
 EXTENSIONS = ("i32.extend8_s", "i32.extend16_s", "i64.extend8_s", "i64.extend16_s", "i64.extend32_s")
 PLAIN.update({name: 0xC0 + i for i, name in enumerate(EXTENSIONS)})
@@ -64,25 +65,24 @@ class Data:
     at: int = 0
 
 
-def unsigned(number, length=None):
-    """LEB128, of this length if one is given."""
+def leb128(number, is_end, length):
+    """Returns a number as LEB128, of this length if one is given. `is_end` takes the rest, and the sign of the last
+    byte."""
     out = bytearray()
     while True:
         out.append(number & 0x7F | 0x80)
         number >>= 7
-        if number == 0 and (length is None or len(out) == length):
+        if is_end(number, out[-1] & 0x40) and length in (None, len(out)):
             out[-1] &= 0x7F
             return bytes(out)
+
+
+def unsigned(number, length=None):
+    return leb128(number, lambda rest, sign: rest == 0, length)
 
 
 def signed(number, length=None):
-    out = bytearray()
-    while True:
-        out.append(number & 0x7F | 0x80)
-        number >>= 7
-        if number in (0, -1) and (out[-1] & 0x40 != 0) == (number < 0) and (length is None or len(out) == length):
-            out[-1] &= 0x7F
-            return bytes(out)
+    return leb128(number, lambda rest, sign: rest == (-1 if sign else 0), length)
 
 
 def text(name):
@@ -175,10 +175,8 @@ class Assembler:
 
     def types(self):
         kinds = [([], result) for _, result in self.imports] + [(it.params, it.result) for it in self.functions]
-        return [
-            b"\x60" + rows([bytes([TYPES[it]]) for it in params]) + rows([bytes([TYPES[result]])] if result else [])
-            for params, result in kinds
-        ]
+        in_bytes = lambda widths: rows([bytes([TYPES[it]]) for it in widths if it])
+        return [b"\x60" + in_bytes(params) + in_bytes([result]) for params, result in kinds]
 
     def exports(self):
         return [text(it.name) + b"\0" + unsigned(self.indices[it.name]) for it in self.functions if it.is_exported]
@@ -198,11 +196,10 @@ class Assembler:
         out, found = bytearray(unsigned(len(self.data))), []
         for it in self.data:
             contents = bytearray(it.contents)
-            for at, (name, addend) in it.addresses.items():
-                contents[at : at + 8] = (self.address_of(name) + addend).to_bytes(8, "little")
             out += b"\0\x42" + signed(self.places[it.name]) + b"\x0b" + unsigned(len(contents))
-            found += [(len(out) + at, self.kinds["data"], self.symbol_of(name), addend) for at,
-                      (name, addend) in it.addresses.items()]
+            for at, (name, addend) in it.addresses.items():
+                found.append((len(out) + at, self.kinds["data"], self.symbol_of(name), addend))
+                contents[at : at + 8] = (self.address_of(name) + addend).to_bytes(8, "little")
             out += contents
         return bytes(out), found
 
@@ -216,14 +213,14 @@ class Assembler:
         out = b"\0asm\1\0\0\0" + section(1, rows(self.types()))
         out += section(2, unsigned(len(imports) + extra_import_count) + b"".join(imports) + extra_imports)
         out += section(3, rows([unsigned(len(self.imports) + i) for i in range(len(self.functions))]))
-        out += section(7, rows(self.exports())) + extra_section + section(10, code) + section(11, data) + section(0,
-                                                                                                                  self.linking())
+        out += section(7, rows(self.exports())) + extra_section + section(10, code) + section(11, data)
+        out += section(0, self.linking())
+        with_addend = [self.kinds[it] for it in ("access", "constant", "data")]
         for number, (name, found) in enumerate((("reloc.CODE", in_code), ("reloc.DATA", in_data))):
-            with_addend = (self.kinds["access"], self.kinds["constant"], self.kinds["data"])
-            words = [
-                unsigned(kind) + unsigned(at) + unsigned(symbol) + (signed(addend) if kind in with_addend else b"")
-                for at, kind, symbol, addend in found
-            ]
+            words = []
+            for at, kind, symbol, addend in found:
+                end = signed(addend) if kind in with_addend else b""
+                words.append(unsigned(kind) + unsigned(at) + unsigned(symbol) + end)
             out += section(0, text(name) + unsigned(4 + number) + rows(words))
         return out
 
@@ -232,7 +229,8 @@ class Assembler:
         symbols = [b"\0\x10" + unsigned(i) for i in range(len(self.imports))]
         symbols += [b"\0\0" + unsigned(self.indices[it.name]) + text(it.name) for it in self.functions]
         for i, it in enumerate(self.data):
-            symbols.append(b"\x01\0" + text(it.name) + unsigned(i) + unsigned(it.at) + unsigned(len(it.contents) - it.at))
+            place = unsigned(i) + unsigned(it.at) + unsigned(len(it.contents) - it.at)
+            symbols.append(b"\x01\0" + text(it.name) + place)
         symbols.append(b"\x02\x10\0")
         names = [text(f"{it.section}.{it.name}") + unsigned(it.alignment.bit_length() - 1) + b"\0" for it in self.data]
         parts = ((8, rows(symbols)), (5, rows(names)))

@@ -40,6 +40,8 @@ static struct bootswap_description description;
 static struct bootswap_manifest manifest;
 static struct bootswap_workspace workspace;
 
+#define CLEAR(it) memset(&it, 0, sizeof it)
+
 /* Four bytes at a time: each seed hashes some megabytes, and emulators are slow. */
 static uint64_t hash(uint64_t from, const void *bytes, size_t length) {
     const uint8_t *at = bytes;
@@ -53,24 +55,22 @@ static uint64_t hash(uint64_t from, const void *bytes, size_t length) {
     return from;
 }
 
-static void write_number(uint64_t number, uint32_t base) {
-    char text[21], *at = text + 20;
+static void write_number_after(const char *text, uint64_t number, uint32_t base) {
+    char digits[21], *at = digits + 20;
     *at = 0;
     do {
         *--at = "0123456789abcdef"[number % base];
         number /= base;
     } while (number != 0);
+    write_text(text);
     write_text(at);
 }
 
 static void print(const char *call, uint32_t number, uint64_t length, uint64_t hash_of_call) {
     write_text(call);
-    write_text(" ");
-    write_number(number, 10);
-    write_text(" ");
-    write_number(length, 10);
-    write_text(" ");
-    write_number(hash_of_call, 16);
+    write_number_after(" ", number, 10);
+    write_number_after(" ", length, 10);
+    write_number_after(" ", hash_of_call, 16);
     write_text("\n");
 }
 
@@ -119,7 +119,7 @@ static uint32_t choose_kind(void) {
     cuts_count = any(3) != 0 ? any(3) : 0;
     for (size_t i = 0; i < cuts_count; i++) {
         at += 1 + any(any(2) != 0 ? 4 : 60);
-        memset(&cuts[i], 0, sizeof cuts[i]);
+        CLEAR(cuts[i]);
         cuts[i].write = at;
         cuts[i].residue = any(3);
         cuts[i].pattern_length = cuts[i].residue == 2 ? any(9) : 0;
@@ -159,7 +159,7 @@ static void make_file(uint32_t image) {
     struct bootswap_image_parts parts;
     uint64_t length = 0;
     uint32_t most = setup.sectors[image] * setup.sector_size;
-    memset(&parts, 0, sizeof parts);
+    CLEAR(parts);
     most = most > MOST_FILE ? MOST_FILE : most;
     parts.header_size = (uint16_t)(32 + 4 * any(8));
     parts.version.major = (uint8_t)any(4);
@@ -170,7 +170,7 @@ static void make_file(uint32_t image) {
     choose_dependencies(&parts);
     uint32_t size = any(most > 500 ? most - 200 : 100);
     for (uint32_t i = 0; i < size; i++) body[i] = (uint8_t)any(256);
-    memset(files[image], 0, sizeof files[image]);
+    CLEAR(files[image]);
     uint32_t number = bootswap_make_image(&parts, body, size, files[image], any(20) != 0 ? MOST_FILE : any(MOST_FILE), &length);
     lengths[image] = number == BOOTSWAP_DONE ? (uint32_t)length : 0;
     print("make_image", number, length, hash(FIRST_HASH, files[image], MOST_FILE));
@@ -183,7 +183,7 @@ static void describe(uint32_t image) {
 }
 
 static void make_manifest(void) {
-    memset(&manifest, 0, sizeof manifest);
+    CLEAR(manifest);
     bootswap_state(&setup, flash, flash_length, &state);
     manifest.sequence = state.sequence + any(3) - (any(20) == 0);
     uint32_t chosen = 1 + any((1u << setup.images) - 1);
@@ -221,7 +221,7 @@ static void check_texts(void) {
     size_t own_capacity = any(10) != 0 ? sizeof own_report : any(200), table_length = result.table_length;
     if (any(10) == 0) table[any(result.table_length)] ^= 1;
     if (any(10) == 0) table_length = any(result.table_length);
-    memset(own_report, 0, sizeof own_report);
+    CLEAR(own_report);
     uint32_t number = bootswap_choose(table, table_length, own_report, own_capacity, &length);
     print("choose", number, length, hash(FIRST_HASH, own_report, sizeof own_report));
     number = bootswap_choose_in(&workspace, table, table_length, own_report, own_capacity, &length);
@@ -346,16 +346,8 @@ static void play_step(void) {
 static uint32_t start(uint32_t seed) {
     static const uint32_t sizes[] = {512, 512, 1024, 4096};
     random_state = 0x9e3779b97f4a7c15u * ((uint64_t)seed + 1);
-    memset(&setup, 0, sizeof setup);
-    memset(&result, 0, sizeof result);
-    memset(&state, 0, sizeof state);
-    memset(&description, 0, sizeof description);
-    memset(&manifest, 0, sizeof manifest);
-    memset(journal, 0, sizeof journal);
-    memset(table, 0, sizeof table);
-    memset(report, 0, sizeof report);
-    memset(lengths, 0, sizeof lengths);
-    memset(sent, 0, sizeof sent);
+    CLEAR(setup), CLEAR(result), CLEAR(state), CLEAR(description), CLEAR(manifest);
+    CLEAR(journal), CLEAR(table), CLEAR(report), CLEAR(lengths), CLEAR(sent);
     bootswap_reset(&saved);
     setup.sector_size = sizes[any(4)];
     setup.images = 1 + any(any(3) != 0 ? 3 : BOOTSWAP_MAX_IMAGES);
