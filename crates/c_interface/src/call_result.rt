@@ -13,6 +13,7 @@ use crate::texts::Lengths;
 use arrayvec::ArrayVec;
 use common::limits::{MOST_ALTERNATIVES, MOST_IMAGES};
 use machine::{Fault, UploadError};
+use reports::{Reason, Refusal, Report, ReportedImage};
 use version_order::{Dependency, Version};
 
 /// A version, `major.minor.revision+build` (MCUboot's `struct image_version`).

@@ -10,6 +10,7 @@ use chooser::choose_into;
 use common::limits::MOST_IMAGES;
 use flash_contents::Finding;
 use flash_model::{Flash, Result};
+use reports::{Report, Table};
 use sector_map::SectorMap;
 use validity::is_valid;
 

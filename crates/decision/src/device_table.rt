@@ -14,6 +14,7 @@ use common::mask::is_member;
 use flash_contents::Reading;
 use flash_model::{Flash, Result};
 use image_reading::{Desc, intact_image_into};
+use reports::{Entry, Image, Request, Table};
 use sector_map::{SectorMap, Side};
 use trailer::standing;
 

@@ -9,6 +9,7 @@ ghost use Rattle.device_texts.specs.ReplyText.{refused_fault_text, reply_text, s
 use common::limits::MOST_IMAGES;
 use common::mask::is_member;
 use machine::{Fault, Reply, UploadError};
+use reports::{Report, ReportedImage};
 use std::alloc::{AllocError, Global};
 use std::fmt;
 

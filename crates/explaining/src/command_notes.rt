@@ -16,6 +16,7 @@ use host::{Answer, Refusal, Source};
 use inputs::{BadMap, Notes};
 use inspecting::Inspection;
 use machine::{Event, Reply};
+use reports::Table;
 use sector_map::{SectorMap, Side};
 use std::alloc::Global;
 use std::io::Write;

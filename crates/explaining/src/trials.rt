@@ -2,7 +2,7 @@
 
 use crate::Result;
 use common::limits::MOST_IMAGES;
-use common::mask::{is_member};
+use common::mask::is_member;
 use device_texts::NoteList;
 use reports::Report;
 use sector_map::{SectorMap, Side};

@@ -6,6 +6,7 @@ ghost use Rattle.sector_map.specs.Map.{IsLaidOut};
 use decision::read_table;
 use flash_contents::Reading;
 use flash_model::Flash;
+use reports::Table;
 use sector_map::SectorMap;
 use set_log::{RecordKind, read_state};
 

@@ -13,11 +13,12 @@ ghost use Rattle.inspecting.specs.SlotsFound.{progress_of, progress_on};
 
 use arrayvec::ArrayVec;
 use common::limits::MOST_IMAGES;
-use common::mask::{is_member};
+use common::mask::is_member;
 use decision::{find, read_table};
 use flash_contents::{Finding, Reading};
 use flash_model::{Flash, is_erased};
 use image_reading::{Desc, ImageError, SlotError, describe_slot};
+use reports::{Report, Table};
 use sector_map::{SectorMap, Side};
 use set_log::{RecordKind, State};
 use std::alloc::{AllocError, Global};
