@@ -1,6 +1,5 @@
--- The answer of an order as JSON. A flush after the answer changes nothing.
-use Rattle.std.proofs.Common.{◌≡◌, ◌&&◌, ℕ, ◌++◌, Bool, List, [], ◌∷◌, Option, Result, IfOk, false, true}
-use Rattle.std.specs.Prelude.{MatchBool}
+-- The answer of an order. A flush after the answer changes nothing.
+use Rattle.std.proofs.Common.{◌≡◌, ℕ, List, Option, Result, IfOk}
 use Rattle.std.specs.Io.KnownBytes.{Keeps}
 use Rattle.std.proofs.KnownBytes.{Appends-kept}
 use Rattle.command_line.specs.declared.orders.Order.{Order}
@@ -24,32 +23,9 @@ use Rattle.inspecting.specs.PlanAnswers.{AnswersPlan}
 use Rattle.inspecting.specs.ReadingEnd.{AnswersReading}
 use Rattle.device_texts.specs.declared.form.Form.{Form}
 use Rattle.device_texts.specs.declared.form.Form.TheVariants as form
-use Rattle.boot_cli.specs.JsonEnd.{AnswersDevice, AnswersIn, AnswersJson, AnswersObject, WritesValue, form_of, is_codes}
+use Rattle.boot_cli.specs.JsonEnd.{AnswersDevice, AnswersOrder}
 use Rattle.boot_cli.specs.OrderEnd.{AnswersMaking, AnswersSwept}
 use Rattle.sweep.proofs.SweepEndLaws.{WritesSwept-kept}
-
-WritesValue-kept : (old mid new : Option (List ℕ)) → WritesValue old mid → Keeps mid new → WritesValue old new
-WritesValue-kept old mid new writes kept = record {
-  text = writes.text;
-  value = writes.value;
-  spelled = writes.spelled;
-  taken = Appends-kept old mid new (writes.text ++ 10 ∷ []) writes.taken kept;
-}
-
-AnswersObject-kept : (asked : ReadOrder) (input : Option (List ℕ)) (file : FileBytes) (old mid new : Option (List ℕ))
-    → AnswersObject Done asked input file old mid → Keeps mid new → AnswersObject Done asked input file old new
-AnswersObject-kept asked input file old mid new answered kept =
-    (answered.0, answered.1, WritesValue-kept old mid new answered.2 kept)
-
-pub reading-kept : (b : Bool) (asked : ReadOrder) (input : Option (List ℕ)) (file : FileBytes)
-    (old mid new : Option (List ℕ))
-    → MatchBool b (AnswersObject Done asked input file old mid) (AnswersReading form.Json Done asked input file old mid)
-    → Keeps mid new
-    → MatchBool b (AnswersObject Done asked input file old new) (AnswersReading form.Json Done asked input file old new)
-reading-kept true asked input file old mid new answered kept =
-    AnswersObject-kept asked input file old mid new answered kept
-reading-kept false asked input file old mid new answered kept =
-    AnswersReading-kept form.Json Done asked input file old mid new answered kept
 
 pub AnswersSwept-kept : (form : Form) (answer : Answer) (asked : Order) (input : Option (List ℕ)) (file then : FileBytes)
     (old mid new : Option (List ℕ)) → AnswersSwept form answer asked input file then old mid → Keeps mid new
@@ -97,89 +73,69 @@ AnswersMaking-kept (order.Extract device flash image side out) input file then o
 )
 AnswersMaking-kept asked input file then old mid new answered kept = absurd answered
 
-pub AnswersJson-kept : (asked : Order) (input : Option (List ℕ)) (file then : FileBytes)
+pub AnswersOrder-kept : (form : Form) (asked : Order) (input : Option (List ℕ)) (file then : FileBytes)
     (old mid new : Option (List ℕ))
-    → AnswersJson Done asked input file then old mid → Keeps mid new
-    → AnswersJson Done asked input file then old new
-AnswersJson-kept (order.Read asked) input file then old mid new answered kept =
-    reading-kept (is_codes asked) asked input file old mid new answered kept
-AnswersJson-kept (order.Device asked) input file then old mid new answered kept =
-    AnswersDevice-kept form.Json asked input file then old mid new answered kept
-AnswersJson-kept (order.Plan asked) input file then old mid new answered kept =
-    AnswersPlan-kept form.Json asked input file old mid new answered kept
-AnswersJson-kept (order.Sweep device script images choices) input file then old mid new answered kept =
-    AnswersSwept-kept form.Json Done (order.Sweep device script images choices) input file then old mid new answered kept
-AnswersJson-kept (order.MergeSweeps outputs picture forced) input file then old mid new answered kept =
-    AnswersSwept-kept form.Json Done (order.MergeSweeps outputs picture forced) input file then old mid new answered kept
-AnswersJson-kept asked input file then old mid new answered kept =
+    → AnswersOrder form Done asked input file then old mid → Keeps mid new
+    → AnswersOrder form Done asked input file then old new
+AnswersOrder-kept form (order.Read asked) input file then old mid new answered kept =
+    AnswersReading-kept form Done asked input file old mid new answered kept
+AnswersOrder-kept form (order.Device asked) input file then old mid new answered kept =
+    AnswersDevice-kept form asked input file then old mid new answered kept
+AnswersOrder-kept form (order.Plan asked) input file then old mid new answered kept =
+    AnswersPlan-kept form asked input file old mid new answered kept
+AnswersOrder-kept form (order.Sweep device script images choices) input file then old mid new answered kept =
+    AnswersSwept-kept form Done (order.Sweep device script images choices) input file then old mid new answered kept
+AnswersOrder-kept form (order.MergeSweeps outputs picture forced) input file then old mid new answered kept =
+    AnswersSwept-kept form Done (order.MergeSweeps outputs picture forced) input file then old mid new answered kept
+AnswersOrder-kept form asked input file then old mid new answered kept =
     AnswersMaking-kept asked input file then old mid new answered kept
 
 -- ---- the answer to an order is that of its command, in the form that is asked for
 
-pub codes-answered : (is_json : Bool) (asked : Order) (reading : ReadOrder) (result : Result Answer Refusal)
-    (input : Option (List ℕ)) (file then : FileBytes) (old new : Option (List ℕ)) → is_json ≡ true
-    → asked ≡ order.Read reading → is_codes reading ≡ true
-    → IfOk result (λ answer. AnswersObject answer reading input file old new)
-    → IfOk result (λ answer. AnswersIn is_json answer asked input file then old new)
-codes-answered is_json asked reading result input file then old new json same codes answered =
-    rw (json, same, codes) answered
+pub reading-answered : (form : Form) (asked : Order) (reading : ReadOrder) (result : Result Answer Refusal)
+    (input : Option (List ℕ)) (file then : FileBytes) (old new : Option (List ℕ)) → asked ≡ order.Read reading
+    → IfOk result (λ answer. AnswersReading form answer reading input file old new)
+    → IfOk result (λ answer. AnswersOrder form answer asked input file then old new)
+reading-answered form asked reading result input file then old new same answered = rw same answered
 
-pub reading-answered : (is_json : Bool) (asked : Order) (reading : ReadOrder) (result : Result Answer Refusal)
-    (input : Option (List ℕ)) (file then : FileBytes) (old new : Option (List ℕ))
-    → asked ≡ order.Read reading → (is_json && is_codes reading) ≡ false
-    → IfOk result (λ answer. AnswersReading (form_of is_json) answer reading input file old new)
-    → IfOk result (λ answer. AnswersIn is_json answer asked input file then old new)
-reading-answered true asked reading result input file then old new same codes answered = rw (same, codes) answered
-reading-answered false asked reading result input file then old new same codes answered = rw same answered
-
-pub device-answered : (is_json : Bool) (asked : Order) (ordered : DeviceOrder) (result : Result Answer Refusal)
+pub device-answered : (form : Form) (asked : Order) (ordered : DeviceOrder) (result : Result Answer Refusal)
     (input : Option (List ℕ)) (file then : FileBytes) (old new : Option (List ℕ)) → asked ≡ order.Device ordered
-    → IfOk result (λ answer. AnswersDevice (form_of is_json) answer ordered input file then old new)
-    → IfOk result (λ answer. AnswersIn is_json answer asked input file then old new)
-device-answered true asked ordered result input file then old new same answered = rw same answered
-device-answered false asked ordered result input file then old new same answered = rw same answered
+    → IfOk result (λ answer. AnswersDevice form answer ordered input file then old new)
+    → IfOk result (λ answer. AnswersOrder form answer asked input file then old new)
+device-answered form asked ordered result input file then old new same answered = rw same answered
 
-pub plan-answered : (is_json : Bool) (asked : Order) (ordered : PlanOrder) (result : Result Answer Refusal)
+pub plan-answered : (form : Form) (asked : Order) (ordered : PlanOrder) (result : Result Answer Refusal)
     (input : Option (List ℕ)) (file then : FileBytes) (old new : Option (List ℕ)) → asked ≡ order.Plan ordered
-    → IfOk result (λ answer. AnswersPlan (form_of is_json) answer ordered input file old new)
-    → IfOk result (λ answer. AnswersIn is_json answer asked input file then old new)
-plan-answered true asked ordered result input file then old new same answered = rw same answered
-plan-answered false asked ordered result input file then old new same answered = rw same answered
+    → IfOk result (λ answer. AnswersPlan form answer ordered input file old new)
+    → IfOk result (λ answer. AnswersOrder form answer asked input file then old new)
+plan-answered form asked ordered result input file then old new same answered = rw same answered
 
-swept-answer : (is_json : Bool) (answer : Answer) (asked : Order) (input : Option (List ℕ)) (file then : FileBytes)
-    (old new : Option (List ℕ)) → AnswersSwept (form_of is_json) answer asked input file then old new
-    → AnswersIn is_json answer asked input file then old new
-swept-answer true answer (order.Sweep device script images choices) input file then old new swept = swept
-swept-answer true answer (order.MergeSweeps outputs picture forced) input file then old new swept = swept
-swept-answer true answer asked input file then old new swept = absurd swept
-swept-answer false answer (order.Sweep device script images choices) input file then old new swept = swept
-swept-answer false answer (order.MergeSweeps outputs picture forced) input file then old new swept = swept
-swept-answer false answer asked input file then old new swept = absurd swept
+swept-answer : (form : Form) (answer : Answer) (asked : Order) (input : Option (List ℕ)) (file then : FileBytes)
+    (old new : Option (List ℕ)) → AnswersSwept form answer asked input file then old new
+    → AnswersOrder form answer asked input file then old new
+swept-answer form answer (order.Sweep device script images choices) input file then old new swept = swept
+swept-answer form answer (order.MergeSweeps outputs picture forced) input file then old new swept = swept
+swept-answer form answer asked input file then old new swept = absurd swept
 
-pub swept-answered : (is_json : Bool) (asked : Order) (result : Result Answer Refusal) (input : Option (List ℕ))
+pub swept-answered : (form : Form) (asked : Order) (result : Result Answer Refusal) (input : Option (List ℕ))
     (file then : FileBytes) (old new : Option (List ℕ))
-    → IfOk result (λ answer. AnswersSwept (form_of is_json) answer asked input file then old new)
-    → IfOk result (λ answer. AnswersIn is_json answer asked input file then old new)
-swept-answered is_json asked result input file then old new = IfOk-weaker result _ _
-    (λ answer swept. swept-answer is_json answer asked input file then old new swept)
+    → IfOk result (λ answer. AnswersSwept form answer asked input file then old new)
+    → IfOk result (λ answer. AnswersOrder form answer asked input file then old new)
+swept-answered form asked result input file then old new = IfOk-weaker result _ _
+    (λ answer swept. swept-answer form answer asked input file then old new swept)
 
-making-answer : (is_json : Bool) (answer : Answer) (asked : Order) (input : Option (List ℕ)) (file then : FileBytes)
+making-answer : (form : Form) (answer : Answer) (asked : Order) (input : Option (List ℕ)) (file then : FileBytes)
     (old new : Option (List ℕ)) → AnswersMaking answer asked input file then old new
-    → AnswersIn is_json answer asked input file then old new
-making-answer true answer (order.MakeDevice device) input file then old new made = made
-making-answer true answer (order.MakeImage image body values) input file then old new made = made
-making-answer true answer (order.MakeManifest device manifest) input file then old new made = made
-making-answer true answer (order.Extract device flash image side out) input file then old new made = made
-making-answer true answer asked input file then old new made = absurd made
-making-answer false answer (order.MakeDevice device) input file then old new made = made
-making-answer false answer (order.MakeImage image body values) input file then old new made = made
-making-answer false answer (order.MakeManifest device manifest) input file then old new made = made
-making-answer false answer (order.Extract device flash image side out) input file then old new made = made
-making-answer false answer asked input file then old new made = absurd made
+    → AnswersOrder form answer asked input file then old new
+making-answer form answer (order.MakeDevice device) input file then old new made = made
+making-answer form answer (order.MakeImage image body values) input file then old new made = made
+making-answer form answer (order.MakeManifest device manifest) input file then old new made = made
+making-answer form answer (order.Extract device flash image side out) input file then old new made = made
+making-answer form answer asked input file then old new made = absurd made
 
-pub making-answered : (is_json : Bool) (asked : Order) (result : Result Answer Refusal) (input : Option (List ℕ))
+pub making-answered : (form : Form) (asked : Order) (result : Result Answer Refusal) (input : Option (List ℕ))
     (file then : FileBytes) (old new : Option (List ℕ))
     → IfOk result (λ answer. AnswersMaking answer asked input file then old new)
-    → IfOk result (λ answer. AnswersIn is_json answer asked input file then old new)
-making-answered is_json asked result input file then old new = IfOk-weaker result _ _
-    (λ answer made. making-answer is_json answer asked input file then old new made)
+    → IfOk result (λ answer. AnswersOrder form answer asked input file then old new)
+making-answered form asked result input file then old new = IfOk-weaker result _ _
+    (λ answer made. making-answer form answer asked input file then old new made)

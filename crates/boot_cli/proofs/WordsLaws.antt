@@ -12,7 +12,7 @@ use Rattle.host.specs.declared.answer.Answer.TheVariants.{Done}
 use Rattle.host.specs.Input.{FileBytes}
 use Rattle.device_commands.proofs.WordsLaws.{EndsWith-error, EndsWith-order, misuse_helps_none}
 use Rattle.command_line.specs.Given.{is_json}
-use Rattle.boot_cli.specs.JsonEnd.{AnswersIn}
+use Rattle.boot_cli.specs.JsonEnd.{AnswersOrder, form_of}
 use Rattle.boot_cli.specs.WordsEnd.{AskFor, EndsByCut, EndsProgram}
 
 -- A fault that the program itself finds isn't a request for help.
@@ -45,7 +45,7 @@ EndsProgram-error words error status Uses input file old new refusal ends =
 pub EndsProgram-order : (words : List Text) (asked : Order) (wanted : Bool) (status : ℕ) (Uses : Order → Type 0)
     (input : Option (List ℕ)) (file after : FileBytes) (old new : Option (List ℕ)) → AskFor words asked
     → wanted ≡ is_json words
-    → (status ≡ 0 → AnswersIn wanted Done asked input file after old new) → status ≢ 2
+    → (status ≡ 0 → AnswersOrder (form_of wanted) Done asked input file after old new) → status ≢ 2
     → (status ≡ 3 → EndsByCut wanted asked input file after old new) → (status ≡ 0 → Uses asked)
     → EndsProgram words status Uses input file after old new
 EndsProgram-order words asked wanted status Uses input file after old new asks same answered other ends used =

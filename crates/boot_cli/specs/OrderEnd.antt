@@ -1,4 +1,4 @@
--- The answer to an order, and which files a sweep keeps.
+-- The answers of sweeps and of commands that make a file, and which files a sweep keeps.
 use Rattle.std.specs.Prelude.{ℕ, Bool, List, Option}
 use Rattle.command_line.specs.declared.orders.Order.{Order}
 use Rattle.command_line.specs.declared.orders.Order.TheVariants as order
@@ -11,11 +11,7 @@ use Rattle.creating.specs.NewDeviceEnd.{AnswersNewDevice}
 use Rattle.creating.specs.NewFileEnd.{Replaces}
 use Rattle.creating.specs.NewImageEnd.{AnswersNewImage}
 use Rattle.creating.specs.NewManifestEnd.{AnswersNewManifest}
-use Rattle.inspecting.specs.PlanAnswers.{AnswersPlan}
-use Rattle.inspecting.specs.ReadingEnd.{AnswersReading}
 use Rattle.device_texts.specs.declared.form.Form.{Form}
-use Rattle.device_texts.specs.declared.form.Form.TheVariants as form
-use Rattle.device_commands.specs.CoreEnd.{AnswersCore}
 use Rattle.device_commands.specs.CoreEnd as core
 use Rattle.sweep.specs.SweepEnd.{AnswersMerge, AnswersSweep, KeepsInputs, KeepsOutputs}
 
@@ -47,22 +43,6 @@ AnswersMaking answer (order.Extract device flash image side out) input file then
     × AnswersCopy answer one other image side input file (then out.name.now) old new
     × Replaces answer out file
 AnswersMaking answer asked input file then old new = ⊥
-
--- The answer to an order as a text. The files hold `then` after it.
-abbrev pub AnswersOrder : Answer → Order → Option (List ℕ) → FileBytes → FileBytes
-    → Option (List ℕ) → Option (List ℕ) → Type 0
-AnswersOrder answer (order.Sweep device script images choices) input file then old new =
-    AnswersSwept form.Text answer (order.Sweep device script images choices) input file then old new
-AnswersOrder answer (order.MergeSweeps outputs picture forced) input file then old new =
-    AnswersSwept form.Text answer (order.MergeSweeps outputs picture forced) input file then old new
-AnswersOrder answer (order.Device asked) input file then old new =
-    AnswersCore form.Text answer asked input file then old new
-AnswersOrder answer (order.Plan asked) input file then old new =
-    AnswersPlan form.Text answer asked input file old new
-AnswersOrder answer (order.Read asked) input file then old new =
-    AnswersReading form.Text answer asked input file old new
-AnswersOrder answer asked input file then old new =
-    AnswersMaking answer asked input file then old new
 
 -- `sweep` keeps what it reads, also with `--merge`, whatever its answer. Other orders promise
 -- nothing here.

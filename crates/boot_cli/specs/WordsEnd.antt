@@ -10,7 +10,7 @@ use Rattle.command_line.specs.declared.read_orders.ReadOrder.TheVariants as read
 use Rattle.host.specs.declared.answer.Answer.TheVariants.{Done}
 use Rattle.host.specs.Input.{FileBytes}
 use Rattle.device_commands.specs.WordsEnd.{EndsWith, IsCutAnswer}
-use Rattle.boot_cli.specs.JsonEnd.{AnswersIn}
+use Rattle.boot_cli.specs.JsonEnd.{AnswersOrder, form_of}
 
 -- The order is `choose` on standard input.
 abbrev pub IsInputChoice : Order → Type 0
@@ -27,7 +27,7 @@ pub data AskFor (words : List Text) (order : Order) : Type 0 where
 abbrev pub EndsByCut : Bool → Order → Option (List ℕ) → FileBytes → FileBytes
     → Option (List ℕ) → Option (List ℕ) → Type 0
 EndsByCut is_json asked input file then old new = IsCutAnswer
-    (λ answer written. AnswersIn is_json answer asked input file then old written) new
+    (λ answer written. AnswersOrder (form_of is_json) answer asked input file then old written) new
 
 -- What the exit status says about the arguments. The answer is JSON if they have `--json`. An order
 -- that is done used its flash so.
@@ -35,5 +35,5 @@ abbrev pub EndsProgram : List Text → ℕ → (Order → Type 0) → Option (Li
     → FileBytes → Option (List ℕ) → Option (List ℕ) → Type 0
 EndsProgram words status Uses input file then old new =
     EndsWith words (AskFor words) (IsFault words)
-    (λ asked. AnswersIn (is_json words) Done asked input file then old new × Uses asked)
+    (λ asked. AnswersOrder (form_of (is_json words)) Done asked input file then old new × Uses asked)
     (λ asked. EndsByCut (is_json words) asked input file then old new) status file then

@@ -1,7 +1,7 @@
 //! Runs the command of an order, and writes its answer in the form that is asked for.
 ghost use Rattle.std.specs.Io.KnownBytes.{Appends};
 ghost use Rattle.std.specs.Prelude.{◌≡◌, IfOk, List, ℕ, OnOk, map};
-ghost use Rattle.boot_cli.specs.JsonEnd.{AnswersDevice, AnswersIn, AnswersObject, form_of};
+ghost use Rattle.boot_cli.specs.JsonEnd.{AnswersDevice, AnswersOrder, form_of};
 ghost use Rattle.boot_cli.specs.OrderEnd.{KeepsSwept, UsesFlash};
 ghost use Rattle.device_commands.specs.CoreEnd as core;
 ghost use Rattle.device_texts.specs.declared.form.Form.TheVariants as form;
@@ -10,7 +10,6 @@ ghost use Rattle.inspecting.specs.PlanAnswers.{AnswersPlan};
 ghost use Rattle.inspecting.specs.ReadingEnd.{AnswersReading};
 ghost use Rattle.sweep.specs.SweepEnd.{AnswersMerge, AnswersSweep, KeepsInputs, KeepsOutputs};
 
-use crate::codes::{is_codes, write_codes};
 use crate::making::run_making;
 use command_line::{DeviceOrder, Order, PlanOrder, ReadOrder, Request};
 use device_commands::run_device_order;
@@ -18,7 +17,7 @@ use device_texts::json::last_notes;
 use device_texts::{Form, NoteList, write_all};
 use explaining::{CommandNotes, DeviceNotes, WrittenNotes};
 use host::{Answer, Host, Refusal};
-use inspecting::{NoPlanNotes, inspect, run_inspection, run_plan, write_inspection};
+use inspecting::{NoPlanNotes, inspect, run_plan, write_inspection};
 use std::alloc::Global;
 use std::io::Write;
 use sweep::{SweepOrder, merge_outputs, run_sweep, write_swept};
@@ -37,8 +36,8 @@ pub fn answer_request<H: Host, O: Write, E: Write>(
     err: &mut E,
     notes: &mut CommandNotes,
 ) -> Result<Answer, Refusal>
-    ensures answers { IfOk result (λ answer. AnswersIn request.now.is_json answer request.now.order
-        (H.input host.old) (H.file host.old) (H.file host.new)
+    ensures answers { IfOk result (λ answer. AnswersOrder (form_of request.now.is_json) answer
+        request.now.order (H.input host.old) (H.file host.old) (H.file host.new)
         (O.contents out.old) (O.contents out.new)) }
     ensures swept { KeepsSwept request.now.order (H.file host.old) (H.file host.new) }
     ensures used { IfOk result (λ answer. answer ≡ Answer.Done
@@ -46,9 +45,6 @@ pub fn answer_request<H: Host, O: Write, E: Write>(
 {
     let form = form_of(request.is_json);
     match request.order {
-        Order::Read(order) if request.is_json && is_codes(order) => {
-            answer_codes(alloc, order, host, out)
-        }
         Order::Read(order) => answer_reading(alloc, form, order, host, out, notes),
         Order::Device(ref order) => answer_device(alloc, form, order, host, out, err, notes),
         Order::Plan(ref order) => answer_plan(alloc, form, order, host, out, err, notes),
@@ -236,26 +232,4 @@ fn answer_merge<H: Host, O: Write>(
 {
     let swept = merge_outputs(alloc, outputs, picture, is_forced, host)?;
     write_swept(alloc, form, &NoteList::new(alloc), &swept, out)
-}
-
-/// Lists the codes, and writes the object of the list to `out`.
-fn answer_codes<H: Host, O: Write>(
-    alloc: Global,
-    order: ReadOrder<'_>,
-    host: &mut H,
-    out: &mut O,
-) -> Result<Answer, Refusal>
-    ensures { IfOk result (λ answer. AnswersObject answer order.entry
-        (H.input host.old) (H.file host.old) (O.contents out.old) (O.contents out.new)) }
-{
-    let mut text = Vec::new(alloc);
-    match run_inspection(alloc, order, host, &mut text) {
-        Ok(answer) => {
-            write_codes(alloc, &text, out)?;
-            Ok(answer)
-        }
-        // A write to memory fails only if memory runs out.
-        Err(Refusal::CannotWrite) => Err(Refusal::NoMemory),
-        Err(refusal) => Err(refusal),
-    }
 }

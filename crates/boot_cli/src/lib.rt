@@ -14,8 +14,6 @@
 #![tactic(auto)]
 
 mod answering;
-mod code_list;
-mod codes;
 mod ending;
 mod error_members;
 mod hint;

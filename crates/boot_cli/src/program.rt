@@ -1,6 +1,6 @@
 //! Runs the order that the arguments give, and returns the exit status.
 ghost use Rattle.std.specs.Prelude.{◌≡◌, ◌≢◌, map};
-ghost use Rattle.boot_cli.specs.JsonEnd.{AnswersIn};
+ghost use Rattle.boot_cli.specs.JsonEnd.{AnswersOrder, form_of};
 ghost use Rattle.boot_cli.specs.OrderEnd.{KeepsSwept, UsesFlash};
 ghost use Rattle.boot_cli.specs.WordsEnd.{EndsByCut, EndsProgram};
 
@@ -62,8 +62,8 @@ pub fn run_order<H: Host, O: Write, E: Write>(
     out: &mut O,
     err: &mut E,
 ) -> u8
-    ensures done { result ≡ 0 → AnswersIn request.entry.is_json Answer.Done request.entry.order
-        (H.input host.old) (H.file host.old) (H.file host.new)
+    ensures done { result ≡ 0 → AnswersOrder (form_of request.entry.is_json) Answer.Done
+        request.entry.order (H.input host.old) (H.file host.old) (H.file host.new)
         (O.contents out.old) (O.contents out.new) }
     ensures cut { result ≡ 3 → EndsByCut request.entry.is_json request.entry.order
         (H.input host.old) (H.file host.old) (H.file host.new)

@@ -1,4 +1,5 @@
 pub mod Aliases
+pub mod CodeListLaws
 pub mod Folds
 pub mod Names
 pub mod OrderLaws

@@ -1,3 +1,4 @@
+pub mod CodeList
 pub mod Codes
 pub mod Commands
 pub mod DeviceOrders

@@ -7,6 +7,7 @@ ghost use Rattle.command_line.specs.Commands.{shape_for, with_command};
 ghost use Rattle.command_line.specs.Given.{Finds};
 
 use crate::arguments::{Argument, with_arguments};
+use crate::codes::INTRODUCTION;
 use crate::help::Help;
 use crate::{argument_help, help, table_help};
 use clap::Command;
@@ -380,13 +381,13 @@ pub const VERSION: &str = "2.0.0";
 /// the blank if the crates differ from the commit. So this text must occur nowhere else.
 const VERSION_AND_COMMIT: &str = "2.0.0 (000000000000)";
 
-/// Returns the program with its subcommands.
-pub fn bootswap<'a>(alloc: Global) -> Result<Command<'a>, AllocError>
+/// Returns the program with its subcommands. `list` is the long help of `codes`.
+pub fn bootswap<'a>(alloc: Global, list: &'a str) -> Result<Command<'a>, AllocError>
     ensures { IfOk result (λ command. app_of command ≡ bootswap) }
 {
     let mut program = program(alloc)?;
     for subcommand in &SUBCOMMANDS {
-        program = with_command(alloc, program, *subcommand)?;
+        program = with_command(alloc, program, *subcommand, list)?;
     }
     Ok(program)
 }
@@ -395,7 +396,8 @@ pub fn bootswap<'a>(alloc: Global) -> Result<Command<'a>, AllocError>
 fn program<'a>(alloc: Global) -> Result<Command<'a>, AllocError>
     ensures { IfOk result (λ command. app_of command ≡ program) }
 {
-    let command = new_command(alloc, "bootswap", help::PROGRAM)
+    let long_about: &'a str = help::PROGRAM.long_about;
+    let command = new_command(alloc, "bootswap", help::PROGRAM, long_about)
         .version(VERSION_AND_COMMIT)
         .subcommand_required(true);
     command.bin_name("bootswap")
@@ -406,10 +408,11 @@ fn with_command<'a>(
     alloc: Global,
     program: Command<'a>,
     subcommand: Subcommand,
+    list: &'a str,
 ) -> Result<Command<'a>, AllocError>
     ensures { IfOk result (λ more. app_of more ≡ with_command (app_of program.entry) subcommand) }
 {
-    program.subcommand(subcommand.command(alloc)?)
+    program.subcommand(subcommand.command(alloc, list)?)
 }
 
 impl Subcommand {
@@ -425,19 +428,21 @@ impl Subcommand {
         None
     }
 
-    /// Returns the subcommand as `clap` defines it.
-    pub(crate) fn command<'a>(self, alloc: Global) -> Result<Command<'a>, AllocError>
+    /// Returns the subcommand as `clap` defines it. `list` is the long help of `codes`.
+    pub(crate) fn command<'a>(self, alloc: Global, list: &'a str) -> Result<Command<'a>, AllocError>
         ensures { IfOk result (λ command. shape_of command ≡ shape_for self) }
     {
         let definition = self.definition();
         let name: &'a str = definition.name;
-        let command = new_command(alloc, name, self.help());
+        let command = new_command(alloc, name, self.help(), self.long_about(list));
         with_arguments(alloc, command, definition.arguments)
     }
 
-    /// Returns the subcommand as `clap` defines it, with its name in its usage line.
+    /// Returns the subcommand for an error, with its name in its usage line. The help of `codes` has no
+    /// list.
     pub(crate) fn named_command<'a>(self, alloc: Global) -> Result<Command<'a>, AllocError> {
-        self.command(alloc)?.bin_name(self.usage_name())
+        self.command(alloc, INTRODUCTION)?
+            .bin_name(self.usage_name())
     }
 
     /// Returns its definition.
@@ -485,6 +490,15 @@ impl Subcommand {
         }
     }
 
+    /// Returns its long help: its purpose, and the form of its files and its answer. That of `codes` is
+    /// `list`.
+    pub fn long_about<'a>(self, list: &'a str) -> &'a str {
+        match self {
+            Subcommand::Codes => list,
+            _ => self.help().long_about,
+        }
+    }
+
     /// Returns its name.
     pub fn name(self) -> &'static str
         ensures { result.now ≡ name_for self }
@@ -504,13 +518,13 @@ impl Subcommand {
 }
 
 /// Returns a command with its help and without arguments.
-fn new_command<'a>(alloc: Global, name: &'a str, help: &Help) -> Command<'a>
+fn new_command<'a>(alloc: Global, name: &'a str, help: &Help, long_about: &'a str) -> Command<'a>
     ensures { app_of result ≡ new_app name.entry.now }
 {
     Command::new(alloc, name)
         .override_usage(help.usage)
         .about(help.about)
-        .long_about(help.long_about)
+        .long_about(long_about)
         .after_help(help.after)
         .after_long_help(help.long_after)
 }

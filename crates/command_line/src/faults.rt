@@ -6,6 +6,7 @@ ghost use Rattle.clap.specs.declared.error.kind.ErrorKind.TheVariants.{InvalidVa
 ghost use Rattle.command_line.specs.Faults.{IsTold, IsUsage};
 ghost use Rattle.command_line.specs.Given.{misuse_kind};
 
+use crate::codes::INTRODUCTION;
 use crate::commands::Subcommand;
 use crate::error::OrderError;
 use crate::matching::matches_of;
@@ -44,7 +45,7 @@ pub fn no_text(alloc: Global) -> OrderError
 pub fn program_error(alloc: Global, kind: ErrorKind, text: &str) -> Result<Error, AllocError>
     ensures { IfOk result (λ error. kind_of error ≡ kind) }
 {
-    error_of(commands::bootswap(alloc), kind, text)
+    error_of(commands::bootswap(alloc, INTRODUCTION), kind, text)
 }
 
 /// Returns a fault in the arguments of a subcommand, with this text.

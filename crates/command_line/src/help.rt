@@ -1,6 +1,6 @@
 //! The help texts of the program and its commands. No line is longer than 80 columns.
 
-use crate::codes::REFUSALS;
+use crate::codes::INTRODUCTION;
 
 /// The help texts of a command.
 #[derive(Clone, Copy)]
@@ -652,7 +652,7 @@ Examples:
 pub const CODES: &Help = &Help {
     usage: "bootswap codes [OPTIONS]",
     about: "List the codes and names of refusals",
-    long_about: REFUSALS,
+    long_about: INTRODUCTION,
     after: "Exit status: 0 done, 1 the list could not be written, 2 usage error.
 Example: bootswap codes",
     long_after: "Exit status:

@@ -13,6 +13,7 @@
 
 mod argument_help;
 mod arguments;
+mod code_text;
 mod codes;
 mod commands;
 mod device_orders;
@@ -29,7 +30,8 @@ mod table_help;
 
 pub use argument_help::OptionHelp;
 pub use arguments::Argument;
-pub use codes::REFUSALS;
+pub use code_text::{code_list_text, meaning_text};
+pub use codes::{Code, CodeGroup, code_groups};
 pub use commands::{SUBCOMMANDS, Subcommand, VERSION, named};
 pub use device_orders::{DeviceOrder, DeviceRequest, device_request, provision_in, run_in};
 pub use error::OrderError;

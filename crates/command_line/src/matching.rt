@@ -6,7 +6,10 @@ ghost use Rattle.clap.specs.Words.{rows_of, subcommand_of, subcommand_rows_of};
 ghost use Rattle.command_line.specs.Commands.{bootswap};
 ghost use Rattle.command_line.specs.Given.{HasImages, has_explain, has_json, is_given};
 
+use crate::code_text::code_list_text;
+use crate::codes::{INTRODUCTION, code_groups};
 use crate::commands::{bootswap, named};
+use clap::error::ErrorKind;
 use clap::{ArgMatches, Error};
 use std::alloc::{AllocError, Global};
 use std::convert::AsStr;
@@ -23,7 +26,50 @@ pub fn matches_of<'a, S: AsStr>(alloc: Global, words: &'a [S]) -> Result<ArgMatc
     ensures taken { IfOk result (λ _. fault_of bootswap (map S.text words.entry.now) ≡ []) }
     ensures refused { IfErr result (HasKind (fault_of bootswap (map S.text words.entry.now))) }
 {
-    bootswap(alloc)?.try_get_matches_from(words)
+    match parsed(alloc, words, INTRODUCTION) {
+        Ok(matches) => Ok(matches),
+        Err(answer) => Err(complete(alloc, words, answer)),
+    }
+}
+
+/// Returns the matches of `clap` for these arguments. `list` is the long help of `codes`.
+fn parsed<'a, S: AsStr>(
+    alloc: Global,
+    words: &'a [S],
+    list: &'a str,
+) -> Result<ArgMatches<'a>, Error>
+    ensures found { IfOk result (λ matches. subcommand_rows_of matches
+        ≡ subcommand_of bootswap (map S.text words.entry.now)) }
+    ensures taken { IfOk result (λ _. fault_of bootswap (map S.text words.entry.now) ≡ []) }
+    ensures refused { IfErr result (HasKind (fault_of bootswap (map S.text words.entry.now))) }
+{
+    bootswap(alloc, list)?.try_get_matches_from(words)
+}
+
+/// Returns the answer of `clap` to arguments that it refuses. If it is help, that of `codes` has the
+/// list, which is made in memory of `alloc` only for it.
+fn complete<S: AsStr>(alloc: Global, words: &[S], answer: Error) -> Error
+    requires { HasKind (fault_of bootswap (map S.text words.now)) answer }
+    ensures { HasKind (fault_of bootswap (map S.text words.now)) result }
+{
+    if !matches!(answer.kind(), ErrorKind::DisplayHelp) {
+        return answer;
+    }
+    match listing_help(alloc, words) {
+        Ok(()) => answer,
+        Err(help) => help,
+    }
+}
+
+/// Fails with the help that these arguments ask for. That of `codes` has the list.
+fn listing_help<S: AsStr>(alloc: Global, words: &[S]) -> Result<(), Error>
+    ensures { IfErr result (HasKind (fault_of bootswap (map S.text words.now))) }
+{
+    let list = code_list_text(alloc, &code_groups())?;
+    match parsed(alloc, words, list.as_str()) {
+        Ok(_) => Ok(()),
+        Err(help) => Err(help),
+    }
 }
 
 /// Returns the subcommand that was named, with its matches.

@@ -35,7 +35,7 @@ pub fn explain_inspection(notes: &mut NoteList, alloc: Global, found: &Inspectio
         | Inspection::Image(_)
         | Inspection::Manifest(_)
         | Inspection::State(_)
-        | Inspection::Codes => Ok(()),
+        | Inspection::Codes(_) => Ok(()),
     }
 }
 

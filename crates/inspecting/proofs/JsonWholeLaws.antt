@@ -5,6 +5,7 @@ use Rattle.std.specs.Prelude.{if◌then◌else◌}
 use Rattle.serde_json.specs.Data.{Data, Members, no_members, object}
 use Rattle.reports.specs.declared.report.Reason.{Reason}
 use Rattle.reports.specs.declared.report.Reason.TheVariants as reason
+use Rattle.command_line.specs.CodeList.{Entry, Group, group_of}
 use Rattle.image_reading.specs.declared.desc.Desc.{Desc}
 use Rattle.machine.specs.declared.error.Fault.TheVariants as fault
 use Rattle.manifest.specs.declared.manifest.Component.{Component}
@@ -98,6 +99,18 @@ slots-whole slots ms all =
     (with_some-whole _ _ _ (flat_map-whole (λ it. moved_json it.image it.moved) slots.images.items
     (λ it. moved-whole it.image it.moved)) (decision-whole slots.decision ms all)))
 
+name-whole : (code : Option ℕ) (name : List ℕ) (ms : Members) → AreWhole ms → AreWhole (json.with_name code name ms)
+name-whole None name ms all = text-whole _ name ms all
+name-whole (Some code) name ms all = code-whole code name ms all
+
+entry-whole : (entry : Entry) → IsWhole (json.entry_json entry)
+entry-whole entry = (name-whole entry.code entry.name _ (text-whole _ _ no_members nothing-whole)).none
+
+codes-whole : (group : Group) → IsWhole (json.group_json group)
+codes-whole group =
+    (text-whole _ group.title _
+    (with_some-whole _ _ no_members (map-whole json.entry_json group.entries entry-whole) nothing-whole)).none
+
 members-whole : (it : Inspection) → AreWhole (members_of it)
 members-whole (found.Choice choice) = report-whole choice.report no_members nothing-whole
 members-whole (found.Verdict verdict) = member-whole _ _ no_members refl nothing-whole
@@ -111,7 +124,8 @@ members-whole (found.RefusedMap refused) = refused-whole _ (layer-whole _ _ _ no
 members-whole (found.State state) = state-whole state no_members nothing-whole
 members-whole found.NoState = refused-whole _ (fault-whole fault.NotProvisioned)
 members-whole (found.Slots state slots) = state-whole state _ (slots-whole slots no_members nothing-whole)
-members-whole found.Codes = nothing-whole
+members-whole (found.Codes list) =
+    with_some-whole _ _ no_members (map-whole json.group_json (map group_of list.groups) codes-whole) nothing-whole
 
 -- The object with its notes.
 pub noted-whole : (notes : List (List ℕ)) (it : Inspection) → IsWhole (object (with_notes notes (members_of it)))

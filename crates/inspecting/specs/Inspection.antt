@@ -1,12 +1,12 @@
 -- What a read-only command finds in its inputs, its answer, and the two forms in which it is written.
-use Rattle.std.specs.Prelude.{◌≡◌, ℕ, List, ◌++◌, Option, Result, Ok, Err, codes, if◌then◌else◌}
+use Rattle.std.specs.Prelude.{◌≡◌, ℕ, List, ◌++◌, Option, Result, Ok, Err, codes, if◌then◌else◌, map}
 use Rattle.std.specs.Io.KnownBytes.{Appends, Keeps}
 use Rattle.serde_json.specs.Data.{Data, Members, boolean, no_members, object}
 use Rattle.device_texts.specs.AnswerText.{map_refusal_text}
 use Rattle.device_texts.specs.Json.{code_json, fault_json, json_line, map_json, with_member, with_notes, with_refused, with_report}
 use Rattle.device_texts.specs.ReplyText.{refused_fault_text}
 use Rattle.reports.specs.ReportText.{report_text}
-use Rattle.command_line.specs.declared.codes.TheConstants.{REFUSALS}
+use Rattle.command_line.specs.CodeList.{group_of, list_text}
 use Rattle.host.specs.declared.answer.Answer.{Answer}
 use Rattle.host.specs.declared.answer.Answer.TheVariants.{Done, Refused}
 use Rattle.host.specs.declared.error.Refusal.{Refusal}
@@ -16,7 +16,7 @@ use Rattle.machine.specs.declared.error.Fault.TheVariants.{NotProvisioned}
 use Rattle.manifest.specs.Codes as manifest
 use Rattle.inspecting.specs.Check.{verdict_text}
 use Rattle.inspecting.specs.ImageText as image_text
-use Rattle.inspecting.specs.Json.{with_description, with_manifest, with_slots, with_state}
+use Rattle.inspecting.specs.Json.{with_codes, with_description, with_manifest, with_slots, with_state}
 use Rattle.inspecting.specs.ManifestText as manifest_text
 use Rattle.inspecting.specs.Slots.{answer_to}
 use Rattle.inspecting.specs.SlotsText.{found_text}
@@ -39,7 +39,7 @@ answer_of (found.RefusedMap refused) = Refused
 answer_of (found.State state) = Done
 answer_of found.NoState = Refused
 answer_of (found.Slots state slots) = answer_to slots.decision
-answer_of found.Codes = Done
+answer_of (found.Codes list) = Done
 
 -- The text.
 abbrev pub text_of : Inspection → List ℕ
@@ -53,10 +53,9 @@ text_of (found.RefusedMap refused) = map_refusal_text refused.fault
 text_of (found.State state) = state_text state
 text_of found.NoState = refused_fault_text NotProvisioned
 text_of (found.Slots state slots) = state_text state ++ found_text slots
-text_of found.Codes = REFUSALS.now
+text_of (found.Codes list) = list_text (map group_of list.groups)
 
--- The members of the object. That of the list of codes is made of its text, and nothing is said of it
--- here.
+-- The members of the object.
 abbrev pub members_of : Inspection → Members
 members_of (found.Choice choice) = with_report choice.report no_members
 members_of (found.Verdict verdict) =
@@ -71,7 +70,7 @@ members_of (found.RefusedMap refused) = with_refused (map_json refused.fault) no
 members_of (found.State state) = with_state state no_members
 members_of found.NoState = with_refused (fault_json NotProvisioned) no_members
 members_of (found.Slots state slots) = with_state state (with_slots slots no_members)
-members_of found.Codes = no_members
+members_of (found.Codes list) = with_codes (map group_of list.groups) no_members
 
 -- The object.
 abbrev pub json_of : Inspection → Data

@@ -1,6 +1,7 @@
 -- The JSON of what a read-only command finds: a field a line, as docs/JSON.md lists them.
 use Rattle.std.specs.Prelude.{ℕ, ◌==◌, true, List, [], ◌∷◌, map, Option, None, Some, codes, if◌then◌else◌}
 use Rattle.std.specs.List.{flat_map}
+use Rattle.command_line.specs.CodeList.{Entry, Group, meaning_text}
 use Rattle.hex.specs.Hex.{encode_lower}
 use Rattle.serde_json.specs.Data.{Data, Members, array, boolean, no_members, object, string}
 use Rattle.serde_json.specs.View.{items_of}
@@ -12,7 +13,8 @@ use Rattle.manifest.specs.Component.{kind_text}
 use Rattle.manifest.specs.declared.manifest.Component.{Component}
 use Rattle.manifest.specs.declared.manifest.Manifest.{Manifest}
 use Rattle.machine.specs.declared.error.Fault.TheVariants as fault
-use Rattle.device_texts.specs.Json.{dependency_json, fault_json, group_json, number_json, set_numbers, with_code, with_image, with_member, with_refused, with_report, with_some}
+use Rattle.device_texts.specs.Json as texts
+use Rattle.device_texts.specs.Json.{dependency_json, fault_json, number_json, set_numbers, with_code, with_image, with_member, with_refused, with_report, with_some}
 use Rattle.inspecting.specs.StateText as state
 use Rattle.inspecting.specs.SlotsText as slots
 use Rattle.inspecting.specs.declared.flash_state.FlashState.{FlashState}
@@ -25,6 +27,27 @@ use Rattle.inspecting.specs.declared.slots_found.SlotContent.{SlotContent}
 use Rattle.inspecting.specs.declared.slots_found.SlotContent.TheVariants as content
 use Rattle.inspecting.specs.declared.slots_found.SlotsFound.{SlotsFound}
 
+-- The name of a reason, or a code with its name.
+abbrev pub with_name : Option ℕ → List ℕ → Members → Members
+with_name None name members = with_member (codes "reason") (string name) members
+with_name (Some code) name members = with_code code name members
+
+-- A code or a reason, with its meaning in one line.
+abbrev pub entry_json : Entry → Data
+entry_json entry =
+    object (with_name entry.code entry.name
+    (with_member (codes "meaning") (string (meaning_text (codes " ") entry.lines)) no_members))
+
+-- The codes of one layer.
+abbrev pub group_json : Group → Data
+group_json group =
+    object (with_member (codes "title") (string group.title)
+    (with_some (codes "codes") (map entry_json group.entries) no_members))
+
+-- The member of the list of codes.
+abbrev pub with_codes : List Group → Members → Members
+with_codes groups members = with_some (codes "groups") (map group_json groups) members
+
 -- The members of an image's description.
 abbrev pub with_description : Desc → Members → Members
 with_description description members =
@@ -33,7 +56,7 @@ with_description description members =
     (with_member (codes "counter") (number_json description.counter)
     (with_member (codes "digest") (string (encode_lower description.digest))
     (with_some (codes "needs") (map dependency_json description.dependencies.items)
-    (with_some (codes "needs_one") (map group_json description.groups.items) members)))))
+    (with_some (codes "needs_one") (map texts.group_json description.groups.items) members)))))
 
 -- The precursor digest of a component, if it has one.
 abbrev pub with_precursor : Option (List ℕ) → Members → Members

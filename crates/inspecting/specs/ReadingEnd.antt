@@ -1,6 +1,7 @@
 -- What a read-only command finds for its order, and what it writes.
-use Rattle.std.specs.Prelude.{◌≡◌, ℕ, List, Option}
+use Rattle.std.specs.Prelude.{◌≡◌, ℕ, List, Option, map}
 use Rattle.std.specs.Io.KnownBytes.{Appends}
+use Rattle.command_line.specs.CodeList.{code_groups, group_of}
 use Rattle.command_line.specs.declared.read_orders.ReadOrder.{ReadOrder}
 use Rattle.command_line.specs.declared.read_orders.ReadOrder.TheVariants as order
 use Rattle.host.specs.declared.answer.Answer.{Answer}
@@ -13,6 +14,11 @@ use Rattle.inspecting.specs.declared.flash_text.FlashText.TheVariants.{Slots, St
 use Rattle.device_texts.specs.declared.form.Form.{Form}
 use Rattle.inspecting.specs.declared.inspection.Inspection.{Inspection}
 use Rattle.inspecting.specs.declared.inspection.Inspection.TheVariants as found
+
+-- The groups of codes are listed.
+abbrev pub ListsCodes : Inspection → Type 0
+ListsCodes (found.Codes list) = map group_of list.groups ≡ code_groups
+ListsCodes other = ⊥
 
 -- What the command of an order finds.
 abbrev pub Finds : ReadOrder → Option (List ℕ) → FileBytes → Inspection → Type 0
@@ -32,7 +38,7 @@ Finds (order.Show device flash) input files it =
 Finds (order.Slots device flash) input files it =
     (one other : Source) × AreNamed device.now flash.now one other
     × FindsOnFlash (IsFoundOn Slots) one other input files it
-Finds order.Codes input files it = it ≡ found.Codes
+Finds order.Codes input files it = ListsCodes it
 
 -- What was found was written in this form. A JSON object may have notes.
 abbrev pub AnswersReading : Form → Answer → ReadOrder → Option (List ℕ) → FileBytes

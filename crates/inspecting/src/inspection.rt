@@ -11,12 +11,12 @@ use crate::check::Verdict;
 use crate::choose::Choice;
 use crate::flash_state::FlashState;
 use crate::image::RefusedImage;
-use crate::json::{put_description, put_manifest, put_slots, put_state};
+use crate::json::{put_codes, put_description, put_manifest, put_slots, put_state};
 use crate::manifest_file::RefusedManifest;
 use crate::slots::{answer_to, listing_text};
 use crate::slots_found::SlotsFound;
 use crate::{check, image, manifest_file, show};
-use command_line::REFUSALS;
+use command_line::{CodeGroup, code_list_text};
 use device_texts::json::{
     Object, code_value, fault_value, map_value, put_notes, put_refused, put_report, put_value,
     value_line,
@@ -55,7 +55,14 @@ pub enum Inspection {
     /// The state of a device, what its slots hold, and the decision of its next boot.
     Slots(FlashState, SlotsFound),
     /// The list of all codes and names.
-    Codes,
+    Codes(CodeList),
+}
+
+/// The codes and names of refusals.
+#[derive(Clone, Copy)]
+pub struct CodeList {
+    /// The groups.
+    pub groups: [CodeGroup; 7],
 }
 
 impl Inspection {
@@ -68,7 +75,7 @@ impl Inspection {
             | Inspection::Image(_)
             | Inspection::Manifest(_)
             | Inspection::State(_)
-            | Inspection::Codes => Answer::Done,
+            | Inspection::Codes(_) => Answer::Done,
             Inspection::RefusedImage(_)
             | Inspection::RefusedManifest(_)
             | Inspection::RefusedMap(_)
@@ -98,7 +105,7 @@ impl Inspection {
             Inspection::State(state) => show::state_text(alloc, state),
             Inspection::NoState => refused_fault_text(alloc, Fault::NotProvisioned),
             Inspection::Slots(state, slots) => listing_text(alloc, state, slots),
-            Inspection::Codes => String::from_str(alloc, REFUSALS),
+            Inspection::Codes(list) => code_list_text(alloc, &list.groups),
         }
     }
 
@@ -145,7 +152,7 @@ impl Inspection {
                 put_slots(alloc, object, slots)?;
                 put_state(alloc, object, state)
             }
-            Inspection::Codes => Ok(()),
+            Inspection::Codes(list) => put_codes(alloc, object, &list.groups),
         }
     }
 }
@@ -153,8 +160,8 @@ impl Inspection {
 /// Writes what was found to `out` in a form, and returns the answer. The object has the notes in
 /// its member `notes`, if there are any. The text has none.
 ///
-/// The text or the object is made in memory of `alloc` before it is written. `yes`, `no` and the
-/// list of codes need no memory.
+/// The text or the object is made in memory of `alloc` before it is written. `yes` and `no` need no
+/// memory.
 ///
 /// # Errors
 /// `NoMemory` if memory runs out. Then nothing is written. `CannotWrite` if a write fails. Then
@@ -178,7 +185,6 @@ pub fn write_inspection<W: Write>(
                 check::verdict_text(verdict.is_right),
                 out,
             ),
-            Inspection::Codes => write_text(answer, REFUSALS, out),
             _ => write_answer(answer, found.text(alloc), out),
         },
         Form::Json => write_answer(answer, object_line(alloc, notes, found), out),

@@ -3,11 +3,13 @@
 //! `specs/Json.antt` has a definition for each type, and `device_texts` those that other commands
 //! share.
 
+mod codes;
 mod image;
 mod manifest_members;
 mod slots;
 mod state;
 
+pub(crate) use codes::put_codes;
 pub(crate) use image::put_description;
 pub(crate) use manifest_members::put_manifest;
 pub(crate) use slots::put_slots;

@@ -4,8 +4,7 @@
 //! - Promises: Exactly the text or the JSON object of the answer is written. If a write fails, a
 //!   prefix of it is. A command answers `Done` only if its answer is the one for the contents of the
 //!   named files.
-//! - Main calls: `choose_over`, `inspect`, `write_inspection`, `run_inspection`, `plan_over`,
-//!   `merge_over`, `run_plan`
+//! - Main calls: `choose_over`, `inspect`, `write_inspection`, `plan_over`, `merge_over`, `run_plan`
 //! - Allocates: the input, a flash in memory, the text or object of the answer. For a fleet: one
 //!   device, and a summary.
 //! - Callers: `explaining`, `boot_cli`
@@ -42,8 +41,8 @@ pub use fleet::{
     Tally, Telling, keys_are_read_back, merge_over, plan_over, run_plan, sums_are_summaries,
 };
 pub use image::{RefusedImage, description_in};
-pub use inspection::{Inspection, write_inspection};
+pub use inspection::{CodeList, Inspection, write_inspection};
 pub use manifest_file::{RefusedManifest, manifest_in};
-pub use program::{inspect, run_inspection};
+pub use program::inspect;
 pub use reading::{ReadError, read_all};
 pub use slots_found::{ImageSlots, NextDecision, SlotContent, SlotsFound};

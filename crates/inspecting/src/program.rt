@@ -1,37 +1,16 @@
 //! Runs the read-only command that an order names.
 ghost use Rattle.std.specs.Prelude.{IfOk};
-ghost use Rattle.inspecting.specs.ReadingEnd.{AnswersReading, Finds};
-ghost use Rattle.device_texts.specs.declared.form.Form.TheVariants as form;
+ghost use Rattle.inspecting.specs.ReadingEnd.{Finds};
 
 use crate::check::inspect_report;
 use crate::choose::inspect_table;
 use crate::flash_text::{FlashText, inspect_flash};
 use crate::image::inspect_image;
-use crate::inspection::{Inspection, write_inspection};
+use crate::inspection::{CodeList, Inspection};
 use crate::manifest_file::inspect_manifest;
-use command_line::ReadOrder;
-use device_texts::{Form, NoteList};
-use host::{Answer, Host, Refusal, Source};
+use command_line::{ReadOrder, code_groups};
+use host::{Host, Refusal, Source};
 use std::alloc::Global;
-use std::io::Write;
-
-/// Runs the command of an order, and writes the text of its answer to `out`. Its inputs are read
-/// from `host` into memory of `alloc`.
-///
-/// # Errors
-/// The errors of the command.
-pub fn run_inspection<H: Host, O: Write>(
-    alloc: Global,
-    order: ReadOrder<'_>,
-    host: &mut H,
-    out: &mut O,
-) -> Result<Answer, Refusal>
-    ensures { IfOk result (λ answer. AnswersReading form.Text answer order.entry
-        (H.input host.old) (H.file host.old) (O.contents out.old) (O.contents out.new)) }
-{
-    let found = inspect(alloc, order, host)?;
-    write_inspection(alloc, Form::Text, &NoteList::new(alloc), &found, out)
-}
 
 /// Returns what the command of an order finds. Its inputs are read from `host` into memory of
 /// `alloc`.
@@ -63,6 +42,8 @@ pub fn inspect<H: Host>(
             let (device, flash) = (Source::named(device), Source::named(flash));
             inspect_flash(alloc, FlashText::Slots, device, flash, host)
         }
-        ReadOrder::Codes => Ok(Inspection::Codes),
+        ReadOrder::Codes => Ok(Inspection::Codes(CodeList {
+            groups: code_groups(),
+        })),
     }
 }

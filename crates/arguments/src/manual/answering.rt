@@ -8,7 +8,7 @@ use crate::manual::scripts::add_script;
 use crate::manual::text_builder::TextBuilder;
 use clap::Error;
 use clap::error::ErrorKind;
-use command_line::{Subcommand, program_error, subcommand_error};
+use command_line::{Subcommand, code_groups, code_list_text, program_error, subcommand_error};
 use common::texts::Escaped;
 use host::{Refusal, refuse, status_after};
 use std::alloc::{AllocError, Global};
@@ -62,7 +62,10 @@ fn text_of(alloc: Global, topic: Topic) -> Result<String, AllocError> {
     match topic {
         Topic::List => text.add(TOPICS),
         Topic::ProgramPage => add_program_page(&mut text),
-        Topic::CommandPage(command) => add_command_page(&mut text, command),
+        Topic::CommandPage(command) => {
+            let list = code_list_text(alloc, &code_groups())?;
+            add_command_page(&mut text, command, list.as_str());
+        }
         Topic::Script(shell) => add_script(&mut text, shell),
     }
     text.finish()

@@ -19,6 +19,7 @@ const VERSION_OPTION: &str = ".TP\n\\fB\\-V\\fR, \\fB\\-\\-version\\fR\nPrint ve
 pub fn add_program_page(page: &mut TextBuilder) {
     let help = PROGRAM;
     add_head(page, "", "", help);
+    add_text(page, help.long_about);
     add_commands(page);
     page.add(".SH OPTIONS\n");
     page.add(HELP_OPTION);
@@ -27,10 +28,11 @@ pub fn add_program_page(page: &mut TextBuilder) {
     add_command_pages(page);
 }
 
-/// Adds the page of a command.
-pub fn add_command_page(page: &mut TextBuilder, command: Subcommand) {
+/// Adds the page of a command. `list` is the long help of `codes`.
+pub fn add_command_page(page: &mut TextBuilder, command: Subcommand, list: &str) {
     let help = command.help();
     add_head(page, "-", command.name(), help);
+    add_text(page, command.long_about(list));
     page.add(".SH OPTIONS\n");
     for argument in command.arguments() {
         add_argument(page, &Listed::of(argument));
@@ -40,8 +42,8 @@ pub fn add_command_page(page: &mut TextBuilder, command: Subcommand) {
     page.add(".SH SEE ALSO\n.BR bootswap (1),\n.BR bootswap\\-formats (5)\n");
 }
 
-/// Adds the title of a page, its name, the usage and the description. `hyphen` and `command` are
-/// empty on the page of the program.
+/// Adds the title of a page, its name, the usage and the title of the description. `hyphen` and
+/// `command` are empty on the page of the program.
 fn add_head(page: &mut TextBuilder, hyphen: &str, command: &str, help: &Help) {
     page.add(".TH BOOTSWAP");
     page.add_escaped("", hyphen, "", ESCAPES);
@@ -53,7 +55,6 @@ fn add_head(page: &mut TextBuilder, hyphen: &str, command: &str, help: &Help) {
     page.add_escaped(" \\- ", help.about, "\n", ESCAPES);
     page.add_escaped(".SH SYNOPSIS\n.nf\n", help.usage, "\n.fi\n", ESCAPES);
     page.add(".SH DESCRIPTION\n");
-    add_text(page, help.long_about);
 }
 
 /// Adds a text in capital letters.

@@ -1,5 +1,5 @@
 use Rattle.command_line.proofs.Program.{fault_found, none_found, subcommand_found}
-use Rattle.command_line.proofs.matching.matches_of.Goals as goal
+use Rattle.command_line.proofs.matching.parsed.Goals as goal
 
 pub returns-clause-found : goal.returns-clause-found
 returns-clause-found g c =
