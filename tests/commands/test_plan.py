@@ -99,6 +99,10 @@ class PlanTest(ProgramTest):
                 fleet = b"device a\n%sdevice b\n%s" % (text, ONE)
                 self.assert_plan(fleet, wanted, b"1 a bad\n2 a device\n1 b take\n", 1)
 
+    def test_first_line_without_end(self):
+        """A first line that is too long for a device is refused before it ends."""
+        self.assertEqual(error("fleet line 1"), self.run_program(["plan", "/dev/zero"]))
+
     def test_request_replaces_that_of_each_table(self):
         """A file's image is requested of each table that has this image, and of no other."""
         fleet = "device a, image 0 1.0.0+0 0 0, damaged, image 1 1.0.0+0 0 0, device b, image 0 1.0.0+0 0 0, "
