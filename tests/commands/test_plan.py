@@ -4,6 +4,7 @@ import resource
 import subprocess
 
 from support.files import names_in, read, report, table
+from support.printed import error
 from support.program import ProgramTest
 
 ONE = b"image 0 1.0.0+0 0 0\n"
@@ -14,6 +15,10 @@ class PlanTest(ProgramTest):
         parts = [(b"device %s\n" % it.encode(), it) for it in names_in("tables")]
         fleet, wanted = (b"".join(line + read(of(it)) for line, it in parts) for of in (table, report))
         self.assertEqual((0, wanted, b""), self.run_program(["plan", "-"], given=fleet, pieces=5))
+
+    def test_first_line_without_end(self):
+        """A first line that is too long for a device is refused before it ends."""
+        self.assertEqual(error("fleet line 1"), self.run_program(["plan", "/dev/zero"]))
 
     def test_large_fleet_takes_little_memory(self):
         """A fleet of more bytes than the memory that the program may use is planned as any other."""

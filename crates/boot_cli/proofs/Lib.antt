@@ -1,3 +1,4 @@
+mod ErrorLaws
 mod JsonLaws
 mod OrderLaws
 mod WordsLaws

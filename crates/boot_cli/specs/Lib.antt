@@ -1,3 +1,4 @@
+pub mod ErrorEnd
 pub mod JsonEnd
 pub mod OrderEnd
 pub mod WordsEnd

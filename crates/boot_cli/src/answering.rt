@@ -1,13 +1,15 @@
 //! Runs the command of an order, and writes its answer in the form that is asked for.
 ghost use Rattle.std.specs.Io.KnownBytes.{Appends};
-ghost use Rattle.std.specs.Prelude.{◌≡◌, IfOk, List, ℕ, OnOk, map};
+ghost use Rattle.std.specs.Prelude.{◌≡◌, IfOk, List, ℕ, OnErr, OnOk, map};
+ghost use Rattle.boot_cli.specs.ErrorEnd.{BreaksDevice, BreaksOrder};
 ghost use Rattle.boot_cli.specs.JsonEnd.{AnswersDevice, AnswersOrder, form_of};
 ghost use Rattle.boot_cli.specs.OrderEnd.{KeepsSwept, UsesFlash};
 ghost use Rattle.device_commands.specs.CoreEnd as core;
 ghost use Rattle.device_texts.specs.declared.form.Form.TheVariants as form;
 ghost use Rattle.device_texts.specs.ReplyJson.{last_notes};
-ghost use Rattle.inspecting.specs.PlanAnswers.{AnswersPlan};
+ghost use Rattle.inspecting.specs.PlanAnswers.{AnswersPlan, BreaksPlan};
 ghost use Rattle.inspecting.specs.ReadingEnd.{AnswersReading};
+ghost use Rattle.inspecting.specs.Written.{TakesPrefix};
 ghost use Rattle.sweep.specs.SweepEnd.{AnswersMerge, AnswersSweep, KeepsInputs, KeepsOutputs};
 
 use crate::making::run_making;
@@ -38,6 +40,9 @@ pub fn answer_request<H: Host, O: Write, E: Write>(
 ) -> Result<Answer, Refusal>
     ensures answers { IfOk result (λ answer. AnswersOrder (form_of request.now.is_json) answer
         request.now.order (H.input host.old) (H.file host.old) (H.file host.new)
+        (O.contents out.old) (O.contents out.new)) }
+    ensures begun { OnErr result (BreaksOrder request.now.is_json request.now.order
+        (H.input host.old) (H.file host.old) (H.file host.new)
         (O.contents out.old) (O.contents out.new)) }
     ensures swept { KeepsSwept request.now.order (H.file host.old) (H.file host.new) }
     ensures used { IfOk result (λ answer. answer ≡ Answer.Done
@@ -103,6 +108,9 @@ fn answer_device<H: Host, O: Write, E: Write>(
     ensures answers { IfOk result (λ answer. AnswersDevice form answer order.now
         (H.input host.old) (H.file host.old) (H.file host.new)
         (O.contents out.old) (O.contents out.new)) }
+    ensures begun { OnErr result (BreaksDevice form order.now
+        (H.input host.old) (H.file host.old) (H.file host.new)
+        (O.contents out.old) (O.contents out.new)) }
     ensures used { IfOk result (λ answer. answer ≡ Answer.Done
         → core.UsesFlash order.now (H.opened host.old) (H.opened host.new) (H.synced host.new)) }
 {
@@ -123,6 +131,9 @@ fn answer_texts<H: Host, O: Write, E: Write>(
     notes: &mut CommandNotes,
 ) -> Result<Answer, Refusal>
     ensures answers { IfOk result (λ answer. AnswersDevice form.Text answer order.now
+        (H.input host.old) (H.file host.old) (H.file host.new)
+        (O.contents out.old) (O.contents out.new)) }
+    ensures begun { OnErr result (BreaksDevice form.Text order.now
         (H.input host.old) (H.file host.old) (H.file host.new)
         (O.contents out.old) (O.contents out.new)) }
     ensures used { IfOk result (λ answer. answer ≡ Answer.Done
@@ -151,6 +162,9 @@ fn answer_objects<H: Host, O: Write>(
     ensures answers { IfOk result (λ answer. AnswersDevice form.Json answer order.now
         (H.input host.old) (H.file host.old) (H.file host.new)
         (O.contents out.old) (O.contents out.new)) }
+    ensures begun { OnErr result (BreaksDevice form.Json order.now
+        (H.input host.old) (H.file host.old) (H.file host.new)
+        (O.contents out.old) (O.contents out.new)) }
     ensures used { IfOk result (λ answer. answer ≡ Answer.Done
         → core.UsesFlash order.now (H.opened host.old) (H.opened host.new) (H.synced host.new)) }
 {
@@ -162,8 +176,10 @@ fn answer_objects<H: Host, O: Write>(
 
 /// Writes the object of the notes on the end of a run, if there are any.
 fn write_last_notes<O: Write>(alloc: Global, notes: &NoteList, out: &mut O) -> Result<(), Refusal>
-    ensures { OnOk result ((texts : List (List ℕ))
+    ensures told { OnOk result ((texts : List (List ℕ))
         × Appends (O.contents out.old) (O.contents out.new) (last_notes texts)) }
+    ensures begun { OnErr result ((texts : List (List ℕ))
+        × TakesPrefix (last_notes texts) (O.contents out.old) (O.contents out.new)) }
 {
     let Ok(line) = last_notes(alloc, notes) else {
         return Err(Refusal::NoMemory);
@@ -185,7 +201,9 @@ fn answer_plan<H: Host, O: Write, E: Write>(
     err: &mut E,
     notes: &CommandNotes,
 ) -> Result<Answer, Refusal>
-    ensures { IfOk result (λ answer. AnswersPlan form answer order.now
+    ensures answers { IfOk result (λ answer. AnswersPlan form answer order.now
+        (H.input host.old) (H.file host.old) (O.contents out.old) (O.contents out.new)) }
+    ensures begun { OnErr result (BreaksPlan form order.now
         (H.input host.old) (H.file host.old) (O.contents out.old) (O.contents out.new)) }
 {
     if !notes.are_wanted() {

@@ -1,5 +1,6 @@
 //! Runs the order that the arguments give, and returns the exit status.
 ghost use Rattle.std.specs.Prelude.{◌≡◌, ◌≢◌, map};
+ghost use Rattle.boot_cli.specs.ErrorEnd.{WritesAsked, WritesOrder};
 ghost use Rattle.boot_cli.specs.JsonEnd.{AnswersOrder, form_of};
 ghost use Rattle.boot_cli.specs.OrderEnd.{KeepsSwept, UsesFlash};
 ghost use Rattle.boot_cli.specs.WordsEnd.{EndsByCut, EndsProgram};
@@ -31,8 +32,11 @@ pub fn cli<S: AsStr, H: Host, O: Write, E: Write>(
     out: &mut O,
     err: &mut E,
 ) -> u8
-    ensures { EndsProgram (map S.text words.entry.now) result
+    ensures ends { EndsProgram (map S.text words.entry.now) result
         (λ asked. UsesFlash asked (H.opened host.old) (H.opened host.new) (H.synced host.new))
+        (H.input host.old) (H.file host.old) (H.file host.new)
+        (O.contents out.old) (O.contents out.new) }
+    ensures output { WritesAsked (map S.text words.entry.now) result
         (H.input host.old) (H.file host.old) (H.file host.new)
         (O.contents out.old) (O.contents out.new) }
 {
@@ -66,6 +70,9 @@ pub fn run_order<H: Host, O: Write, E: Write>(
         request.entry.order (H.input host.old) (H.file host.old) (H.file host.new)
         (O.contents out.old) (O.contents out.new) }
     ensures cut { result ≡ 3 → EndsByCut request.entry.is_json request.entry.order
+        (H.input host.old) (H.file host.old) (H.file host.new)
+        (O.contents out.old) (O.contents out.new) }
+    ensures output { WritesOrder request.entry.is_json request.entry.order
         (H.input host.old) (H.file host.old) (H.file host.new)
         (O.contents out.old) (O.contents out.new) }
     ensures other { result ≢ 2 }

@@ -116,7 +116,9 @@ pub fn finish<O: Write, E: Write>(outcome: &Result<Answer, Refusal>, out: &mut O
 /// Flushes what a command wrote before it refused, so that it comes before the error line. Returns
 /// the refusal to report: `CannotWrite` if the flush fails, and else `refusal`. After a failed write
 /// nothing is flushed.
-pub fn refuse_after<O: Write>(refusal: Refusal, out: &mut O) -> Refusal {
+pub fn refuse_after<O: Write>(refusal: Refusal, out: &mut O) -> Refusal
+    ensures { Keeps (O.contents out.old) (O.contents out.new) }
+{
     if let Refusal::CannotWrite = refusal {
         return refusal;
     }

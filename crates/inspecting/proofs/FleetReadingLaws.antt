@@ -35,12 +35,17 @@ lines_of-feed line rest lacks =
     ap (λ t. t ++ rest) (flat_map-cons (λ l. l ++ 10 ∷ []) line []) ∙ simp (append_assoc, append-nil) in
     ap lines_of (sym one) ∙ lines_of-text_of_lines (line ∷ []) rest (lacks, tt)
 
+-- Its line feed ends the line, whatever follows.
+pub IsReadAs-feed : (bytes : List ℕ) (lines : List (List ℕ)) (prefix rest : List ℕ)
+    → IsReadAs bytes lines prefix → lines_of (bytes ++ 10 ∷ rest) ≡ lines ++ prefix ∷ lines_of rest
+IsReadAs-feed bytes lines prefix rest was =
+    was.split (10 ∷ rest) ∙ ap (λ ls. lines ++ ls) (lines_of-feed prefix rest was.plain)
+
 -- A line is complete.
 pub IsReadAs-line : (bytes : List ℕ) (lines : List (List ℕ)) (prefix : List ℕ)
     → IsReadAs bytes lines prefix → IsReadAs (bytes ++ 10 ∷ []) (lines ++ prefix ∷ []) []
 IsReadAs-line bytes lines prefix was = record {
-  split = λ rest. ap lines_of (append_assoc bytes (10 ∷ []) rest) ∙ was.split (10 ∷ rest)
-      ∙ ap (λ ls. lines ++ ls) (lines_of-feed prefix rest was.plain) ∙ sym (append_assoc lines (prefix ∷ []) (lines_of rest));
+  split = λ rest. ap lines_of (append_assoc bytes (10 ∷ []) rest) ∙ IsReadAs-feed bytes lines prefix rest was ∙ sym (append_assoc lines (prefix ∷ []) (lines_of rest));
   plain = tt;
 }
 

@@ -7,6 +7,7 @@ mod InspectionLaws
 mod JsonWholeLaws
 mod KeysReadBack
 mod MergingLaws
+mod PlanBreakLaws
 mod PlanEndLaws
 mod PlanLaws
 mod ReleaseLaws

@@ -1,5 +1,5 @@
 -- Fleets: devices by name, each with the lines of its table.
-use Rattle.std.specs.Prelude.{◌≡◌, ℕ, ◌≤◌, Bool, ◌&&◌, IsTrue, List, [], ◌∷◌, ◌++◌, length, codes, nat_le}
+use Rattle.std.specs.Prelude.{◌≡◌, ℕ, ◌<◌, ◌≤◌, Bool, ◌&&◌, IsTrue, List, [], ◌∷◌, ◌++◌, length, codes, nat_le}
 use Rattle.std.specs.List.{AllByRecursion, flat_map, list_all}
 use Rattle.common.specs.Lines.{◌␣◌, lines_of}
 
@@ -39,6 +39,19 @@ device_lines device = (codes "device" ␣ device.name) ∷ device.table
 -- A device with one more line of its table.
 abbrev pub with_line : Device → List ℕ → Device
 with_line device line = record { name = device.name; table = device.table ++ line ∷ [] }
+
+-- The lines after those of some devices: the next device begins, or there are none.
+abbrev pub BeginsNext : List (List ℕ) → Type 0
+BeginsNext [] = Unit {0}
+BeginsNext (line ∷ lines) = (name : List ℕ) × BeginsDevice line name
+
+-- The lines begin with these devices. The table of each is complete: after it the next device
+-- begins, or the lines end.
+pub record BeginWith (lines : List (List ℕ)) (devices : List Device) : Type 0 where
+  pub each : AllByRecursion IsDevice devices
+  pub rest : List (List ℕ)
+  pub split : lines ≡ flat_map device_lines devices ++ rest
+  pub complete : 0 < length devices → BeginsNext rest
 
 -- A text of a fleet: its lines are those of the devices, one after the other.
 pub record IsFleetText (bytes : List ℕ) (devices : List Device) : Type 0 where

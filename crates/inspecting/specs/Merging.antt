@@ -16,6 +16,7 @@ use Rattle.inspecting.specs.Summary.{IsSum}
 use Rattle.inspecting.specs.SummaryJson.{summary_lines}
 use Rattle.inspecting.specs.SummaryRows.{AddsRows}
 use Rattle.inspecting.specs.SummaryText.{FitsRow, IsSummaryText}
+use Rattle.inspecting.specs.Written.{TakesPrefix}
 use Rattle.inspecting.specs.declared.fleet.rows.Tally.{Tally}
 
 -- A text begins with the line of this row, whose key is above the last one.
@@ -60,3 +61,12 @@ pub record Merges {Y : Type 0} (texts : List (Vec ℕ Y)) (form : Form) (answer 
   pub answered : IsAnswerFor (has_bad_row rows) answer
   pub notes : List (List ℕ)
   pub written : Appends old new (summary_lines form rows notes)
+
+-- The texts are those of summaries, and a writer took a prefix of their sum in a form.
+pub record BeginsSum (texts : List (List ℕ)) (form : Form) (old new : Option (List ℕ)) : Type 0 where
+  pub parts : List (List Row)
+  pub spelled : AllZip IsSummaryText texts parts
+  pub rows : List Row
+  pub is : IsSum parts rows
+  pub notes : List (List ℕ)
+  pub begun : TakesPrefix (summary_lines form rows notes) old new

@@ -3,7 +3,7 @@ use Rattle.std.specs.Prelude.{ℕ, Bool, List, map, Option}
 use Rattle.std.specs.List.{AllByRecursion, flat_map, list_any}
 use Rattle.reports.specs.declared.table.Entry.{Entry}
 use Rattle.common.specs.Lines.{text_of_lines}
-use Rattle.inspecting.specs.Fleet.{Device, IsFleetText}
+use Rattle.inspecting.specs.Fleet.{BeginWith, Device, IsFleetText}
 use Rattle.inspecting.specs.Outcome.{IsOutcome, is_bad}
 use Rattle.inspecting.specs.PlanJson.{result_lines}
 use Rattle.device_texts.specs.declared.form.Form.{Form}
@@ -28,6 +28,12 @@ planned_text form planned =
 -- The devices of a fleet, each with its result.
 pub record IsPlan (entries : List (Option Entry)) (bytes : List ℕ) (plan : List Planned) : Type 0 where
   pub fleet : IsFleetText bytes (map (λ planned. planned.device) plan)
+  pub each : AllByRecursion (IsPlanned entries) plan
+
+-- The first devices of a fleet with these lines, each with its result.
+pub record IsPlanOfFirst (entries : List (Option Entry)) (lines : List (List ℕ))
+    (plan : List Planned) : Type 0 where
+  pub fleet : BeginWith lines (map (λ planned. planned.device) plan)
   pub each : AllByRecursion (IsPlanned entries) plan
 
 -- The lines of the devices and their results in a form.

@@ -1,5 +1,5 @@
 -- Where a planner is while it reads a fleet.
-use Rattle.std.specs.Prelude.{◌≡◌, ℕ, ◌<◌, IfSome, unwrap_or, length, List, ◌∷◌, ◌++◌, [], codes, Option, Some, None}
+use Rattle.std.specs.Prelude.{◌≡◌, ℕ, ◌<◌, ◌≤◌, IfSome, unwrap_or, length, take, List, ◌∷◌, ◌++◌, [], codes, Option, Some, None}
 use Rattle.std.specs.Io.KnownBytes.{Appends}
 use Rattle.std.specs.List.{AllByRecursion, flat_map}
 use Rattle.reports.specs.declared.table.Entry.{Entry}
@@ -7,8 +7,9 @@ use Rattle.common.specs.Ascii.{LacksByte}
 use Rattle.common.specs.Lines.{◌␣◌, lines_of, text_of_lines}
 use Rattle.inspecting.specs.Bounded.{Holds}
 use Rattle.inspecting.specs.Fleet.{Device, IsDevice, device_lines}
-use Rattle.inspecting.specs.Plan.{IsPlan, IsPlanned, Planned, has_bad, plan_text}
+use Rattle.inspecting.specs.Plan.{IsPlan, IsPlanOfFirst, IsPlanned, Planned, has_bad, plan_text}
 use Rattle.inspecting.specs.SummaryRows.{Summarizes}
+use Rattle.inspecting.specs.Written.{TakesPrefix}
 use Rattle.inspecting.specs.declared.fleet.planner.Current.{Current}
 use Rattle.inspecting.specs.declared.fleet.planner.Planner.{Planner}
 use Rattle.inspecting.specs.declared.fleet.telling.Telling.{Telling}
@@ -57,6 +58,12 @@ Tells planned old new before after =
     → IsTold telling new (plan ++ planned ∷ [])
     × Appends before after (told_text telling (planned ∷ []))
 
+-- A device with its result is written in part, or not at all.
+abbrev pub TellsPart : Planned → Told → Option (List ℕ) → Option (List ℕ) → Type 0
+TellsPart planned old before after =
+    (telling : Telling) (plan : List Planned) → IsTold telling old plan
+    → TakesPrefix (told_text telling (planned ∷ [])) before after
+
 -- A planner has read these lines, and these devices have their results.
 pub record HasRead (entries : List (Option Entry)) (telling : Telling) (planner : Planner)
     (lines : List (List ℕ)) (plan : List Planned) : Type 0 where
@@ -81,6 +88,7 @@ pub record Stands (entries : List (Option Entry)) (telling : Telling) (planner :
   pub read : IsReadAs bytes lines prefix
   pub line : Holds prefix planner.line
   pub has : HasRead entries telling planner lines plan
+  pub begun : planner.device ≡ None → plan ≡ []
 
 -- A planner has read these bytes. Then some more devices have their results, which are written.
 pub record ReadsBytes (entries : List (Option Entry)) (telling : Telling) (planner : Planner)
@@ -95,6 +103,32 @@ abbrev pub Advances : List (Option Entry) → Planner → Planner → List ℕ
 Advances entries old new bytes before after =
     (telling : Telling) (read : List ℕ) (plan : List Planned) → Stands entries telling old read plan
     → ReadsBytes entries telling new (read ++ bytes) plan before after
+
+-- A planner had an error in a fleet with these lines, after the results of some devices. It wrote
+-- more devices: all of them completely, but of the last one perhaps a prefix.
+pub record BreaksLines (entries : List (Option Entry)) (telling : Telling) (lines : List (List ℕ))
+    (plan : List Planned) (before after : Option (List ℕ)) : Type 0 where
+  pub more : List Planned
+  pub last : List Planned
+  pub one : length last ≤ 1
+  pub is : IsPlanOfFirst entries lines (plan ++ (more ++ last))
+  pub count : ℕ
+  pub written : Appends before after (told_text telling more ++ take count (told_text telling last))
+
+-- A planner has an error in the next line. Some lines follow.
+abbrev pub BreaksLine : List (Option Entry) → Planner → Option (List ℕ) → Option (List ℕ) → Type 0
+BreaksLine entries old before after =
+    (telling : Telling) (line : List ℕ) (lines rest : List (List ℕ)) (plan : List Planned)
+    → Holds line old.line → (old.device ≡ None → plan ≡ []) → HasRead entries telling old lines plan
+    → BreaksLines entries telling (lines ++ line ∷ rest) plan before after
+
+-- A planner has an error in the next bytes, wherever it stood. Some bytes follow.
+abbrev pub BreaksBytes : List (Option Entry) → Planner → List ℕ
+    → Option (List ℕ) → Option (List ℕ) → Type 0
+BreaksBytes entries old bytes before after =
+    (telling : Telling) (read rest : List ℕ) (plan : List Planned)
+    → Stands entries telling old read plan
+    → BreaksLines entries telling (lines_of (read ++ (bytes ++ rest))) plan before after
 
 -- The bytes after those that are read.
 abbrev pub left_in : Option (List ℕ) → List ℕ

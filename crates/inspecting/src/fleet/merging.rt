@@ -1,10 +1,11 @@
 //! Adds up the summaries of parts of a fleet.
 
-ghost use Rattle.std.specs.Prelude.{◌≡◌, ◌∷◌, [], ℕ, IfOk, IfSome, List, OnOk};
-ghost use Rattle.inspecting.specs.Merging.{IsNext, Merges, has_bad_at};
+ghost use Rattle.std.specs.Prelude.{◌≡◌, ◌⊎◌, ◌∷◌, [], ℕ, IfOk, IfSome, List, OnErr, OnOk, map};
+ghost use Rattle.std.specs.Io.KnownBytes.{Keeps};
+ghost use Rattle.inspecting.specs.Merging.{BeginsSum, IsNext, Merges, has_bad_at};
 ghost use Rattle.inspecting.specs.PlanEnd.{IsAnswerFor};
 ghost use Rattle.inspecting.specs.Row.{Row};
-ghost use Rattle.inspecting.specs.SummaryLines.{WritesRows};
+ghost use Rattle.inspecting.specs.SummaryLines.{WritesRows, WritesSomeRows};
 ghost use Rattle.inspecting.specs.SummaryRows.{AddsRows};
 ghost use Rattle.inspecting.specs.SummaryText.{IsSummaryText, read_row_of};
 
@@ -59,7 +60,10 @@ pub fn merge_over<W: Write, N: PlanNotes>(
     notes: &mut N,
     out: &mut W,
 ) -> Result<Answer, MergeRefusal>
-    ensures { IfOk result (λ answer. Merges parts.now form answer
+    ensures merges { IfOk result (λ answer. Merges parts.now form answer
+        (W.contents out.old) (W.contents out.new)) }
+    ensures begun { OnErr result (Keeps (W.contents out.old) (W.contents out.new)
+        ⊎ BeginsSum (map (λ text. text.items) parts.now) form
         (W.contents out.old) (W.contents out.new)) }
 {
     let mut summary = Summary::new(alloc);
@@ -79,8 +83,11 @@ fn write_sum<W: Write, N: PlanNotes>(
     notes: &mut N,
     out: &mut W,
 ) -> Result<Answer, MergeRefusal>
-    ensures { IfOk result (λ answer. WritesRows form rows.now (W.contents out.old) (W.contents out.new)
+    ensures written { IfOk result (λ answer.
+        WritesRows form rows.now (W.contents out.old) (W.contents out.new)
         × IsAnswerFor (has_bad_at rows.now) answer) }
+    ensures begun { OnErr result (WritesSomeRows form rows.now
+        (W.contents out.old) (W.contents out.new)) }
 {
     match write_rows(alloc, form, rows, notes, out) {
         Ok(()) => Ok(answer_of(rows)),

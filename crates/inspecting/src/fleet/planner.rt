@@ -1,13 +1,13 @@
 //! Reads a fleet piece by piece, and writes each device with its result once its table is complete.
 
-ghost use Rattle.std.specs.Prelude.{◌≡◌, ◌++◌, ◌∷◌, ℕ, IfOk, List, None, Option, [], OnOk, option_copied};
+ghost use Rattle.std.specs.Prelude.{◌≡◌, ◌≢◌, ◌++◌, ◌∷◌, ℕ, IfOk, List, None, Option, [], OnErr, OnOk, option_copied};
 ghost use Rattle.reports.specs.declared.table.Entry.{Entry};
 ghost use Rattle.common.specs.Ascii.{LacksByte};
 ghost use Rattle.common.specs.Lines.{lines_of};
 ghost use Rattle.inspecting.specs.Bounded.{Holds};
-ghost use Rattle.inspecting.specs.Fleet.{BeginsDevice, BeginsNone, Device, with_line};
+ghost use Rattle.inspecting.specs.Fleet.{BeginsDevice, BeginsNext, BeginsNone, Device, with_line};
 ghost use Rattle.inspecting.specs.Plan.{Planned};
-ghost use Rattle.inspecting.specs.Planning.{Advances, EndsPlan, HasRead, IsReadSoFar, ReadsLines, ReadsSome, Stands, Tells};
+ghost use Rattle.inspecting.specs.Planning.{Advances, BreaksBytes, BreaksLine, BreaksLines, EndsPlan, HasRead, IsReadSoFar, ReadsLines, ReadsSome, Stands, Tells, TellsPart};
 ghost use Rattle.inspecting.specs.SummaryRows.{Summarizes};
 
 use crate::fleet::bounded::Bounded;
@@ -140,7 +140,9 @@ impl Planner {
         notes: &mut N,
         out: &mut W,
     ) -> Result<(), Refusal>
-        ensures { OnOk result (Advances requests.now.entries self.old self.new bytes.now
+        ensures advances { OnOk result (Advances requests.now.entries self.old self.new bytes.now
+            (W.contents out.old) (W.contents out.new)) }
+        ensures begun { OnErr result (BreaksBytes requests.now.entries self.old bytes.now
             (W.contents out.old) (W.contents out.new)) }
     {
         let mut rest = Some(bytes);
@@ -160,9 +162,13 @@ impl Planner {
         notes: &mut N,
         out: &mut W,
     ) -> Result<(), Refusal>
-        ensures { OnOk result ((telling : Telling) (bytes : List ℕ) (plan : List Planned)
+        ensures ends { OnOk result ((telling : Telling) (bytes : List ℕ) (plan : List Planned)
             → Stands requests.now.entries telling self.old bytes plan
             → EndsPlan requests.now.entries telling self.new bytes plan
+            (W.contents out.old) (W.contents out.new)) }
+        ensures begun { OnErr result ((telling : Telling) (bytes : List ℕ) (plan : List Planned)
+            → Stands requests.now.entries telling self.old bytes plan
+            → BreaksLines requests.now.entries telling (lines_of bytes) plan
             (W.contents out.old) (W.contents out.new)) }
     {
         self.end_last_line(requests, notes, out)?;
@@ -176,9 +182,13 @@ impl Planner {
         notes: &mut N,
         out: &mut W,
     ) -> Result<(), Refusal>
-        ensures { OnOk result ((telling : Telling) (bytes : List ℕ) (plan : List Planned)
+        ensures lines { OnOk result ((telling : Telling) (bytes : List ℕ) (plan : List Planned)
             → Stands requests.now.entries telling self.old bytes plan
             → ReadsLines requests.now.entries telling self.new (lines_of bytes) plan
+            (W.contents out.old) (W.contents out.new)) }
+        ensures begun { OnErr result ((telling : Telling) (bytes : List ℕ) (plan : List Planned)
+            → Stands requests.now.entries telling self.old bytes plan
+            → BreaksLines requests.now.entries telling (lines_of bytes) plan
             (W.contents out.old) (W.contents out.new)) }
     {
         if self.line.is_empty() {
@@ -196,8 +206,10 @@ impl Planner {
         notes: &mut N,
         out: &mut W,
     ) -> Result<Option<&'b [u8]>, Refusal>
-        ensures { IfOk result (λ rest. ReadsSome requests.now.entries self.old self.new bytes.now
+        ensures some { IfOk result (λ rest. ReadsSome requests.now.entries self.old self.new bytes.now
             (option_copied rest) (W.contents out.old) (W.contents out.new)) }
+        ensures begun { OnErr result (BreaksBytes requests.now.entries self.old bytes.now
+            (W.contents out.old) (W.contents out.new)) }
     {
         let (part, after) = cut(bytes, b'\n');
         self.read_part(part)?;
@@ -208,7 +220,7 @@ impl Planner {
         Ok(Some(rest))
     }
 
-    /// Reads bytes without a line feed.
+    /// Reads bytes without a line feed. If the first line gets too long, it is refused before its end.
     fn read_part(&mut self, part: &[u8]) -> Result<(), Refusal>
         ensures { OnOk result ((entries : List (Option Entry)) (telling : Telling) (read : List ℕ)
             (plan : List Planned)
@@ -218,6 +230,10 @@ impl Planner {
         let Ok(()) = self.line.push(part) else {
             return Err(Refusal::NoMemory);
         };
+        // Such a line begins no device, so its end needn't come.
+        if self.line.is_too_long && self.device.is_none() {
+            return Err(Refusal::FleetLine);
+        }
         Ok(())
     }
 
@@ -235,6 +251,8 @@ impl Planner {
             → Holds line self.old.line → HasRead requests.now.entries telling self.old lines plan
             → ReadsLines requests.now.entries telling self.new (lines ++ line ∷ []) plan
             (W.contents out.old) (W.contents out.new)) }
+        ensures begun { OnErr result (BreaksLine requests.now.entries self.old
+            (W.contents out.old) (W.contents out.new)) }
     {
         self.take_line(requests, notes, out)?;
         self.line.clear();
@@ -248,10 +266,13 @@ impl Planner {
         notes: &mut N,
         out: &mut W,
     ) -> Result<(), Refusal>
-        ensures { OnOk result ((telling : Telling) (line : List ℕ) (lines : List (List ℕ))
+        ensures lines { OnOk result ((telling : Telling) (line : List ℕ) (lines : List (List ℕ))
             (plan : List Planned)
             → Holds line self.old.line → HasRead requests.now.entries telling self.old lines plan
             → ReadsLines requests.now.entries telling self.new (lines ++ line ∷ []) plan
+            (W.contents out.old) (W.contents out.new)) }
+        ensures some { OnOk result (self.new.device ≢ None) }
+        ensures begun { OnErr result (BreaksLine requests.now.entries self.old
             (W.contents out.old) (W.contents out.new)) }
     {
         if begins_device(&self.line) {
@@ -268,11 +289,17 @@ impl Planner {
         notes: &mut N,
         out: &mut W,
     ) -> Result<(), Refusal>
-        ensures { OnOk result ((telling : Telling) (line name : List ℕ) (lines : List (List ℕ))
+        ensures lines { OnOk result ((telling : Telling) (line name : List ℕ) (lines : List (List ℕ))
             (plan : List Planned)
             → Holds line self.old.line → BeginsDevice line name
             → HasRead requests.now.entries telling self.old lines plan
             → ReadsLines requests.now.entries telling self.new (lines ++ line ∷ []) plan
+            (W.contents out.old) (W.contents out.new)) }
+        ensures some { OnOk result (self.new.device ≢ None) }
+        ensures begun { OnErr result ((telling : Telling) (lines rest : List (List ℕ))
+            (plan : List Planned)
+            → BeginsNext rest → HasRead requests.now.entries telling self.old lines plan
+            → BreaksLines requests.now.entries telling (lines ++ rest) plan
             (W.contents out.old) (W.contents out.new)) }
     {
         self.end_device(requests, notes, out)?;
@@ -281,11 +308,12 @@ impl Planner {
 
     /// Begins the device of the line.
     fn begin_device(&mut self) -> Result<(), Refusal>
-        ensures { OnOk result ((entries : List (Option Entry)) (telling : Telling) (line name : List ℕ)
-            (lines : List (List ℕ)) (plan : List Planned)
+        ensures lines { OnOk result ((entries : List (Option Entry)) (telling : Telling)
+            (line name : List ℕ) (lines : List (List ℕ)) (plan : List Planned)
             → Holds line self.old.line → BeginsDevice line name
             → self.old.device ≡ None → HasRead entries telling self.old lines plan
             → HasRead entries telling self.new (lines ++ line ∷ []) plan) }
+        ensures some { OnOk result (self.new.device ≢ None) }
     {
         let mut device = match self.spare.take() {
             Some(spare) => spare,
@@ -298,10 +326,11 @@ impl Planner {
 
     /// Adds the line to the table of the device.
     fn add_line(&mut self) -> Result<(), Refusal>
-        ensures { OnOk result ((entries : List (Option Entry)) (telling : Telling) (line : List ℕ)
-            (lines : List (List ℕ)) (plan : List Planned)
+        ensures lines { OnOk result ((entries : List (Option Entry)) (telling : Telling)
+            (line : List ℕ) (lines : List (List ℕ)) (plan : List Planned)
             → Holds line self.old.line → BeginsNone line → HasRead entries telling self.old lines plan
             → HasRead entries telling self.new (lines ++ line ∷ []) plan) }
+        ensures some { OnOk result (self.new.device ≢ None) }
     {
         match &mut self.device {
             Some(device) => device.add_line(&self.line),
@@ -321,6 +350,11 @@ impl Planner {
         ensures lines { OnOk result ((telling : Telling) (lines : List (List ℕ)) (plan : List Planned)
             → HasRead requests.now.entries telling self.old lines plan
             → ReadsLines requests.now.entries telling self.new lines plan
+            (W.contents out.old) (W.contents out.new)) }
+        ensures begun { OnErr result ((telling : Telling) (lines rest : List (List ℕ))
+            (plan : List Planned)
+            → BeginsNext rest → HasRead requests.now.entries telling self.old lines plan
+            → BreaksLines requests.now.entries telling (lines ++ rest) plan
             (W.contents out.old) (W.contents out.new)) }
     {
         let Some(device) = self.device.take() else {
@@ -343,10 +377,14 @@ fn tell<W: Write, N: PlanNotes>(
     notes: &mut N,
     out: &mut W,
 ) -> Result<(), Refusal>
-    ensures { OnOk result ((texts : List (List ℕ)) × ((planned : Planned)
+    ensures tells { OnOk result ((texts : List (List ℕ)) × ((planned : Planned)
         → IsReadSoFar planned.device device.now → outcome.now ≡ planned.outcome
         → planned.notes ≡ texts
         → Tells planned told.old told.new (W.contents out.old) (W.contents out.new))) }
+    ensures begun { OnErr result ((texts : List (List ℕ)) × ((planned : Planned)
+        → IsReadSoFar planned.device device.now → outcome.now ≡ planned.outcome
+        → planned.notes ≡ texts
+        → TellsPart planned told.old (W.contents out.old) (W.contents out.new))) }
 {
     match told {
         Told::Written(form) => write_result(alloc, *form, device.name(), outcome, notes, out),

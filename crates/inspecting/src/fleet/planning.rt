@@ -1,9 +1,9 @@
 //! Plans a fleet that a reader gives.
 
-ghost use Rattle.std.specs.Prelude.{◌≡◌, ◌≤◌, ℕ, IfOk, List, OnOk, length};
+ghost use Rattle.std.specs.Prelude.{◌≡◌, ◌≤◌, ℕ, IfOk, List, OnErr, OnOk, length};
 ghost use Rattle.std.specs.Io.KnownBytes.{ReadConsumes};
 ghost use Rattle.inspecting.specs.Plan.{Planned};
-ghost use Rattle.inspecting.specs.PlanEnd.{EndsWith, IsAnswerFor, Plans, WritesRest};
+ghost use Rattle.inspecting.specs.PlanEnd.{BreaksEnd, BreaksRest, EndsWith, IsAnswerFor, Plans, PlansPart, WritesRest};
 ghost use Rattle.inspecting.specs.Planning.{IsTold, Stands};
 
 use crate::fleet::plan_notes::PlanNotes;
@@ -46,9 +46,11 @@ pub fn plan_over<R: Read, W: Write, N: PlanNotes>(
     notes: &mut N,
     out: &mut W,
 ) -> Result<Answer, Refusal>
-    ensures { IfOk result (λ answer. Plans requests.now.entries telling answer
+    ensures plans { IfOk result (λ answer. Plans requests.now.entries telling answer
         (R.remaining input.old) (R.remaining input.new)
         (W.contents out.old) (W.contents out.new)) }
+    ensures begun { OnErr result (PlansPart requests.now.entries telling
+        (R.remaining input.old) (W.contents out.old) (W.contents out.new)) }
 {
     let Ok(mut piece) = buffer(alloc, PIECE) else {
         return Err(Refusal::NoMemory);
@@ -91,9 +93,13 @@ fn end_plan<W: Write, N: PlanNotes>(
     notes: &mut N,
     out: &mut W,
 ) -> Result<Answer, Refusal>
-    ensures { IfOk result (λ answer. (telling : Telling) (bytes : List ℕ) (plan : List Planned)
+    ensures ends { IfOk result (λ answer. (telling : Telling) (bytes : List ℕ) (plan : List Planned)
         → Stands requests.now.entries telling planner bytes plan
         → EndsWith requests.now.entries telling answer bytes plan
+        (W.contents out.old) (W.contents out.new)) }
+    ensures begun { OnErr result ((telling : Telling) (bytes : List ℕ) (plan : List Planned)
+        → Stands requests.now.entries telling planner bytes plan
+        → BreaksEnd requests.now.entries telling bytes plan
         (W.contents out.old) (W.contents out.new)) }
 {
     let mut planner = planner;
@@ -109,9 +115,12 @@ fn write_rest<W: Write, N: PlanNotes>(
     notes: &mut N,
     out: &mut W,
 ) -> Result<(), Refusal>
-    ensures { OnOk result ((telling : Telling) (plan : List Planned)
+    ensures rest { OnOk result ((telling : Telling) (plan : List Planned)
         → IsTold telling told.now plan
         → WritesRest telling plan (W.contents out.old) (W.contents out.new)) }
+    ensures begun { OnErr result ((telling : Telling) (plan : List Planned)
+        → IsTold telling told.now plan
+        → BreaksRest telling plan (W.contents out.old) (W.contents out.new)) }
 {
     match told {
         Told::Written(_) => Ok(()),

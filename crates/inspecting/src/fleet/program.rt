@@ -1,7 +1,7 @@
 //! `bootswap plan`: decides for each device of a fleet, or adds summaries.
 
-ghost use Rattle.std.specs.Prelude.{◌≡◌, IfOk, map};
-ghost use Rattle.inspecting.specs.PlanAnswers.{AnswersFleet, AnswersMerge, AnswersPlan, PlansSource, ReadsEach, telling_of};
+ghost use Rattle.std.specs.Prelude.{◌≡◌, IfOk, OnErr, map};
+ghost use Rattle.inspecting.specs.PlanAnswers.{AnswersFleet, AnswersMerge, AnswersPlan, BreaksFleet, BreaksMerge, BreaksPlan, BreaksSource, PlansSource, ReadsEach, telling_of};
 
 use crate::fleet::merging::{MergeFault, MergeRefusal, merge_over};
 use crate::fleet::plan_notes::PlanNotes;
@@ -38,7 +38,9 @@ pub fn run_plan<H: Host, N: PlanNotes, O: Write>(
     notes: &mut N,
     out: &mut O,
 ) -> Result<Answer, Refusal>
-    ensures { IfOk result (λ answer. AnswersPlan form answer order.now
+    ensures answers { IfOk result (λ answer. AnswersPlan form answer order.now
+        (H.input host.old) (H.file host.old) (O.contents out.old) (O.contents out.new)) }
+    ensures begun { OnErr result (BreaksPlan form order.now
         (H.input host.old) (H.file host.old) (O.contents out.old) (O.contents out.new)) }
 {
     match order {
@@ -76,7 +78,9 @@ fn plan_release<H: Host, N: PlanNotes, O: Write>(
     notes: &mut N,
     out: &mut O,
 ) -> Result<Answer, Refusal>
-    ensures { IfOk result (λ answer. AnswersFleet answer fleet.entry files.now telling
+    ensures answers { IfOk result (λ answer. AnswersFleet answer fleet.entry files.now telling
+        (H.input host.old) (H.file host.old) (O.contents out.old) (O.contents out.new)) }
+    ensures begun { OnErr result (BreaksFleet fleet.entry files.now telling
         (H.input host.old) (H.file host.old) (O.contents out.old) (O.contents out.new)) }
 {
     let requests = read_release(alloc, files, host)?;
@@ -94,7 +98,9 @@ fn plan_source<H: Host, N: PlanNotes, O: Write>(
     notes: &mut N,
     out: &mut O,
 ) -> Result<Answer, Refusal>
-    ensures { IfOk result (λ answer. PlansSource answer fleet.entry requests.now.entries telling
+    ensures plans { IfOk result (λ answer. PlansSource answer fleet.entry requests.now.entries telling
+        (H.input host.old) (H.file host.old) (O.contents out.old) (O.contents out.new)) }
+    ensures begun { OnErr result (BreaksSource fleet.entry requests.now.entries telling
         (H.input host.old) (H.file host.old) (O.contents out.old) (O.contents out.new)) }
 {
     open_stream(alloc, fleet, host)?;
@@ -114,7 +120,9 @@ fn merge_sources<H: Host, N: PlanNotes, O: Write>(
     notes: &mut N,
     out: &mut O,
 ) -> Result<Answer, Refusal>
-    ensures { IfOk result (λ answer. AnswersMerge form answer names.now
+    ensures answers { IfOk result (λ answer. AnswersMerge form answer names.now
+        (H.input host.old) (H.file host.old) (O.contents out.old) (O.contents out.new)) }
+    ensures begun { OnErr result (BreaksMerge form names.now
         (H.input host.old) (H.file host.old) (O.contents out.old) (O.contents out.new)) }
 {
     let texts = read_each(alloc, names, host)?;

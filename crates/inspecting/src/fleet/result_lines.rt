@@ -1,12 +1,13 @@
 //! Writes devices with their results, as texts or as JSON, and the notes on them.
 
-ghost use Rattle.std.specs.Prelude.{◌≡◌, ℕ, IfOk, List, OnOk, string_bytes};
+ghost use Rattle.std.specs.Prelude.{◌≡◌, ℕ, IfOk, List, OnErr, OnOk, string_bytes};
 ghost use Rattle.std.specs.Io.KnownBytes.{Appends, Keeps};
 ghost use Rattle.serde_json.specs.Data.{no_members};
 ghost use Rattle.serde_json.specs.View.{members_view};
 ghost use Rattle.device_texts.specs.Json.{json_line};
 ghost use Rattle.device_texts.specs.Notes.{sentences};
 ghost use Rattle.inspecting.specs.PlanJson.{outcome_members, result_json, result_lines, result_text};
+ghost use Rattle.inspecting.specs.Written.{TakesPrefix};
 
 use crate::fleet::outcome::Outcome;
 use crate::fleet::plan_notes::PlanNotes;
@@ -33,9 +34,12 @@ pub fn write_result<W: Write, N: PlanNotes>(
     notes: &mut N,
     out: &mut W,
 ) -> Result<(), Refusal>
-    ensures { OnOk result ((texts : List (List ℕ))
+    ensures told { OnOk result ((texts : List (List ℕ))
         × Appends (W.contents out.old) (W.contents out.new)
         (result_lines form name.now outcome.now texts)) }
+    ensures begun { OnErr result ((texts : List (List ℕ))
+        × TakesPrefix (result_lines form name.now outcome.now texts)
+        (W.contents out.old) (W.contents out.new)) }
 {
     match form {
         Form::Text => write_text(alloc, name, outcome, notes, out),
@@ -51,8 +55,10 @@ fn write_text<W: Write, N: PlanNotes>(
     notes: &mut N,
     out: &mut W,
 ) -> Result<(), Refusal>
-    ensures { OnOk result (Appends (W.contents out.old) (W.contents out.new)
+    ensures told { OnOk result (Appends (W.contents out.old) (W.contents out.new)
         (result_text name.now outcome.now)) }
+    ensures begun { OnErr result (TakesPrefix (result_text name.now outcome.now)
+        (W.contents out.old) (W.contents out.new)) }
 {
     let Ok(text) = result_text(alloc, name, outcome) else {
         return Err(Refusal::NoMemory);
@@ -74,9 +80,12 @@ fn write_object<W: Write, N: PlanNotes>(
     notes: &mut N,
     out: &mut W,
 ) -> Result<(), Refusal>
-    ensures { OnOk result ((texts : List (List ℕ))
+    ensures told { OnOk result ((texts : List (List ℕ))
         × Appends (W.contents out.old) (W.contents out.new)
         (json_line (result_json name.now outcome.now texts))) }
+    ensures begun { OnErr result ((texts : List (List ℕ))
+        × TakesPrefix (json_line (result_json name.now outcome.now texts))
+        (W.contents out.old) (W.contents out.new)) }
 {
     let mut told = NoteList::new(alloc);
     notes.explain(name, outcome, &mut told);
@@ -88,7 +97,8 @@ fn write_object<W: Write, N: PlanNotes>(
 
 /// Writes a line.
 pub fn write_line<W: Write>(line: &str, out: &mut W) -> Result<(), Refusal>
-    ensures { OnOk result (Appends (W.contents out.old) (W.contents out.new) line.now) }
+    ensures told { OnOk result (Appends (W.contents out.old) (W.contents out.new) line.now) }
+    ensures begun { OnErr result (TakesPrefix line.now (W.contents out.old) (W.contents out.new)) }
 {
     let Ok(()) = write_all(out, line.as_bytes()) else {
         return Err(Refusal::CannotWrite);

@@ -1,10 +1,11 @@
 //! Writes the rows of a summary, as a text or as JSON, and the notes on them.
 
-ghost use Rattle.std.specs.Prelude.{IfOk, OnOk, string_bytes};
+ghost use Rattle.std.specs.Prelude.{IfOk, OnErr, OnOk, string_bytes};
 ghost use Rattle.std.specs.Io.KnownBytes.{Appends};
 ghost use Rattle.device_texts.specs.Notes.{sentences};
 ghost use Rattle.device_texts.specs.declared.form.Form.TheVariants as form;
-ghost use Rattle.inspecting.specs.SummaryLines.{IsSummaryLine, WritesRows};
+ghost use Rattle.inspecting.specs.SummaryLines.{IsSummaryLine, WritesRows, WritesSomeRows};
+ghost use Rattle.inspecting.specs.Written.{TakesPrefix};
 
 use crate::fleet::plan_notes::PlanNotes;
 use crate::fleet::result_lines::{pass_notes, write_line};
@@ -30,7 +31,9 @@ pub fn write_rows<W: Write, N: PlanNotes>(
     notes: &mut N,
     out: &mut W,
 ) -> Result<(), Refusal>
-    ensures { OnOk result (WritesRows form rows.now (W.contents out.old) (W.contents out.new)) }
+    ensures told { OnOk result (WritesRows form rows.now (W.contents out.old) (W.contents out.new)) }
+    ensures begun { OnErr result (WritesSomeRows form rows.now
+        (W.contents out.old) (W.contents out.new)) }
 {
     match form {
         Form::Text => write_text(alloc, rows, notes, out),
@@ -45,7 +48,9 @@ fn write_text<W: Write, N: PlanNotes>(
     notes: &mut N,
     out: &mut W,
 ) -> Result<(), Refusal>
-    ensures { OnOk result (WritesRows form.Text rows.now
+    ensures told { OnOk result (WritesRows form.Text rows.now
+        (W.contents out.old) (W.contents out.new)) }
+    ensures begun { OnErr result (WritesSomeRows form.Text rows.now
         (W.contents out.old) (W.contents out.new)) }
 {
     let Ok(text) = rows_text(alloc, rows) else {
@@ -62,7 +67,8 @@ fn write_explained<W: Write, N: PlanNotes>(
     notes: &mut N,
     out: &mut W,
 ) -> Result<(), Refusal>
-    ensures { OnOk result (Appends (W.contents out.old) (W.contents out.new) text.now) }
+    ensures told { OnOk result (Appends (W.contents out.old) (W.contents out.new) text.now) }
+    ensures begun { OnErr result (TakesPrefix text.now (W.contents out.old) (W.contents out.new)) }
 {
     let Ok(()) = write_all(out, text) else {
         return Err(Refusal::CannotWrite);
@@ -80,7 +86,9 @@ fn write_object<W: Write, N: PlanNotes>(
     notes: &mut N,
     out: &mut W,
 ) -> Result<(), Refusal>
-    ensures { OnOk result (WritesRows form.Json rows.now
+    ensures told { OnOk result (WritesRows form.Json rows.now
+        (W.contents out.old) (W.contents out.new)) }
+    ensures begun { OnErr result (WritesSomeRows form.Json rows.now
         (W.contents out.old) (W.contents out.new)) }
 {
     let mut told = NoteList::new(alloc);

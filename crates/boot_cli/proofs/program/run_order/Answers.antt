@@ -1,4 +1,5 @@
 use Rattle.boot_cli.proofs.program.run_order.Goals as goal
+use Rattle.boot_cli.proofs.ErrorLaws.{WritesOrder-ended}
 use Rattle.boot_cli.proofs.OrderLaws.{cut_after, done_after, used_after}
 use Rattle.device_commands.proofs.WordsLaws.{never_usage}
 
@@ -22,3 +23,9 @@ returns-clause-other g c = never_usage c.answer_request-outcome.result c.end-sta
 pub returns-clause-used : goal.returns-clause-used
 returns-clause-used g c =
     used_after c.answer_request-outcome.result c.end-status.result _ c.answer_request-outcome.ensures.used c.end-status.ensures.status
+
+-- The output keeps the answer, or what was written before the error.
+pub returns-clause-output : goal.returns-clause-output
+returns-clause-output g c =
+    WritesOrder-ended c.args.request.is_json c.args.request.order c.answer_request-outcome.result _ _ _ _ _ _
+    c.answer_request-outcome.ensures.answers c.answer_request-outcome.ensures.begun c.end-status.ensures.kept

@@ -1,9 +1,10 @@
-use Rattle.std.proofs.Common.{◌∷◌, [], ◌++◌, map, subst}
+use Rattle.std.proofs.Common.{◌∷◌, [], ◌++◌, inl, inr, map, subst}
+use Rattle.std.proofs.KnownBytes.{Keeps-refl}
 use Rattle.std.proofs.lemmas.List.{take_all}
 use Rattle.std.specs.List.{AllZip, flat_map}
 use Rattle.common.proofs.Mapped.{AllZip-more}
 use Rattle.inspecting.proofs.MergingLaws.{IsTallied-part, has_bad-rows}
-use Rattle.inspecting.proofs.ResultLaws.{IfOk-then}
+use Rattle.inspecting.proofs.ResultLaws.{IfOk-then, OnErr-then}
 use Rattle.inspecting.proofs.RowsLaws.{IsSumOf-tallied}
 use Rattle.inspecting.specs.PlanEnd.{IsAnswerFor}
 use Rattle.inspecting.specs.SummaryText.{IsSummaryText}
@@ -21,8 +22,8 @@ loop-part-preserved g c =
     )
 
 -- All texts are added.
-pub returns : goal.returns
-returns g c = IfOk-then c.write_sum.result (λ answer written.
+pub returns-clause-merges : goal.returns-clause-merges
+returns-clause-merges g c = IfOk-then c.write_sum.result (λ answer written.
     let (parts, spelled, tallied) = c.loop-part.invariant in
     record {
       parts = parts;
@@ -32,4 +33,24 @@ returns g c = IfOk-then c.write_sum.result (λ answer written.
       answered = subst (λ bad. IsAnswerFor bad answer) (has_bad-rows written.0.rows c.loop-part.summary.rows written.0.are) written.1;
       notes = written.0.notes;
       written = written.0.written;
-    }) c.write_sum.ensures
+    }) c.write_sum.ensures.written
+
+-- A prefix of the sum is written.
+pub returns-clause-begun : goal.returns-clause-begun
+returns-clause-begun g c = OnErr-then c.write_sum.result (λ begun.
+    let (parts, spelled, tallied) = c.loop-part.invariant in
+    elim begun [
+      | inl kept ↦ inl kept
+      | inr some ↦ inr (record {
+        parts = parts;
+        spelled = subst (λ texts. AllZip IsSummaryText (map (λ t. t.items) texts) parts) (take_all c.loop-part.part c.args.parts.now c.loop-part-test.false) spelled;
+        rows = some.0;
+        is = IsSumOf-tallied (flat_map (λ part. part) parts) some.0 c.loop-part.summary.rows some.1 tallied;
+        notes = some.2;
+        begun = some.3;
+      })
+    ]) c.write_sum.ensures.begun
+
+-- A text can't be added.
+pub returns-in-Err-clause-begun : goal.returns-in-Err-clause-begun
+returns-in-Err-clause-begun g c = inl (Keeps-refl _)

@@ -4,8 +4,8 @@ use Rattle.inspecting.specs.Planning.{AreLinesOf, planned_lines}
 use Rattle.inspecting.proofs.fleet.planner.Planner.begin_device.Goals as goal
 
 -- The lines are those of the devices before, and the first one of this device.
-pub returns : goal.returns
-returns c entries telling line name lines plan kept begins none was =
+pub returns-clause-lines : goal.returns-clause-lines
+returns-clause-lines c entries telling line name lines plan kept begins none was =
     let whole = begins-whole line name c.args.self.now.line kept begins in
     let are = subst (AreLinesOf lines plan) none was.lines_are in
     record {

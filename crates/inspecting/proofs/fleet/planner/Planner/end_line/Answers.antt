@@ -5,7 +5,7 @@ use Rattle.inspecting.proofs.fleet.planner.Planner.end_line.Goals as goal
 -- The next line is empty.
 pub returns-clause-feed : goal.returns-clause-feed
 returns-clause-feed g c telling read plan stands =
-    let taken = c.in_ok-take_line.ensures telling stands.prefix stands.lines plan stands.line stands.has in
+    let taken = c.in_ok-take_line.ensures.lines telling stands.prefix stands.lines plan stands.line stands.has in
     record {
       more = taken.more;
       stands = record {
@@ -14,6 +14,7 @@ returns-clause-feed g c telling read plan stands =
         read = IsReadAs-line read stands.lines stands.prefix stands.read;
         line = c.clear.ensures;
         has = record { lines_are = taken.has.lines_are; devices = taken.has.devices; each = taken.has.each; bad = taken.has.bad; told = taken.has.told };
+        begun = λ none. absurd (c.in_ok-take_line.ensures.some none);
       };
       written = taken.written;
     }
@@ -21,7 +22,7 @@ returns-clause-feed g c telling read plan stands =
 -- The line is taken, whatever the next one is.
 pub returns-clause-lines : goal.returns-clause-lines
 returns-clause-lines g c telling line lines plan kept was =
-    let taken = c.in_ok-take_line.ensures telling line lines plan kept was in
+    let taken = c.in_ok-take_line.ensures.lines telling line lines plan kept was in
     record {
       more = taken.more;
       has = record { lines_are = taken.has.lines_are; devices = taken.has.devices; each = taken.has.each; bad = taken.has.bad; told = taken.has.told };
