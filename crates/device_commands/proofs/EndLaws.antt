@@ -1,5 +1,6 @@
 -- The answers of `provision` and `run`, from what was read in turn and what was written.
-use Rattle.std.proofs.Common.{◌≡◌, ◌⊎◌, ℕ, Bool, List, [], ◌∷◌, None, Option, Result, Some, Ok, Err, IfErr, IfOk, ap, arith, inl, inr, length, refl, subst, true}
+use Rattle.std.proofs.Common.{◌≡◌, ◌⊎◌, ◌||◌, ℕ, Bool, List, [], ◌∷◌, None, Option, Result, Some, Ok, Err, IfErr, IfOk, IfSome, ap, arith, inl, inr, length, option_map, refl, subst, sym, true}
+use Rattle.std.specs.Prelude.{IsSomeAnd}
 use Rattle.std.specs.Io.KnownBytes.{Keeps}
 use Rattle.std.specs.Borrow.{Bor}
 use Rattle.host.specs.declared.answer.Answer.{Answer}
@@ -8,6 +9,11 @@ use Rattle.machine.specs.declared.event.Event.{Event}
 use Rattle.flash_model.specs.declared.torn.Armed.{Armed}
 use Rattle.host.specs.declared.error.Refusal.{Refusal}
 use Rattle.host.specs.declared.error.Refusal.TheVariants as no
+use Rattle.host.specs.declared.error.ScriptFault.TheVariants as script_fault
+use Rattle.host.specs.declared.error.ScriptLine.{ScriptLine}
+use Rattle.host.specs.ScriptLines.{script_line}
+use Rattle.inputs.specs.ScriptFault.{IsFaultOfRun, OnScriptLine}
+use Rattle.inputs.proofs.ScriptFaultLaws.{IsFaultOfRun-kept}
 use Rattle.machine.specs.declared.error.Fault.{Fault}
 use Rattle.flash_model.specs.Units.{are_erased}
 use Rattle.sector_map.specs.declared.layout.SectorMap.{SectorMap}
@@ -20,11 +26,11 @@ use Rattle.host.specs.declared.source.Source.TheVariants as source
 use Rattle.device_texts.specs.declared.form.Form.{Form}
 use Rattle.device_texts.specs.FlashOf.{IsFlashOf}
 use Rattle.inputs.specs.DeviceInput.{GivesDevice}
-use Rattle.host.specs.Input.{FileBytes, Gives, KeepsFiles, KeepsOthers}
+use Rattle.host.specs.Input.{FileBytes, Gives, KeepsFiles, KeepsOthers, is_standard_input}
 use Rattle.device_commands.specs.ProvisionEnd.{AnswersMade, AnswersProvision, EndsMade, MakesDevice, MayReplace, ReadsImages}
-use Rattle.device_commands.specs.RunEnd.{AnswersRun, BreaksRun, Plays, RunsDevice}
+use Rattle.device_commands.specs.RunEnd.{AnswersRun, BlamesRun, BreaksRun, NamesWrongLine, Plays, RunsDevice}
 use Rattle.device_commands.specs.Telling.{RunsFirstLines}
-use Rattle.inputs.specs.Script.{IsScript, Known, StaysKnown, known_after}
+use Rattle.inputs.specs.Script.{IsScript, Known, StaysKnown, known_after, known_after_each, known_at}
 use Rattle.host.specs.Inputs.{GiveEach}
 use Rattle.host.specs.Status.{EndsUnmade, status_of_answer}
 use Rattle.host.proofs.InputLaws.{GiveEach-one, GiveEach-read}
@@ -215,3 +221,48 @@ BreaksRun-read form device flash script input second_input third_input fourth_in
       first = runs.says _ read.1;
       plays = runs.plays;
     }))
+
+named_in : (named : Option ScriptLine) (with_text : ScriptLine → ScriptLine) (Holds HoldsThen : ScriptLine → Type 0)
+    → ((bad : ScriptLine) → Holds bad → HoldsThen (with_text bad)) → IfSome named Holds
+    → IfSome (option_map with_text named) HoldsThen
+named_in None with_text Holds HoldsThen each holds = tt
+named_in (Some bad) with_text Holds HoldsThen each holds = each bad holds
+
+-- The error of a run names a line of the script that was read, and was given its text.
+pub BlamesRun-read : (device : Source) (flash : Bor (List ℕ)) (script : Source)
+    (input second_input third_input fourth_input : Option (List ℕ))
+    (file second_file third_file fourth_file : FileBytes) (bytes text : List ℕ) (of_device : DeviceFile)
+    (refusal shown : Refusal) (with_text : ScriptLine → ScriptLine)
+    → GivesDevice device input file of_device → KeepsOthers device input file second_input second_file
+    → Gives (source.File flash) second_input second_file bytes
+    → KeepsOthers (source.File flash) second_input second_file third_input third_file
+    → Gives script third_input third_file text
+    → KeepsOthers script third_input third_file fourth_input fourth_file
+    → script_line shown ≡ option_map with_text (script_line refusal)
+    → ((bad : ScriptLine) → (with_text bad).line ≡ bad.line)
+    → ((bad : ScriptLine) → (with_text bad).fault ≡ bad.fault)
+    → ((bad : ScriptLine) → IsSomeAnd (with_text bad).script (λ shown. shown.items ≡ text))
+    → OnScriptLine refusal (λ bad. IsFaultOfRun text (is_standard_input device || is_standard_input script)
+    (known_at fourth_input fourth_file) bad.line bad.fault)
+    → BlamesRun device (source.File flash) script input file shown
+BlamesRun-read device flash script input second_input third_input fourth_input file second_file third_file fourth_file
+    bytes text of_device refusal shown with_text given kept flash_given flash_kept script_given script_kept is same_line
+    same_fault has_text wrong =
+    let read = reads_three device flash script input second_input third_input fourth_input file second_file third_file fourth_file
+    given.0 bytes text given.1 kept flash_given flash_kept script_given script_kept in
+    let sources = device ∷ source.File flash ∷ script ∷ [] in
+    let is_read = is_standard_input device || is_standard_input script in
+    let known = known_after_each sources (known_at input file) in
+    subst (λ named. IfSome named (λ bad. (bad.fault ≡ script_fault.TooLong)
+    ⊎ NamesWrongLine sources is_read input file bad)) (sym is)
+    (named_in (script_line refusal) with_text _ _
+    (λ bad fault. inr (record {
+      device_bytes = given.0;
+      bytes = bytes;
+      text = text;
+      given = read.0;
+      shown = has_text bad;
+      wrong = subst (λ why. IsFaultOfRun text is_read known (with_text bad).line why) (sym (same_fault bad))
+          (subst (λ n. IsFaultOfRun text is_read known n bad.fault) (sym (same_line bad))
+          (IsFaultOfRun-kept text is_read known fourth_input fourth_file bad.line bad.fault read.1 fault));
+    })) wrong)

@@ -3,6 +3,7 @@ use Rattle.std.specs.Prelude.{ℕ, Bool, IsTrue, List, Option, false, true}
 use Rattle.command_line.specs.declared.device_orders.DeviceOrder.{DeviceOrder}
 use Rattle.command_line.specs.declared.device_orders.DeviceOrder.TheVariants.{Provision, Run}
 use Rattle.host.specs.declared.answer.Answer.{Answer}
+use Rattle.host.specs.declared.error.Refusal.{Refusal}
 use Rattle.host.specs.declared.host.Access.{Access}
 use Rattle.host.specs.declared.host.Access.TheVariants.{Write, WriteDurably}
 use Rattle.host.specs.Doings.{IsOpenedFor, Openings}
@@ -12,7 +13,7 @@ use Rattle.host.specs.Input.{AreNamed, FileBytes, IsNamed}
 use Rattle.host.specs.Inputs.{names_of}
 use Rattle.device_texts.specs.declared.form.Form.{Form}
 use Rattle.device_commands.specs.ProvisionEnd.{AnswersProvision}
-use Rattle.device_commands.specs.RunEnd.{AnswersRun, BreaksRun}
+use Rattle.device_commands.specs.RunEnd.{AnswersRun, BlamesRun, BreaksRun}
 
 -- What a run opens its flash for, with `--durable` and without it.
 abbrev pub access_for : Bool → Access
@@ -46,3 +47,10 @@ BreaksCore form (Provision device flash images forced) input file old new = Unit
 BreaksCore form (Run device flash script durable strict) input file old new =
     (one other : Source) × AreNamed device.now script.now one other
     × BreaksRun form one (source.File flash) other input file old new
+
+-- What the error of an order names. Nothing is promised of `provision`.
+abbrev pub BlamesCore : DeviceOrder → Option (List ℕ) → FileBytes → Refusal → Type 0
+BlamesCore (Provision device flash images forced) input file refusal = Unit {0}
+BlamesCore (Run device flash script durable strict) input file refusal =
+    (one other : Source) × AreNamed device.now script.now one other
+    × BlamesRun one (source.File flash) other input file refusal

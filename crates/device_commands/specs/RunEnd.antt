@@ -1,5 +1,5 @@
 -- The result of `run`.
-use Rattle.std.specs.Prelude.{◌≡◌, ◌⊎◌, ◌&&◌, ℕ, ◌+◌, ◌-◌, ◌≤◌, Bool, false, true, List, [], ◌∷◌, ◌++◌, if◌then◌else◌, length, Option, None, Some, map, nat_lt, slice_get, take}
+use Rattle.std.specs.Prelude.{◌≡◌, ◌⊎◌, ◌&&◌, ◌||◌, ℕ, ◌+◌, ◌-◌, ◌≤◌, Bool, false, true, List, [], ◌∷◌, ◌++◌, if◌then◌else◌, length, IsSomeAnd, Option, None, Some, map, nat_lt, slice_get, take}
 use Rattle.std.specs.List.{list_any}
 use Rattle.std.specs.Io.KnownBytes.{Appends}
 use Rattle.machine.specs.declared.event.Event.{Event}
@@ -21,12 +21,16 @@ use Rattle.device_texts.specs.DeviceFile.{IsDeviceFile, setup_of}
 use Rattle.device_texts.specs.FlashOf.{IsFlashOf, armed_chip}
 use Rattle.inputs.specs.declared.device_input.BadMap.{BadMap}
 use Rattle.inputs.specs.DeviceInput.{GivesNoMap}
-use Rattle.host.specs.Input.{FileBytes}
+use Rattle.host.specs.declared.error.Refusal.{Refusal}
+use Rattle.host.specs.declared.error.ScriptFault.TheVariants as script_fault
+use Rattle.host.specs.declared.error.ScriptLine.{ScriptLine}
+use Rattle.host.specs.Input.{FileBytes, is_standard_input}
 use Rattle.host.specs.Inputs.{GiveEach}
 use Rattle.device_texts.specs.ReplyJson.{map_refusal_line, reply_lines}
 use Rattle.device_texts.specs.declared.form.Form.{Form}
 use Rattle.inputs.specs.Loading.{AreCutsOf, FirstCome}
-use Rattle.inputs.specs.Script.{IsScript, known_after_each}
+use Rattle.inputs.specs.Script.{IsScript, known_after_each, known_at}
+use Rattle.inputs.specs.ScriptFault.{IsFaultOfRun, OnScriptLine}
 
 -- A new device over a flash with these bytes that is armed with exactly these cuts. It isn't
 -- booted, and no upload is open.
@@ -192,3 +196,22 @@ BreaksRun form device flash script input files old new =
     (new ≡ old)
     ⊎ (RunsFirst form (device ∷ flash ∷ script ∷ []) input files old new
     ⊎ BreaksNoMap form device input files old new)
+
+-- The error of a run names this line of its script, and has the text of the script.
+pub record NamesWrongLine (sources : List Source) (is_read : Bool) (input : Option (List ℕ))
+    (files : FileBytes) (bad : ScriptLine) : Type 0 where
+  pub device_bytes : List ℕ
+  pub bytes : List ℕ
+  pub text : List ℕ
+  pub given : GiveEach sources input files (device_bytes ∷ bytes ∷ text ∷ [])
+  pub shown : IsSomeAnd bad.script (λ script. script.items ≡ text)
+  pub wrong : IsFaultOfRun text is_read (known_after_each sources (known_at input files)) bad.line bad.fault
+
+-- If the error of a run names a line of its script, the line has the fault that it names, or the script
+-- is too long. Standard input was read before the script was checked if it is the device file or the
+-- script.
+abbrev pub BlamesRun : Source → Source → Source → Option (List ℕ) → FileBytes → Refusal → Type 0
+BlamesRun device flash script input files refusal =
+    OnScriptLine refusal (λ bad. (bad.fault ≡ script_fault.TooLong)
+    ⊎ NamesWrongLine (device ∷ flash ∷ script ∷ [])
+    (is_standard_input device || is_standard_input script) input files bad)

@@ -1,7 +1,7 @@
 //! Runs the command that the arguments ask for: `provision` or `run`.
-ghost use Rattle.std.specs.Prelude.{◌≡◌, ◌≢◌, IfOk, OnErr, map};
+ghost use Rattle.std.specs.Prelude.{◌≡◌, ◌≢◌, IfErr, IfOk, OnErr, map};
 ghost use Rattle.device_texts.specs.declared.form.Form.TheVariants as form;
-ghost use Rattle.device_commands.specs.CoreEnd.{AnswersCore, BreaksCore, UsesFlash, access_for};
+ghost use Rattle.device_commands.specs.CoreEnd.{AnswersCore, BlamesCore, BreaksCore, UsesFlash, access_for};
 ghost use Rattle.device_commands.specs.WordsEnd.{EndsByCut, EndsCore};
 
 use crate::answering::answer_words;
@@ -84,6 +84,7 @@ pub fn run_device_order<H: Host, O: Write, N: Notes>(
         → UsesFlash order.now (H.opened host.old) (H.opened host.new) (H.synced host.new)) }
     ensures begun { OnErr result (BreaksCore form order.now (H.input host.old) (H.file host.old)
         (O.contents out.old) (O.contents out.new)) }
+    ensures wrong { IfErr result (BlamesCore order.now (H.input host.old) (H.file host.old)) }
 {
     match *order {
         DeviceOrder::Provision {

@@ -1,7 +1,8 @@
 //! Writes the lines of a run: replies, the notes on them, and why a device file makes no map.
-ghost use Rattle.std.specs.Prelude.{◌≡◌, ℕ, IfErr, IfOk, List, OnErr, OnOk, take};
+ghost use Rattle.std.specs.Prelude.{◌≡◌, ℕ, IfErr, IfOk, List, None, OnErr, OnOk, take};
 ghost use Rattle.std.specs.Io.KnownBytes.{Appends};
 ghost use Rattle.device_texts.specs.ReplyJson.{map_refusal_line, note_line, reply_line};
+ghost use Rattle.host.specs.ScriptLines.{script_line};
 ghost use Rattle.device_commands.specs.Telling.{BreaksOff};
 
 use device_texts::json::{map_refusal_line, note_line, reply_line};
@@ -25,6 +26,7 @@ pub fn write_reply<O: Write>(
     ensures begun { IfErr result (λ refusal.
         BreaksOff refusal (reply_line form number reply.now)
         (O.contents out.old) (O.contents out.new)) }
+    ensures unnamed { IfErr result (λ refusal. script_line refusal ≡ None) }
 {
     let Ok(line) = reply_line(alloc, form, number, reply) else {
         return Err(Refusal::NoMemory);
@@ -46,6 +48,7 @@ pub fn write_notes<O: Write>(
     ensures begun { IfErr result (λ refusal. (texts : List (List ℕ))
         × BreaksOff refusal (note_line form number texts)
         (O.contents out.old) (O.contents out.new)) }
+    ensures unnamed { IfErr result (λ refusal. script_line refusal ≡ None) }
 {
     let Ok(line) = note_line(alloc, form, number, notes) else {
         return Err(Refusal::NoMemory);
@@ -64,6 +67,7 @@ pub fn write_no_map<O: Write>(
         × Appends (O.contents out.old) (O.contents out.new) (map_refusal_line form refused)) }
     ensures begun { OnErr result ((count : ℕ) × Appends (O.contents out.old) (O.contents out.new)
         (take count (map_refusal_line form refused))) }
+    ensures unnamed { IfErr result (λ refusal. script_line refusal ≡ None) }
 {
     let Ok(line) = map_refusal_line(alloc, form, refused) else {
         return Err(Refusal::NoMemory);
@@ -79,6 +83,7 @@ fn write_line<O: Write>(line: &str, out: &mut O) -> Result<(), Refusal>
     ensures told { OnOk result (Appends (O.contents out.old) (O.contents out.new) line.now) }
     ensures begun { IfErr result (λ refusal.
         BreaksOff refusal line.now (O.contents out.old) (O.contents out.new)) }
+    ensures unnamed { IfErr result (λ refusal. script_line refusal ≡ None) }
 {
     if write_all(out, line.as_bytes()).is_err() {
         return Err(Refusal::CannotWrite);

@@ -1,11 +1,15 @@
 //! `bootswap run`: runs the events of a script on a device, and writes its replies.
 ghost use Rattle.host.specs.Doings.{IsOpenedFor};
-ghost use Rattle.std.specs.Prelude.{◌≡◌, ◌⊎◌, ◌||◌, IfErr, IfOk, IsTrue, OnErr, OnOk, Some, is_some, length, true};
+ghost use Rattle.std.specs.Prelude.{◌≡◌, ◌⊎◌, ◌||◌, IfErr, IfOk, IsTrue, None, OnErr, OnOk, Some, is_some, length, true};
 ghost use Rattle.flash_model.specs.Blanks.{IsBlankOf};
 ghost use Rattle.device_texts.specs.DeviceFile.{IsOfFile};
 ghost use Rattle.device_texts.specs.FlashOf.{IsFlashOf, armed_in};
+ghost use Rattle.host.specs.Input.{is_standard_input};
+ghost use Rattle.host.specs.ScriptLines.{script_line};
 ghost use Rattle.inputs.specs.Loading.{came_of};
-ghost use Rattle.device_commands.specs.RunEnd.{AnswersRun, BreaksRun, answer_after, ending, is_refusal};
+ghost use Rattle.inputs.specs.Script.{known_at};
+ghost use Rattle.inputs.specs.ScriptFault.{IsFaultOfRun, IsLostLine, OnScriptLine};
+ghost use Rattle.device_commands.specs.RunEnd.{AnswersRun, BlamesRun, BreaksRun, answer_after, ending, is_refusal};
 ghost use Rattle.device_commands.specs.Telling.{BreaksEvent, BreaksText, PlaysRun, RunsFirstLines, RunsScript, TellsEvent, TellsText};
 ghost use Rattle.host.specs.declared.source.Source.TheVariants as source;
 
@@ -104,8 +108,10 @@ pub fn run_device<H: Host, O: Write, N: Notes>(
     ensures begun { OnErr result (BreaksRun options.form files.entry.device
         (source.File files.entry.flash) files.entry.script (H.input host.old) (H.file host.old)
         (O.contents out.old) (O.contents out.new)) }
+    ensures wrong { IfErr result (BlamesRun files.entry.device (source.File files.entry.flash)
+        files.entry.script (H.input host.old) (H.file host.old)) }
 {
-    let is_input_read = files.device.is_standard_input() || files.script.is_standard_input();
+    let is_input_read = is_input_read(files);
     let device = match device_or_fault(alloc, files.device, host)? {
         Ok(device) => device,
         Err(bad) => {
@@ -126,6 +132,14 @@ pub fn run_device<H: Host, O: Write, N: Notes>(
         Ok(answer) => Ok(answer),
         Err(refusal) => Err(refusal.in_script(text)),
     }
+}
+
+/// Whether standard input is the device file or the script of a run.
+fn is_input_read(files: RunFiles<'_>) -> bool
+    ensures { result ≡ (is_standard_input files.entry.device
+        || is_standard_input files.entry.script) }
+{
+    files.device.is_standard_input() || files.script.is_standard_input()
 }
 
 /// What a run starts with.
@@ -163,6 +177,9 @@ fn run_script<H: Host, O: Write, N: Notes>(
         ⊎ RunsFirstLines options.form start.entry.device.now start.entry.bytes.items
         start.entry.text.now (H.input host.old) (H.file host.old)
         (O.contents out.old) (O.contents out.new)) }
+    ensures wrong { IfErr result (λ refusal. OnScriptLine refusal (λ bad.
+        IsFaultOfRun start.entry.text.now start.entry.is_input_read
+        (known_at (H.input host.old) (H.file host.old)) bad.line bad.fault)) }
 {
     let Start {
         device,
@@ -215,10 +232,13 @@ fn play<L: Ledger, M: Ledger, H: Host, O: Write, N: Notes>(
     requires memory_two { M.parts ≡ 2 }
     requires device { IsOfFile run.device.now }
     requires whole { IsFlashOf run.device.now.map run.bytes.items }
-    ensures { PlaysRun run.entry.options.form run.entry.options.is_strict result
+    ensures plays { PlaysRun run.entry.options.form run.entry.options.is_strict result
         run.entry.device.now run.entry.bytes.items (armed_in run.entry.cuts.items)
         run.entry.text.now sources.now.buffered.now (H.file sources.now.host.now)
         (O.contents out.old) (O.contents out.new) }
+    ensures wrong { IfErr result (λ refusal. OnScriptLine refusal (λ bad.
+        IsLostLine run.entry.text.now (known_at None (H.file sources.now.host.now))
+        bad.line bad.fault)) }
 {
     let Run {
         device,
@@ -262,6 +282,8 @@ fn run_events<L: Ledger, M: Ledger, F: FlashFile + Drop, H: Host, O: Write, N: N
         BreaksText options.form refusal device.old.setup device.old.here device.new.here text.now
         sources.now.buffered.now (H.file sources.now.host.now)
         (O.contents out.old) (O.contents out.new)) }
+    ensures wrong { IfErr result (λ refusal. OnScriptLine refusal (λ bad.
+        IsLostLine text.now (known_at None (H.file sources.now.host.now)) bad.line bad.fault)) }
 {
     let mut last = Answer::Done;
     let mut has_refused = false;
@@ -326,6 +348,7 @@ fn run_event<F: Flash, O: Write, N: Notes>(
     ensures begun { IfErr result (λ refusal.
         BreaksEvent form refusal number device.old.setup device.old.here device.new.here
         (came_of event) (O.contents out.old) (O.contents out.new)) }
+    ensures unnamed { IfErr result (λ refusal. script_line refusal ≡ None) }
 {
     let borrowed = event.as_deref();
     let reply = step(alloc, device, &borrowed);

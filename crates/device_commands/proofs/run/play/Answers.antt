@@ -11,16 +11,16 @@ pub arm_all-requires : goal.arm_all-requires
 arm_all-requires g c = ap (λ (chip : Chip). chip.writes) c.flash_of-memory.ensures.chip
 
 -- There was no memory for the cuts.
-pub returns-in_default : goal.returns-in_default
-returns-in_default g c = record {
+pub returns-in_default-clause-plays : goal.returns-in_default-clause-plays
+returns-in_default-clause-plays g c = record {
   plays = tt;
   tells = TellsFirst-none c.args.run.options.form c.args.run.device.now c.args.run.bytes.items (armed_in c.args.run.cuts.items)
       c.args.run.text.now c.args.sources.now.buffered.now (g.H.Host.file c.args.sources.now.host.now) _;
 }
 
 -- The device was made over a flash of these bytes that is armed with these cuts.
-pub returns : goal.returns
-returns g c =
+pub returns-clause-plays : goal.returns-clause-plays
+returns-clause-plays g c =
     let cuts = armed_in c.args.run.cuts.items in
     let armed = armed-chip _ _ c.args.run.device.now.map c.args.run.bytes.items cuts c.flash_of-memory.ensures.chip
     c.arm_all.ensures.chip c.in-Ok.ensures.armed in

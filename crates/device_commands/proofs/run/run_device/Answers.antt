@@ -1,9 +1,12 @@
 use Rattle.std.proofs.Common.{inl, inr, refl, subst, sym}
+use Rattle.std.proofs.lemmas.Option.{IfSome_then}
 use Rattle.std.proofs.lemmas.Result.{IfOk-weaker}
+use Rattle.common.proofs.Results.{IfErr-passed}
+use Rattle.inputs.proofs.ScriptFaultLaws.{IfErr-unnamed, OnScriptLine-none}
 use Rattle.device_texts.proofs.DeviceLaws.{IsOfFile-read}
 use Rattle.host.specs.declared.source.Source.TheVariants as source
 use Rattle.device_commands.specs.RunEnd.{AnswersRun}
-use Rattle.device_commands.proofs.EndLaws.{AnswersRun-read, BreaksRun-read}
+use Rattle.device_commands.proofs.EndLaws.{AnswersRun-read, BlamesRun-read, BreaksRun-read}
 use Rattle.device_commands.proofs.TellingLaws.{OnErr-any, OnErr-then}
 use Rattle.device_commands.proofs.run.run_device.Goals as goal
 
@@ -59,3 +62,32 @@ returns-in-Err-run_script-clause-begun g c =
     c.in_ok-bytes.bytes.items c.in_ok-text.text.items c.in-Ok.device read c.in_ok-device.ensures.others
     c.in_ok-bytes.ensures.bytes c.in_ok-bytes.ensures.others c.in_ok-text.ensures.bytes c.in_ok-text.ensures.others
     c.in_ok-bytes.ensures.whole begun
+
+-- The device file or the flash could not be read, which is no fault of a line.
+pub returns-in_err-device-clause-wrong : goal.returns-in_err-device-clause-wrong
+returns-in_err-device-clause-wrong g c =
+    IfErr-passed _ _ _ c.from_residual.ensures.1 (OnScriptLine-none _ _ c.in_err-device.ensures.unnamed)
+
+pub returns-in_err-bytes-clause-wrong : goal.returns-in_err-bytes-clause-wrong
+returns-in_err-bytes-clause-wrong g c =
+    IfErr-passed _ _ _ c.from_residual-in_err-bytes.ensures.1 (OnScriptLine-none _ _ c.in_err-bytes.ensures.unnamed)
+
+-- The script is too long, or it could not be read.
+pub returns-in_err-text-clause-wrong : goal.returns-in_err-text-clause-wrong
+returns-in_err-text-clause-wrong g c =
+    IfErr-passed _ _ _ c.from_residual-in_err-text.ensures.1
+    (IfSome_then _ c.in_err-text.ensures.wrong (λ bad is. inl is))
+
+-- The device file has no map, and the line that says so could not be written.
+pub returns-in-Err-clause-wrong : goal.returns-in-Err-clause-wrong
+returns-in-Err-clause-wrong g c = IfErr-unnamed c.write_no_map.result _ c.write_no_map.ensures.unnamed
+
+-- The error of the script's run names a line, and was given the text.
+pub returns-in-Err-run_script-clause-wrong : goal.returns-in-Err-run_script-clause-wrong
+returns-in-Err-run_script-clause-wrong g c =
+    let read = rw c.in-Ok.is at c.in_ok-device.ensures.read in
+    let wrong = rw (c.deref.ensures.value, c.is_input_read-is_input_read.ensures) at c.in-Err-run_script.ensures.wrong in
+    BlamesRun-read c.args.files.device c.args.files.flash c.args.files.script _ _ _ _ _ _ _ _
+    c.in_ok-bytes.bytes.items c.in_ok-text.text.items c.in-Ok.device _ c.in_script.result _ read
+    c.in_ok-device.ensures.others c.in_ok-bytes.ensures.bytes c.in_ok-bytes.ensures.others c.in_ok-text.ensures.bytes
+    c.in_ok-text.ensures.others c.in_script.ensures.line (λ bad. refl) (λ bad. refl) (λ bad. refl) wrong

@@ -1,9 +1,12 @@
-use Rattle.std.proofs.Common.{◌≡◌, ◌+◌, ◌∷◌, ◌++◌, ◌||◌, Bool, [], ap, arith, eqb-true, length, length-append, is_some, refl, rules, subst, sym, ◌∙◌}
+use Rattle.std.proofs.Common.{◌≡◌, ◌+◌, ◌∷◌, ◌++◌, ◌||◌, Bool, None, [], ap, arith, eqb-true, length, length-append, is_some, refl, rules, subst, sym, ◌∙◌}
 use Rattle.std.proofs.lemmas.Bool.{or_parts}
 use Rattle.flash_model.specs.Chip.{Chip}
 use Rattle.common.proofs.Results.{IfErr-passed}
 use Rattle.device_commands.specs.Telling.{TellsAll}
 use Rattle.inputs.specs.Loading.{came_of}
+use Rattle.inputs.specs.Script.{known_at}
+use Rattle.inputs.specs.ScriptFault.{IsLostLine}
+use Rattle.inputs.proofs.ScriptFaultLaws.{AreRead-more, AreRead-none, IsLostLine-file, IsLostLine-text, NamesLine-weaker}
 use Rattle.inputs.proofs.ScriptLaws.{AreTaken-cut, AreTaken-event, AreTaken-none, LoadsAll-taken}
 use Rattle.device_commands.proofs.TellingLaws.{BreaksText-all, BreaksText-some, TellsAll-more, TellsAll-none, TellsSome-all, TellsSome-more, not_of_file}
 use Rattle.device_commands.proofs.run.run_events.Goals as goal
@@ -16,6 +19,8 @@ loop-lines-init g c =
       setup = refl;
       on = search rules;
       few = omega (arith, whole);
+      lines = AreRead-none c.args.text.now c.of-lines.result c.of-lines.ensures.all c.of-lines.ensures.none
+          c.of-lines.ensures.order;
       taken = 0;
       came = [];
       counted = refl;
@@ -72,6 +77,8 @@ loop-lines-preserved-in-Event g c =
       setup = c.in_ok-told.ensures.setup ∙ before.setup;
       on = c.in_ok-told.ensures.on;
       few = omega (arith, before.few, c.in_ok-event.ensures.shorter);
+      lines = AreRead-more c.args.text.now c.loop-lines.lines c.next_line.new.self _ (omega arith)
+          c.in_ok-event.ensures.shorter c.in_ok-event.ensures.number next before.lines;
       taken = before.taken + 1;
       came = before.came ++ one ∷ [];
       counted = ap (λ k. k + 1) before.counted ∙ sym (length-append before.came (one ∷ []));
@@ -98,6 +105,8 @@ loop-lines-preserved g c =
       setup = before.setup;
       on = before.on;
       few = omega (arith, before.few, c.in_ok-event.ensures.shorter);
+      lines = AreRead-more c.args.text.now c.loop-lines.lines c.next_line.new.self _ (omega arith)
+          c.in_ok-event.ensures.shorter c.in_ok-event.ensures.number next before.lines;
       taken = before.taken + 1;
       came = before.came;
       counted = before.counted;
@@ -137,3 +146,24 @@ returns-in-None-clause-all g c =
           (g.O.Write.contents c.args.out.now) written) (ap is_some c.in-None.is) before.told;
       ends = c.ending.ensures;
     }
+
+-- The next line isn't what it was when the script was checked.
+pub returns-in_err-event-clause-wrong : goal.returns-in_err-event-clause-wrong
+returns-in_err-event-clause-wrong g c =
+    let known = known_at None (g.H.Host.file c.args.sources.now.host.now) in
+    IfErr-passed _ _ _ c.from_residual.ensures.1
+    (NamesLine-weaker _ _ _ (IsLostLine c.args.text.now known)
+    (λ why is. IsLostLine-text c.args.text.now known c.loop-lines.lines c.next_line.new.self why (omega arith)
+    c.in_err-event.ensures.shorter c.in_err-event.ensures.number c.loop-lines.invariant.lines is)
+    c.in_err-event.ensures.wrong)
+
+-- The file of the next line isn't as it was then.
+pub returns-in_err-event-2-clause-wrong : goal.returns-in_err-event-2-clause-wrong
+returns-in_err-event-2-clause-wrong g c =
+    let known = known_at None (g.H.Host.file c.args.sources.now.host.now) in
+    let next = rw c.in-Event.is at c.in_ok-event.ensures.next in
+    IfErr-passed _ _ _ c.from_residual-in_err-event-2.ensures.1
+    (NamesLine-weaker _ _ _ (IsLostLine c.args.text.now known)
+    (λ why is. IsLostLine-file c.args.text.now known c.loop-lines.lines c.next_line.new.self _ is.0 why (omega arith)
+    c.in_ok-event.ensures.shorter c.in_ok-event.ensures.number c.loop-lines.invariant.lines next is.1 is.2)
+    c.in_err-event-2.ensures.wrong)

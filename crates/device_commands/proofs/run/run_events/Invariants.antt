@@ -1,6 +1,7 @@
 use Rattle.std.proofs.Common.{◌≡◌, ◌+◌, ◌≤◌, ℕ, List, is_some, length, true}
 use Rattle.machine.specs.declared.event.Event.{Event}
 use Rattle.device_commands.specs.Telling.{TellsAll}
+use Rattle.inputs.proofs.ScriptFaultLaws.{AreRead}
 use Rattle.inputs.proofs.ScriptLaws.{AreTaken}
 use Rattle.device_commands.proofs.run.run_events.Given as goal
 
@@ -11,6 +12,7 @@ invariant-loop-lines g l = record {
   setup : l.device.setup ≡ l.fn.device.setup;
   on : l.device.here.flash.is_on ≡ true;
   few : l.number + length l.lines.rest.now ≤ length l.text;
+  lines : AreRead l.text l.lines;
   taken : ℕ;
   came : List (Event (List ℕ));
   counted : l.number ≡ length came;
