@@ -2,13 +2,11 @@
 
 import os
 import re
-import shutil
 import subprocess
 import sys
-import tempfile
 import unittest
 
-from support.files import ROOT, read
+from support.files import ROOT, copy_parts, folder_for, read
 from support.libraries import TARGET, archive_for, c_folder, output_of
 from support.program import ProgramTest
 from support.stories import STAYED
@@ -89,8 +87,7 @@ class Board:
         missing = cls.platform.missing()
         if missing:
             raise unittest.SkipTest(f"there is no {', and no '.join(missing)}")
-        cls.made = tempfile.mkdtemp(prefix="bootswap-board-")
-        cls.addClassCleanup(shutil.rmtree, cls.made, ignore_errors=True)
+        cls.made = folder_for(cls)
         cls.library = cls.library_in(cls.made)
 
     @classmethod
@@ -189,8 +186,7 @@ class CortexMTest(Board, ProgramTest):
     def copy_clone(self):
         """Makes a clone that has what the board needs, and returns its folder."""
         clone = f"{self.folder}/clone"
-        for name in ("board", "examples"):
-            shutil.copytree(f"{ROOT}/{name}", f"{clone}/{name}", ignore=shutil.ignore_patterns("__pycache__"))
+        copy_parts(("board", "examples"), clone)
         os.mkdir(f"{clone}/out")
         os.symlink(os.path.dirname(self.library), f"{clone}/out/c")
         return clone

@@ -7,7 +7,7 @@ import sys
 import unittest
 
 from support.compiled import needs_compiler
-from support.files import ROOT, folder_for
+from support.files import ROOT, copy_parts, folder_for
 from support.libraries import fenced, output_of, shared_library
 from support.processors import HERE
 
@@ -35,8 +35,7 @@ class PythonTest(unittest.TestCase):
     def test_the_readme_prints_what_it_shows(self):
         """At the top of a clone in which `bindings/build` made the libraries."""
         clone = f"{self.folder}/clone"
-        for name in ("bindings", "examples", "include"):
-            shutil.copytree(f"{ROOT}/{name}", f"{clone}/{name}", ignore=shutil.ignore_patterns("target"))
+        copy_parts(("bindings", "examples", "include"), clone)
         os.mkdir(f"{clone}/out")
         for file, name in zip((*self.archives, self.shared), ("bootswap.a", "bootswap_manifest.a", "bootswap.so")):
             shutil.copy(file, f"{clone}/out/lib{name}")

@@ -4,17 +4,15 @@ import os
 import re
 import shutil
 import stat
-import subprocess
 import sys
 import unittest
 
-from support.built_clone import BuiltCloneTest, places_below
+from support.built_clone import BuiltCloneTest, needs_layer, places_below
 from support.commands import COMMANDS
 from support.compiled import needs_compiler
-from support.files import ROOT, read
+from support.files import ROOT, read, write
 from support.headers import declared
 from support.libraries import fenced, output_of
-from support.program import short
 
 from installing import LIST, major, version
 
@@ -48,26 +46,13 @@ NOT_SEARCHED = (
     "install: programs find the library in {}/lib by LD_LIBRARY_PATH, or if /etc/ld.so.conf names it and ldconfig ran\n"
 )
 
-# Installs below /usr/local on a system of its own: this one, over which a layer lies that is thrown away. Then the
-# library is found without an environment that says where, until it is removed.
-SYSTEM = r"""
-set -e
-mount -t tmpfs tmpfs "$1"
-mkdir "$1/upper" "$1/work" "$1/root"
-mount -t overlay overlay -o lowerdir=/,upperdir="$1/upper",workdir="$1/work" "$1/root"
-mkdir -p "$1/root$2"
-mount --bind "$2" "$1/root$2"
-mount --bind /dev "$1/root/dev"
-exec chroot "$1/root" /bin/bash -c "$USES" uses "$2" "$3" "$4"
-"""
+# Installs below /usr/local. Then the library is found without an environment that says where, until it is removed.
 USES = r"""
-set -e
-cd "$1"
 load() { "$1" -c 'import ctypes, sys; ctypes.CDLL(sys.argv[1])' "$2" 2> /dev/null && echo found || echo absent; }
 tools/install
-load "$2" "$3"
+load "$1" "$2"
 tools/uninstall
-load "$2" "$3"
+load "$1" "$2"
 ldconfig -p | grep bootswap || echo "not in the cache"
 """
 
@@ -131,8 +116,7 @@ class InstallTest(BuiltCloneTest):
     def test_exactly_what_was_installed_is_removed(self):
         """A file of somebody else stays, and so does its folder. What Python compiled of the module is removed too."""
         os.makedirs(f"{self.prefix}/lib")
-        with open(f"{self.prefix}/lib/other.so", "w", encoding="utf-8") as it:
-            it.write("other\n")
+        write(f"{self.prefix}/lib/other.so", "other\n")
         self.install()
         (module,) = (it for it in places_below(self.prefix) if it.endswith("/bootswap.py"))
         other = f"{os.path.dirname(module)}/bootswap_other.py"
@@ -156,17 +140,11 @@ class InstallTest(BuiltCloneTest):
         self.expect_tool("uninstall", "--prefix", self.prefix)
         self.assertEqual([], os.listdir(self.prefix))
 
-    @unittest.skipUnless(os.getuid() == 0 and shutil.which("unshare"), "only root can lay a layer over the system")
+    @needs_layer
     def test_programs_find_the_library_below_usr_local_until_it_is_removed(self):
-        layer = f"{self.folder}/layer"
-        os.mkdir(layer)
-        words = ["unshare", "--mount", "bash", "-c", SYSTEM, "layer", layer, self.clone, sys.executable]
         path = f"{os.path.dirname(sys.executable)}:/usr/sbin:/usr/bin:/sbin:/bin"
-        how = {"env": {"PATH": path, "USES": USES, "LC_ALL": "C"}, "stdin": subprocess.DEVNULL, "capture_output": True}
-        done = subprocess.run([*words, f"libbootswap.so.{major()}"], text=True, **how)
-        if "mount" in done.stderr and not done.stdout:
-            self.skipTest(f"no layer can be laid over the system here: {short(done.stderr.encode())}")
-        self.assertEqual(("found\nabsent\nnot in the cache\n", NO_PANDOC.decode()), (done.stdout, done.stderr))
+        got = self.uses_on_system(USES, sys.executable, f"libbootswap.so.{major()}", path=path)
+        self.assertEqual(("found\nabsent\nnot in the cache\n", NO_PANDOC.decode()), got)
 
     def test_without_pandoc_its_pages_are_left_out(self):
         """A line says so. The pages of the commands are there."""
@@ -192,8 +170,7 @@ class InstallTest(BuiltCloneTest):
         self.install()
         old = f"{self.prefix}/share/bootswap/old"
         for path, text in ((old, "old\n"), (f"{self.prefix}/{LIST}", "share/bootswap/old\n")):
-            with open(path, "a", encoding="utf-8") as it:
-                it.write(text)
+            write(path, text, "a")
         self.install()
         self.assertFalse(os.path.exists(old))
         self.assertTrue(os.path.exists(f"{self.prefix}/lib/libbootswap.so"))
@@ -241,8 +218,7 @@ class InstallTest(BuiltCloneTest):
         environment, source, made = self.install(), f"{self.folder}/source", f"{self.folder}/made"
         os.mkdir(source)
         shutil.copy(f"{self.prefix}/share/doc/bootswap/examples/c/life.c", source)
-        with open(f"{source}/CMakeLists.txt", "w", encoding="utf-8") as it:
-            it.write(CMAKE_LISTS.format(version=version()))
+        write(f"{source}/CMakeLists.txt", CMAKE_LISTS.format(version=version()))
         for words in (["-S", source, "-B", made, f"-DCMAKE_PREFIX_PATH={self.prefix}"], ["--build", made]):
             output_of(["cmake", *words], env=environment)
         for name in ("life", "life_alone"):

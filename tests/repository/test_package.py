@@ -7,15 +7,13 @@ import re
 import shutil
 import subprocess
 import sys
-import tempfile
 import time
 import unittest
 
-from support.built_clone import LIBRARIES, BuiltCloneTest, places_below
+from support.built_clone import LIBRARIES, BuiltCloneTest, needs_layer, places_below
 from support.compiled import needs_compiler
-from support.files import EXAMPLES, ROOT, read
+from support.files import EXAMPLES, ROOT, folder_for, read, write, write_script
 from support.libraries import ARM_TARGET, archive_for, c_folder, manifest_archive_for, output_of
-from support.program import short
 
 import empty_projects
 from commits import write_commit
@@ -61,11 +59,10 @@ FILES = {
     "bootswap-doc": {"share/doc/bootswap/README.md", "share/doc/bootswap/docs/TUTORIAL.md"},
 }
 
-# What a user does with the packages on a system of its own, and what it prints. The system is this one, over which a
-# layer lies that is thrown away. The folders of the toolchain aren't on the PATH.
+# What a user does with the packages on a system of its own, and what it prints. The folders of the toolchain aren't on
+# the PATH.
 USES = r"""
-set -e
-dpkg --install --force-bad-path "$@" > /dev/null
+dpkg --install --force-bad-path out/packages/*.deb > /dev/null
 cd /tmp
 bootswap --version
 examples=/usr/share/doc/bootswap/examples
@@ -74,7 +71,6 @@ cc /usr/share/doc/libbootswap-dev/examples/c/life.c $(pkg-config --cflags --libs
 ./life $examples/images/one.img $examples/images/patched.img 5
 /usr/bin/python3 -c 'import bootswap; print(bootswap.digest(b"").hex()[:8])'
 dpkg --purge bootswap-doc python3-bootswap libbootswap-dev bootswap > /dev/null
-find /usr -name '*bootswap*' -newer pair.flash
 find /usr -name '*bootswap*'
 """
 
@@ -83,16 +79,6 @@ power failed in write 5
 permanent
 take 0 1.1.0+0
 e3b0c442
-"""
-
-LAYER = """set -e
-mount -t tmpfs tmpfs "$1"
-mkdir "$1/upper" "$1/work" "$1/root"
-mount -t overlay overlay -o lowerdir=/,upperdir="$1/upper",workdir="$1/work" "$1/root"
-shift_to=$1; shift
-mkdir "$shift_to/root/packages" && cp "$@" "$shift_to/root/packages"
-cd "$shift_to/root/packages" && set -- *.deb && set -- "${@/#//packages/}"
-exec chroot "$shift_to/root" /bin/bash -c "$USES" uses "$@"
 """
 
 # A function in which a compiler has something to check, and what a hardened library has then.
@@ -127,8 +113,7 @@ class PackedTest(BuiltCloneTest):
     def setUpClass(cls):
         super().setUpClass()
         cls.arm = archive_for(ARM_TARGET), manifest_archive_for(ARM_TARGET)
-        cls.c = tempfile.mkdtemp(prefix="bootswap-package-")
-        cls.addClassCleanup(shutil.rmtree, cls.c, ignore_errors=True)
+        cls.c = folder_for(cls)
         c_folder(cls.c)
 
     def setUp(self):
@@ -265,8 +250,7 @@ class PackageTest(PackedTest):
     def test_the_shared_library_is_hardened(self):
         """What the C compiler makes checks the stack and the lengths of copies, and has no table of calls that can be
         written."""
-        with open(f"{self.clone}/bindings/c/manifest.c", "a", encoding="utf-8") as it:
-            it.write(COPIES)
+        write(f"{self.clone}/bindings/c/manifest.c", COPIES, "a")
         library = f"{self.folder}/hardened.so"
         output_of([sys.executable, "-B", "-c", SHARE, library, *self.archives], cwd=self.clone)
         output = output_of(["readelf", "--wide", "--segments", "--dynamic", "--dyn-syms", library]).decode()
@@ -279,18 +263,12 @@ class PackageTest(PackedTest):
             done = subprocess.run(["lintian", "--allow-root", f"{self.made}/{name}"], capture_output=True, text=True)
             self.assertEqual([], [it for it in done.stdout.splitlines() if it[:2] in ("E:", "W:")], name)
 
-    @unittest.skipUnless(os.getuid() == 0 and shutil.which("unshare"), "only root can lay a layer over the system")
+    @needs_layer
     def test_the_packages_are_enough_and_leave_nothing(self):
         """For the program, a C program and a Python program."""
         self.packages()
-        layer = f"{self.folder}/layer"
-        os.mkdir(layer)
-        environment = {"PATH": "/usr/sbin:/usr/bin:/sbin:/bin", "USES": USES, "LC_ALL": "C"}
-        words = ["unshare", "--mount", "bash", "-c", LAYER, "layer", layer, *(f"{self.made}/{it}" for it in DEBIAN)]
-        done = subprocess.run(words, env=environment, stdin=subprocess.DEVNULL, capture_output=True, text=True)
-        if "mount" in done.stderr and not done.stdout:
-            self.skipTest(f"no layer can be laid over the system here: {short(done.stderr.encode())}")
-        self.assertEqual(PRINTED, done.stdout, done.stderr)
+        printed, said = self.uses_on_system(USES)
+        self.assertEqual(PRINTED, printed, said)
 
     def expect_refusal(self, said, **environment):
         self.expect_tool("package", status=1, said=f"package: {said}\n".encode(), env={**os.environ, **environment})
@@ -305,8 +283,7 @@ class PackageTest(PackedTest):
         self.expect_refusal("out/libbootswap.a isn't built: run bindings/build", **both)
         os.rename(f"{library}.kept", library)
         # A program that wasn't built from the sources would name their commit.
-        with open(f"{self.clone}/crates.txt", "a", encoding="utf-8") as it:
-            it.write("another: \nbootswap: another\n")
+        write(f"{self.clone}/crates.txt", "another: \nbootswap: another\n", "a")
         self.expect_refusal("out/bootswap isn't built from these sources: run ./bootswap codes", **both)
 
     def test_the_archive_of_what_is_not_built_is_left_out(self):
@@ -358,9 +335,7 @@ class PackageTest(PackedTest):
         shutil.copytree(f"{self.clone}/out", built)
         script = f"#!/bin/sh\nmkdir -p out && cp -r {built}/. out\n"
         for name, text in (("bootswap", script), ("bindings/build", script), (".gitignore", "out/\n__pycache__/\n")):
-            with open(f"{self.clone}/{name}", "w", encoding="utf-8") as it:
-                it.write(text)
-            os.chmod(f"{self.clone}/{name}", 0o755)
+            write_script(f"{self.clone}/{name}", text)
         author = ["-c", "user.name=A", "-c", "user.email=a@example.org"]
         for words in (["init", "--quiet"], ["add", "--all"], [*author, "commit", "--quiet", "--message", "all"]):
             output_of(["git", "-C", self.clone, *words])

@@ -3,10 +3,9 @@
 import os
 import shutil
 import subprocess
-import tempfile
 import unittest
 
-from support.files import ROOT
+from support.files import ROOT, copy_parts, folder_for, write
 from support.program import short
 
 from builder import BUILD
@@ -16,8 +15,8 @@ PROGRAM = """//! A program that depends on the crate below it.
 
 fn main() {}
 """
-COPIED = ("bootswap", "tools", "crates/common", "HANDLES", ".gitignore")
-LEFT_OUT = shutil.ignore_patterns("out", "mutants", "__pycache__")
+COPIED = ["bootswap", "tools", "HANDLES", ".gitignore"]
+COPIED += [f"crates/common/{it}" for it in ("src", "specs", "proofs", "must-fail")]
 
 # How many seconds one command may take: it proves a crate, and the program, or tries some mutants.
 LIMIT = 600
@@ -26,19 +25,13 @@ LIMIT = 600
 @unittest.skipUnless(shutil.which("rt"), "the Rattle toolchain's command rt is not on the PATH")
 class ToolchainTest(unittest.TestCase):
     def setUp(self):
-        self.repository = tempfile.mkdtemp(prefix="bootswap-repository-")
-        self.addCleanup(shutil.rmtree, self.repository, ignore_errors=True)
-        for name in COPIED:
-            if os.path.isdir(f"{ROOT}/{name}"):
-                shutil.copytree(f"{ROOT}/{name}", f"{self.repository}/{name}", ignore=LEFT_OUT)
-            else:
-                shutil.copy(f"{ROOT}/{name}", self.repository)
+        self.repository = folder_for(self)
+        copy_parts(COPIED, self.repository)
         # `rt` keeps files there while it runs.
         os.mkdir(f"{self.repository}/.git")
         os.makedirs(f"{self.repository}/crates/bootswap/src")
         for name, text in (("crates.txt", "common:\nbootswap: common\n"), ("crates/bootswap/src/main.rt", PROGRAM)):
-            with open(f"{self.repository}/{name}", "w", encoding="utf-8") as it:
-                it.write(text)
+            write(f"{self.repository}/{name}", text)
 
     def output_of(self, *words):
         """Runs a command at the top of the repository, which has to succeed, and returns what it prints."""

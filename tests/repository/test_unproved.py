@@ -9,11 +9,10 @@ import shutil
 import signal
 import subprocess
 import sys
-import tempfile
 import time
 import unittest
 
-from support.files import EXAMPLES, ROOT, read
+from support.files import EXAMPLES, ROOT, folder_for, read, write_script
 from support.program import short
 
 from unproved import hint_for
@@ -80,15 +79,12 @@ class UnprovedTest(unittest.TestCase):
     """A folder with the examples, in which `./bootswap --unproved` runs."""
 
     def setUp(self):
-        self.folder = tempfile.mkdtemp(prefix="bootswap-test-")
-        self.addCleanup(shutil.rmtree, self.folder, ignore_errors=True)
+        self.folder = folder_for(self)
         os.symlink(EXAMPLES, f"{self.folder}/examples")
         for it in ("bin", "temporary", "below"):
             os.mkdir(f"{self.folder}/{it}")
         for name, text in (("script", "piece 0 -\n"), ("above", ""), ("stdin", ""), ("a=b", ""), ("bin/rt", RT)):
-            with open(f"{self.folder}/{name}", "w", encoding="utf-8") as it:
-                it.write(text)
-        os.chmod(f"{self.folder}/bin/rt", 0o755)
+            write_script(f"{self.folder}/{name}", text)
 
     def started(self, words, says=ENDED.format(0), at=".", **more):
         """Starts a command over the pretended toolchain."""
@@ -99,16 +95,11 @@ class UnprovedTest(unittest.TestCase):
         return subprocess.Popen(words, cwd=f"{self.folder}/{at}", env=environment, **streams)
 
     def ended(self, words, given="", **how):
-        """Runs a command. Returns its status, its outputs, without the line of the start, and the toolchain's notes."""
-        ran = self.started(words, **how)
+        """Runs a command. Returns its status, its outputs, and the toolchain's notes."""
+        ran, notes = self.started(words, **how), f"{self.folder}/notes"
         out, err = ran.communicate(given.encode(), timeout=LIMIT)
-        notes, noted = f"{self.folder}/notes", None
-        if os.path.exists(notes):
-            noted = json.loads(read(notes))
-            os.remove(notes)
-        if err.startswith(STARTED):
-            err = err.partition(b"\n")[2]
-        return ran.returncode, out, err.decode(), noted
+        noted = json.loads(read(notes)) if os.path.exists(notes) else None
+        return ran.returncode, out, err, noted
 
     def test_files_of_the_arguments_are_passed(self):
         for words, given, names, wanted in PASSED:
@@ -125,11 +116,10 @@ class UnprovedTest(unittest.TestCase):
         ran.communicate()
 
     def test_status_and_notes_are_passed_on(self):
+        says = STARTED + b"`./bootswap choose nowhere` proves and builds it\nnote: of the program\n"
         for status in (0, 1, 2, 3):
-            ran = self.started(["choose", "nowhere"], says=f"note: of the program\n{STOPPED}{ENDED.format(status)}")
-            says = STARTED + b"`./bootswap choose nowhere` proves and builds it\nnote: of the program\n"
-            self.assertEqual((b"answer\n", says), ran.communicate(timeout=LIMIT))
-            self.assertEqual(status, ran.returncode)
+            noted = f"note: of the program\n{STOPPED}{ENDED.format(status)}"
+            self.assertEqual((status, b"answer\n", says), self.ended(["choose", "nowhere"], says=noted)[:3])
 
     def test_a_missing_answer_is_explained(self):
         too_long = "bootswap: the answer is longer than 1 MiB, and --unproved prints no more: "
@@ -138,23 +128,28 @@ class UnprovedTest(unittest.TestCase):
             (TOO_LONG, f"{too_long}`./bootswap codes` prints all of it\n"),
         ):
             status, _, err, _ = self.ended(["codes"], says=says)
-            self.assertEqual((125, wanted), (status, err))
+            self.assertEqual((125, wanted), (status, err.decode().partition("\n")[2]))
 
     def test_what_writes_a_file_is_refused(self):
         for what, words in REFUSED.items():
             typed = " ".join(words).replace("a script", "'a script'")
-            said = f"bootswap: --unproved writes no file, and {what} does: `./bootswap {typed}` proves and builds the "
-            self.assertEqual((2, b"", f"{said}program, and runs it\n", None), self.ended(words))
+            why = f"--unproved writes no file, and {what} does"
+            self.expect_refusal(2, f"{why}: `./bootswap {typed}` proves and builds the program, and runs it", words)
 
     def test_a_name_that_cannot_be_passed_is_refused(self):
         for name, at in (("../above", "below"), ("stdin", "."), ("a=b", ".")):
-            wanted = f"bootswap: --unproved can't pass a file by the name {name}: type its full path\n"
-            self.assertEqual((2, b"", wanted, None), self.ended(["choose", name], at=at))
+            said = f"--unproved can't pass a file by the name {name}: type its full path"
+            self.expect_refusal(2, said, ["choose", name], at=at)
 
     def test_without_rt_it_says_so(self):
         os.remove(f"{self.folder}/bin/rt")
-        wanted = "bootswap: the Rattle toolchain's command rt is not on the PATH; it compiles the program\n"
-        self.assertEqual((127, b"", wanted, None), self.ended(["choose", "nowhere"]))
+        said = "the Rattle toolchain's command rt is not on the PATH; it compiles the program"
+        self.expect_refusal(127, said, ["choose", "nowhere"])
+
+    def expect_refusal(self, status, said, words, **how):
+        """It may say before that it starts."""
+        got, out, err, noted = self.ended(words, **how)
+        self.assertEqual((status, b"", [f"bootswap: {said}"], None), (got, out, err.decode().splitlines()[-1:], noted))
 
     def test_a_signal_ends_it_and_leaves_no_file(self):
         for number, wanted in ((signal.SIGINT, 130), (signal.SIGTERM, 128 + signal.SIGTERM)):

@@ -5,15 +5,16 @@ import os
 import shutil
 import subprocess
 import sys
+import unittest
 
-from support.files import ROOT
+from support.files import copy_parts, write
 from support.libraries import TARGET, archive_for, manifest_archive_for
-from support.program import ProgramTest
+from support.program import ProgramTest, short
 
 from installing import share
 
 # What the tools need of a clone beside out/.
-NEEDED = ("bindings", "board", "debian", "docs", "examples", "include", "tools")
+NEEDED = ("bindings", "board", "debian", "docs", "examples", "include", "tools", "LICENSE", "README.md", "CHANGELOG.md")
 
 # Prints the stamp of the program of a clone, as its build writes it.
 STAMP = """
@@ -23,6 +24,19 @@ sys.dont_write_bytecode = True
 from programs import WHOLE, crates_of, stamp_of
 print(stamp_of(WHOLE, crates_of(WHOLE), "a toolchain"), end="")
 """
+
+# Runs a script on a system of its own: this one, over which a layer lies that is thrown away. The clone is there too.
+LAYER = r"""
+set -e
+mount -t tmpfs tmpfs "$1"
+mkdir "$1/upper" "$1/work" "$1/root"
+mount -t overlay overlay -o lowerdir=/,upperdir="$1/upper",workdir="$1/work" "$1/root"
+mkdir -p "$1/root$2"
+mount --bind "$2" "$1/root$2"
+mount --bind /dev "$1/root/dev"
+exec chroot "$1/root" /bin/bash -ec "cd $2; $USES" uses "${@:3}"
+"""
+needs_layer = unittest.skipUnless(os.getuid() == 0 and shutil.which("unshare"), "only root can lay such a layer")
 
 # The names of the static libraries.
 LIBRARIES = ("libbootswap.a", "libbootswap_manifest.a")
@@ -38,16 +52,11 @@ class BuiltCloneTest(ProgramTest):
     def setUp(self):
         super().setUp()
         self.clone = f"{self.folder}/clone"
-        for name in NEEDED:
-            left_out = shutil.ignore_patterns("__pycache__", "target", "Cargo.lock")
-            shutil.copytree(f"{ROOT}/{name}", f"{self.clone}/{name}", ignore=left_out)
-        for name in ("LICENSE", "README.md", "CHANGELOG.md"):
-            shutil.copy(f"{ROOT}/{name}", self.clone)
+        copy_parts(NEEDED, self.clone)
         os.mkdir(f"{self.clone}/out")
         shutil.copy(self.program, f"{self.clone}/out/bootswap")
         # The clone has no crates, so this is the program of its sources.
-        with open(f"{self.clone}/crates.txt", "w", encoding="utf-8") as it:
-            it.write("bootswap:\n")
+        write(f"{self.clone}/crates.txt", "bootswap:\n")
         self.write_stamp()
         for archive, name in zip(self.archives, LIBRARIES):
             shutil.copy(archive, f"{self.clone}/out/{name}")
@@ -66,6 +75,18 @@ class BuiltCloneTest(ProgramTest):
     def expect_tool(self, name, *words, status=0, said=b"", **how):
         """A tool ends so, and says exactly this."""
         self.assertEqual((status, said), self.run_tool(name, *words, **how), f"{name} {words}")
+
+
+    def uses_on_system(self, script, *words, path="/usr/sbin:/usr/bin:/sbin:/bin"):
+        """Runs a script on a system of its own, which begins in the clone. Returns both outputs."""
+        layer = f"{self.folder}/layer"
+        os.mkdir(layer)
+        how = {"stdin": subprocess.DEVNULL, "capture_output": True, "text": True}
+        words = ["unshare", "--mount", "bash", "-c", LAYER, "layer", layer, self.clone, *words]
+        done = subprocess.run(words, env={"PATH": path, "USES": script, "LC_ALL": "C"}, **how)
+        if "mount" in done.stderr and not done.stdout:
+            self.skipTest(f"no layer can be laid over the system here: {short(done.stderr.encode())}")
+        return done.stdout, done.stderr
 
 
 def places_below(top):
