@@ -8,8 +8,8 @@ pub returns-in_err-texts-clause-begun : goal.returns-in_err-texts-clause-begun
 returns-in_err-texts-clause-begun g c = OnErr-any _ (inl (Keeps-refl _))
 
 -- They can't be added, or a prefix of their sum is written.
-pub returns-in-Err-clause-begun : goal.returns-in-Err-clause-begun
-returns-in-Err-clause-begun g c = elim c.in-Err.ensures.begun [
+pub returns-clause-begun : goal.returns-clause-begun
+returns-clause-begun g c = elim c.in-Err.ensures.begun [
   | inl kept ↦ inl kept
   | inr begun ↦ inr (_, rw c.deref.ensures.value at c.in_ok-texts.ensures, begun)
 ]
