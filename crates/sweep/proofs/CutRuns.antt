@@ -5,7 +5,7 @@ use Rattle.machine.specs.Intake.{Setup}
 use Rattle.machine.specs.Steps.{DeviceEvent}
 use Rattle.machine.specs.declared.reply.Reply.{Reply}
 use Rattle.machine.proofs.Runs.{run_joins}
-use Rattle.machine.proofs.Runs as machine
+use Rattle.flash_contents.proofs.HeldRuns as held
 use Rattle.boot_core.specs.Calls.{Steps}
 use Rattle.boot_core.specs.CutEvents.{IsCutByWrite}
 use Rattle.boot_core.specs.Device.{Whole}
@@ -23,7 +23,7 @@ step_cut {happened} {old} {new} {reply} taken sound still = record {
 
 -- A run of no event.
 pub runs_none : (setup : Setup) (here : DeviceView) → RunsCut setup here here [] []
-runs_none setup here = record { runs = machine.runs_none setup here; cuts = refl }
+runs_none setup here = record { runs = held.runs_none setup here; cuts = refl }
 
 -- A run that another continues.
 pub runs_join : (setup : Setup) (old mid new : DeviceView) (events more : List DeviceEvent)
@@ -41,7 +41,7 @@ runs_join setup old mid new events more replies answered first then = record {
 pub runs_one : (setup : Setup) (old new : DeviceView) (happened : DeviceEvent) (reply : Reply)
     → StepsCut setup old new happened reply → RunsCut setup old new (happened ∷ []) (reply ∷ [])
 runs_one setup old new happened reply one = record {
-  runs = machine.runs_more setup old old new [] [] happened reply (machine.runs_none setup old) one.steps;
+  runs = held.runs_more setup old old new [] [] happened reply (held.runs_none setup old) one.steps;
   cuts = (new, (one.steps, one.cut), refl);
 }
 

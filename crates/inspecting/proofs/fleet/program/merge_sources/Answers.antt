@@ -11,5 +11,5 @@ returns-in_err-texts-clause-begun g c = OnErr-any _ (inl (Keeps-refl _))
 pub returns-clause-begun : goal.returns-clause-begun
 returns-clause-begun g c = elim c.in-Err.ensures.begun [
   | inl kept ↦ inl kept
-  | inr begun ↦ inr (_, rw c.deref.ensures.value at c.in_ok-texts.ensures, begun)
+  | inr begun ↦ inr (_, rw (← c.deref.ensures.value) at c.in_ok-texts.ensures, begun)
 ]
