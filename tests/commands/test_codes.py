@@ -25,7 +25,7 @@ LISTS = {
     "The sizes of a device": ("sector_map", "MapError"),
     "A device": ("machine", "Fault"),
     "A manifest": ("manifest", "ManifestError"),
-    "An upload": ("upload", "UploadError"),
+    "An upload": ("machine", "UploadError"),
 }
 
 
