@@ -10,9 +10,9 @@ free. There a crate gets several processes. Their number is fixed when its check
 SECONDS = {
     "arguments": 190, "boot_cli": 140, "boot_core": 161, "bootswap": 70, "bootswap_core": 50, "c_interface": 150,
     "certificate": 10, "checker": 63, "chooser": 61, "command_line": 123, "common": 28, "creating": 142,
-    "decision": 39, "device_commands": 100, "device_texts": 105, "explaining": 300, "flash_contents": 45,
+    "decision": 39, "device_commands": 100, "device_texts": 105, "explaining": 300, "flash_contents": 20,
     "flash_model": 72, "host": 70, "image_header": 31, "image_reading": 106, "inputs": 120, "inspecting": 250,
-    "machine": 45, "manifest": 86, "manifest_interface": 60, "reports": 140, "sector_map": 33, "set_log": 68,
+    "machine": 40, "manifest": 86, "manifest_interface": 60, "reports": 140, "sector_map": 33, "set_log": 68,
     "slice_flash": 45, "swap_scratch": 35, "sweep": 220, "system_host": 224, "tlv": 53, "trailer": 75, "upload": 106,
     "validity": 41, "version_order": 27,
 }
