@@ -3,7 +3,7 @@
 //! It continues a boot from `steady`, or one that a power cut interrupted, and continues in
 //! `settle`.
 
-ghost use Rattle.std.specs.Prelude.{◌≤◌};
+ghost use Rattle.std.specs.Prelude.{◌≡◌, ◌≤◌};
 ghost use Rattle.common.specs.Limits.{MOST_BOOTS_LEFT};
 ghost use Rattle.decision.specs.Places.{finding_in, read_as};
 ghost use Rattle.boot_core.specs.Places.{reply_in};
@@ -13,14 +13,23 @@ ghost use Rattle.set_log.specs.declared.state.RecordKind.{RecordKind};
 
 use crate::deciding::{find_again, reply_to};
 use crate::outcome::Outcome;
-use crate::recording::append_state;
 use crate::settle::settle_found;
 use decision::Verdict;
 use flash_model::{Flash, Result};
 use reports::{Report, Table};
 use sector_map::{SectorMap, Side};
-use set_log::{RecordKind, State};
+use set_log::{RecordKind, State, append};
 use swap_scratch::swap_set;
+
+/// The record `Settle` after a record `Swap`.
+fn settling(state: &State) -> State
+    ensures { result ≡ record state.now { kind = RecordKind.Settle } }
+{
+    State {
+        kind: RecordKind::Settle,
+        ..*state
+    }
+}
 
 /// From `Swap` to `Settle`: finishes the swap from wherever it is, finds the decision again, and
 /// records that the set is swapped. If the decision isn't found, only the swap is written.
@@ -39,11 +48,7 @@ fn swap_forth<F: Flash>(
     swap_set(flash, map, mask, Side::Primary)?;
     match find_again(flash, map, mask, &state.floors, table, report)? {
         Verdict::Decided => {
-            let settle = State {
-                kind: RecordKind::Settle,
-                ..*state
-            };
-            append_state(flash, map, settle)?;
+            append(flash, map, &settling(state))?;
             Ok(Verdict::Decided)
         }
         finding => Ok(finding),
@@ -68,10 +73,7 @@ pub(crate) fn finish_swap<F: Flash>(
 {
     match swap_forth(flash, map, state, table, report)? {
         Verdict::Decided => {
-            let settle = State {
-                kind: RecordKind::Settle,
-                ..*state
-            };
+            let settle = settling(state);
             settle_found(flash, map, &settle, left, Verdict::Decided, table, report)
         }
         finding => Ok(finding),

@@ -23,7 +23,7 @@ use Rattle.boot_core.proofs.swap.finish_swap.Goals as goal
 pub settle_found-requires : goal.settle_found-requires
 settle_found-requires g c =
     let forth = c.in_ok-finding.ensures.done in
-    record {
+    rw c.settling-settle.ensures (record {
       laid_out = c.swap_forth.ensures.laid;
       read = subst
           (λ found. IsSettleRecorded c.args.map.now c.args.state.now (g.F.Flash.chip c.swap_forth.new.flash) found)
@@ -34,7 +34,7 @@ settle_found-requires g c =
           subst (λ found. IsFoundAgain s c.args.state.now.mask found) (decided_in c.swap_forth.new.table c.swap_forth.new.report _ c.in-Decided.is)
           (forth.found s table permanent can decision);
       rows = subst (λ found. HasTable c.args.map.now.images found) (decided_in c.swap_forth.new.table c.swap_forth.new.report _ c.in-Decided.is) forth.rows;
-    }
+    })
 
 pub returns-in_err-finding : goal.returns-in_err-finding
 returns-in_err-finding g c =
@@ -51,7 +51,7 @@ returns-in-Decided g c =
     let map = c.args.map.now in
     let state = c.args.state.now in
     let forth = c.in_ok-finding.ensures.done in
-    let settles = c.settle_found.ensures in
+    let settles = rw c.settling-settle.ensures at c.settle_found.ensures in
     record {
       settles = ⊎_elim (λ still. inl (_, still, refl)) (λ taken. inr taken.1) settles.settles;
       journal = ⊎_elim (λ still. asks_next map state _ _ _ still unlike) (λ taken.

@@ -13,7 +13,7 @@ use Rattle.decision.specs.Found.{HasTable}
 use Rattle.flash_contents.proofs.Resuming.{never_swapped}
 use Rattle.flash_contents.proofs.Swapping.{settle_either, settle_ok, swap_done, swap_resumes}
 use Rattle.boot_core.proofs.Readable.{can_read_before}
-use Rattle.boot_core.proofs.Records.{fits_next, kind_of_read, read_kept, stands_within, state_kept}
+use Rattle.boot_core.proofs.Records.{fits_next, kind_of_read, one_erase, read_kept, stands_within, state_kept}
 use Rattle.boot_core.proofs.OnMap.{layout_kept, layout_more, log_moved, log_settled, swap_moved}
 use Rattle.boot_core.proofs.Passed.{passes_err, then_ends, then_ok}
 use Rattle.boot_core.proofs.Undecided.{alone_for, never_again, never_recorded, starts_settled, decided_in, undecided_in}
@@ -40,11 +40,11 @@ find_again-requires g c = record {
   laid_out = laid_out_kept c.args.map.now _ _ _ c.requires.laid_out c.swap_set.ensures.outside;
 }
 
-pub append_state-requires : goal.append_state-requires
-append_state-requires g c =
+pub append-requires : goal.append-requires
+append-requires g c =
     let map = c.args.map.now in
     let state = c.args.state.now in
-    rw c.find_again.ensures.same (record {
+    rw (c.settling.ensures, c.find_again.ensures.same) (record {
       laid_out = laid_out_kept map _ _ _ c.requires.laid_out c.swap_set.ensures.outside;
       has_state = state_kept map _ _ _ state c.swap_set.ensures.outside refl c.requires.read;
       fits = fits_next map _ state Settle state.permanent state.left c.requires.read
@@ -81,41 +81,41 @@ returns-in_err-finding g c =
           (subst (λ k. CountsOn k Primary) (sym c.requires.kind) tt) _ swaps.forward swaps.journal;
     })
 
-pub returns-in_err-append_state-in-Decided : goal.returns-in_err-append_state-in-Decided
-returns-in_err-append_state-in-Decided g c =
+pub returns-in_err-append-in-Decided : goal.returns-in_err-append-in-Decided
+returns-in_err-append-in-Decided g c =
     let map = c.args.map.now in
     let state = c.args.state.now in
     let swaps = c.in_ok-swap_set.ensures in
-    let records = rw c.find_again.ensures.same at c.append_state.ensures in
-    rw (err_passed c.from_residual-in_err-append_state-in-Decided.result c.in_err-append_state-in-Decided.field-0.0
-    c.from_residual-in_err-append_state-in-Decided.ensures.1)
+    let records = rw (c.settling.ensures, c.find_again.ensures.same) at c.append.ensures in
+    rw (err_passed c.from_residual-in_err-append-in-Decided.result c.in_err-append-in-Decided.field-0.0
+    c.from_residual-in_err-append-in-Decided.ensures.1)
     (record {
       passes = passes_err (layout_more (log_moved (is_member c.args.state.now.mask)) (layout_kept (swap_moved c.args.state.now.mask Primary) c.requires.laid_out swaps.outside) records.outside)
           (λ s table was. settle_either map _ _ (laid_out_kept map _ _ _ c.requires.laid_out swaps.outside) state
           (read_kept map _ _ _ state swaps.outside refl c.requires.read) records.outside records.either s table _ _
           (swap_resumes map _ _ state.mask swaps.outside swaps.resumes s table _ was)
           (swap_done map _ _ state.mask swaps.outside swaps.swapped s table _ was))
-          (then_ends (then_ends swaps.ends c.in_ok-finding.ensures.ends) c.in_err-append_state-in-Decided.ensures.ends);
+          (then_ends (then_ends swaps.ends c.in_ok-finding.ensures.ends) c.in_err-append-in-Decided.ensures.ends);
       moving = either_kind is_moving _ _ _ records.either (this_kind is_moving _ state Swap
           (read_kept map _ _ _ state swaps.outside refl c.requires.read) c.requires.kind refl) refl;
       journal = asks_record map state _ Primary (subst (λ k. CountsOn k Primary) (sym c.requires.kind) tt) _
           swaps.forward _ swaps.journal_ok records.outside records.journal;
     })
 
-pub returns-in_ok-append_state-in-Decided : goal.returns-in_ok-append_state-in-Decided
-returns-in_ok-append_state-in-Decided g c =
+pub returns-in_ok-append-in-Decided : goal.returns-in_ok-append-in-Decided
+returns-in_ok-append-in-Decided g c =
     let map = c.args.map.now in
     let state = c.args.state.now in
     let old = g.F.Flash.chip c.args.flash.now in
     let swaps = c.in_ok-swap_set.ensures in
     let finds = c.in_ok-finding.ensures in
-    let records = rw c.find_again.ensures.same at c.in_ok-append_state-in-Decided.ensures in
+    let records = rw (c.settling.ensures, c.find_again.ensures.same) at c.in_ok-append-in-Decided.ensures in
     let read = read_kept map _ _ _ state swaps.outside refl c.requires.read in
     let swapped = swap_done map _ _ state.mask swaps.outside swaps.swapped in
     let settled = λ (s : DeviceState) (table : Table) (was : IsSwappingSome map old s table state.mask state.permanent).
-    settle_ok map _ _ state read records.outside records.done.says s table _ _ (swapped s table state.permanent was) in
+    settle_ok map _ _ state read records.outside records.ok s table _ _ (swapped s table state.permanent was) in
     record {
-      moving = (_, records.done.says, refl);
+      moving = (_, records.ok, refl);
       journal = asks_record map state old Primary (subst (λ k. CountsOn k Primary) (sym c.requires.kind) tt) _
           swaps.forward _ swaps.journal_ok records.outside records.journal;
       passes = record {
@@ -127,7 +127,7 @@ returns-in_ok-append_state-in-Decided g c =
                 finds.ok (decided_in c.find_again.new.table c.find_again.new.report _ c.in-Decided.is) s table was,
             settled s table was,
           );
-          recorded = records.done.says;
+          recorded = records.ok;
           found = λ s table permanent can decision. subst (λ found. IsFoundAgain s state.mask found) (decided_in c.find_again.new.table c.find_again.new.report _ c.in-Decided.is)
               (finds.ok s table permanent (can_read_before map _ _ s state.mask _ records.outside can) decision);
           rows = subst (λ found. HasTable map.images found) (decided_in c.find_again.new.table c.find_again.new.report _ c.in-Decided.is) finds.rows;
@@ -140,7 +140,7 @@ returns-in_ok-append_state-in-Decided g c =
                 (subst (λ found. StartsFound (view map (g.F.Flash.chip c.swap_set.new.flash)) found)
                 (decided_in c.find_again.new.table c.find_again.new.report _ c.in-Decided.is) finds.starts);
           };
-          erases = λ s table permanent was. omega (arith, swaps.erases was.0 was.1 was.2.place, records.done.erases);
+          erases = λ s table permanent was. omega (arith, swaps.erases was.0 was.1 was.2.place, one_erase _ _ _ records.erases);
         };
         ends = then_ok swaps.ends records.ends;
       };
