@@ -7,7 +7,7 @@
 #![tactic(auto)]
 
 #[cfg(test)]
-mod reports;
+mod choices;
 
 use arguments::manual::{answer, asked_in};
 use boot_cli::{cli, note_reading};
