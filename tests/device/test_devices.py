@@ -87,11 +87,11 @@ ROWS = [
         "cut 7 keep, boot, accept trial.json, piece 0 needing.img, piece 1 partner.img, finish 1, boot,"
         " accept trial.json, accept old.json", [PLAIN, *3 * ["done"], "cut", PLAIN, "done", OLD_SEQUENCE],
     )),
-    ("requests for good are taken without a trial", PAIR, (
+    ("permanent requests are taken without a trial", PAIR, (
         f"boot, accept for-good.json, {PIECES}, boot, boot",
         [*UPLOAD_REPLIES, "permanent|take 0 2.0.0+0|take 1 2.0.0+0", STAYED],
     ), SEQUENCE_7),
-    *((f"a test beside a request for good: {it}", PAIR, (
+    *((f"a test beside a permanent request: {it}", PAIR, (
         f"boot, accept {it}-for-good.json, {PIECES}, boot, boot", [*TRYING, BACK]
     )) for it in ("first", "second")),
     ("a request waits for the image that it needs", PAIR, (
