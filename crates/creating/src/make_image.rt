@@ -25,10 +25,10 @@ const USUAL_HEADER_SIZE: u16 = 32;
 /// Makes the image of a body, and makes or replaces its file. Writes to `out` that it is done, or
 /// why there is no such image.
 ///
-/// The body is read from `host`, and handed to `notes`. All bytes are in memory of `alloc`. The image is made before its
-/// file is written. The file can't be that of the body, which never changes. A file that exists is
-/// replaced only if it is one intact image, is empty, or `--force` is given. It changes only if the
-/// answer is `Done` or can't be written.
+/// The body is read from `host`, and handed to `notes`. All bytes are in memory of `alloc`. The
+/// image is made before its file is written. The file can't be that of the body, which never
+/// changes. A file that exists is replaced only if it is one intact image, is empty, or `--force` is
+/// given. It changes only if the answer is `Done` or can't be written.
 ///
 /// # Errors
 /// `OfSource` if the body can't be read. `ImageIsInput`, `ImageInUse` or `OfSource` for a file that
